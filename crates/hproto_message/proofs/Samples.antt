@@ -1,0 +1,19 @@
+-- The samples hold: each side of each equation computes to the same.
+use mathlib.Core.Path.{refl}
+use Rattle.octets.specs.Number as octets
+use Rattle.octets.specs.Signed as signs
+use Rattle.octets.specs.Control as controls
+use Rattle.hproto_table.specs.Entry.{find, meaning}
+use Rattle.hproto_message.specs.Tree.{tree, tagOf, innerOf, value}
+use Rattle.hproto_message.specs.Reading as readings
+use Rattle.hproto_message.specs.Shortest.{shortest, field, leastContents}
+use Rattle.hproto_message.specs.Samples as samples
+
+pub samples-hold : samples.Hold samples.samples
+unfolding samples.Hold samples.samples samples.outcome samples.outcomeOf samples.uintOf samples.intOf samples.refusedAs samples.only samples.pair
+    readings.reading readings.messageFrom readings.fieldsFrom readings.onCut readings.inOrder readings.step readings.stepFrom
+    readings.stepOver find meaning tree tagOf innerOf value shortest field leastContents
+    octets.number octets.octetsOf octets.width octets.widthWithin octets.leastUint
+    signs.integer signs.withSign signs.lowest signs.leastInt signs.signedWidth signs.signedBits
+    controls.control controls.controlOf controls.following controls.coded controls.leastControl controls.leastCode controls.firstFit
+samples-hold = (refl, (refl, (refl, (refl, (refl, (refl, (refl, (refl, (refl, (refl, (refl, (refl, tt))))))))))))

@@ -1,0 +1,70 @@
+-- What a message is, independent of any way to read it: octets that can be divided, end to end, into whole fields that a table allows.
+use Prim.Native.Nat.{ℕ, zero, suc, _+_, _≤_, max}
+use mathlib.Core.Path.{_≡_}
+use mathlib.Core.List.{List, [], _++_}
+use lib.ListN.{length}
+use lib.Dec.{T}
+use Rattle.octets.specs.Text.{text}
+use Rattle.octets.specs.Control.{control}
+use Rattle.octets.specs.declared.Control.{Control}
+use Rattle.octets.specs.declared.Control.the-variants.{Whole}
+use Rattle.hproto_table.specs.Entry.{Entry, find}
+use Rattle.hproto_table.specs.declared.Meaning.{Meaning}
+use Rattle.hproto_table.specs.declared.Meaning.the-variants.{Raw, Uint, Int, String, Text, Message}
+
+-- Document 01's cut: the fields of a message from the left, each with its control part. A field of kind message has a cut of its
+-- contents, any other its contents.
+pub data Cut : Type 0 where
+  end : Cut
+  leaf : List ℕ → List ℕ → Cut → Cut
+  nested : List ℕ → Cut → Cut → Cut
+
+-- The octets that a cut divides.
+unfoldable pub joined : Cut → List ℕ
+joined end = []
+joined (leaf control contents rest) = control ++ contents ++ joined rest
+joined (nested control inside rest) = control ++ joined inside ++ joined rest
+
+-- The depth of the deepest message; a message with no nested ones has depth 1.
+unfoldable pub depth : Cut → ℕ
+depth end = 1
+depth (leaf control contents rest) = depth rest
+depth (nested control inside rest) = max (suc (depth inside)) (depth rest)
+
+-- Document 01's whole field: octets that are just a control part, with this tag, and contents of just the length that it says.
+pub record WholeField (tag : ℕ) (octets contents : List ℕ) : Type 0 where
+  pub control-part : control octets ≡ Whole tag (length contents) (length octets)
+
+-- The contents that a field of each kind may have, other than a message's.
+unfoldable pub Contents : Meaning → List ℕ → Type 0
+Contents Raw s = Unit {0}
+Contents Uint s = length s ≤ 8
+Contents Int s = length s ≤ 8
+Contents String s = Unit {0}
+Contents Text s = T (text s)
+Contents (Message m) s = ⊥
+
+-- A field that the table allows in messages of a number, and that is no message.
+pub record LeafField (es : List Entry) (number : ℕ) (octets contents : List ℕ) : Type 0 where
+  pub tag : ℕ
+  pub whole : WholeField tag octets contents
+  pub allowed : Contents (find es number tag) contents
+
+-- A field that the table makes a message of the number `inner`.
+pub record NestedField (es : List Entry) (number inner : ℕ) (octets contents : List ℕ) : Type 0 where
+  pub tag : ℕ
+  pub whole : WholeField tag octets contents
+  pub allowed : find es number tag ≡ Message inner
+
+-- Every field of a cut, at all depths, is whole and allowed.
+unfoldable pub Allowed : List Entry → ℕ → Cut → Type 0
+Allowed es n end = Unit {0}
+Allowed es n (leaf control contents rest) = LeafField es n control contents × Allowed es n rest
+Allowed es n (nested control inside rest) =
+    ((m : ℕ) × NestedField es n m control (joined inside) × Allowed es m inside) × Allowed es n rest
+
+-- A good cut of octets, under a table and a message number, at most `room` messages deep.
+pub record Good (es : List Entry) (room number : ℕ) (octets : List ℕ) (cut : Cut) : Type 0 where
+  pub divides : joined cut ≡ octets
+  pub allowed : Allowed es number cut
+  pub shallow : depth cut ≤ room

@@ -1,0 +1,83 @@
+-- Reading a message: its cut, or the first refusal with its place.
+use Prim.Native.Nat.{ℕ, zero, suc, _+_, _-_}
+use mathlib.Core.Bool.{Bool, true, false, cond}
+use mathlib.Core.List.{List, []}
+use lib.ListN.{length, take, drop}
+use lib.Dec.{leb, ltb}
+use Rattle.octets.specs.Text.{text}
+use Rattle.octets.specs.Control.{control}
+use Rattle.octets.specs.declared.Control.{Control}
+use Rattle.octets.specs.declared.Control.the-variants.{Absent, Partial, Whole}
+use Rattle.hproto_table.specs.Entry.{Entry, find}
+use Rattle.hproto_table.specs.declared.Meaning.{Meaning}
+use Rattle.hproto_table.specs.declared.Meaning.the-variants.{Raw, Uint, Int, String, Text, Message}
+use Rattle.hproto_message.specs.Cut.{Cut, end, leaf, nested}
+
+-- What stands at the front of octets: their end, a field that is refused with a number, a field that is no message (its control part,
+-- its contents and what follows), or a field that is a message of a number.
+pub data Step : Type 0 where
+  done : Step
+  fault : ℕ → Step
+  over : List ℕ → List ℕ → List ℕ → Step
+  into : ℕ → List ℕ → List ℕ → List ℕ → Step
+
+-- A field whose octets are all there, by what its tag means.
+unfoldable pub stepOver : Meaning → List ℕ → List ℕ → List ℕ → Step
+stepOver Raw c s rest = over c s rest
+stepOver Uint c s rest = cond (leb (length s) 8) (over c s rest) (fault 6)
+stepOver Int c s rest = cond (leb (length s) 8) (over c s rest) (fault 6)
+stepOver String c s rest = over c s rest
+stepOver Text c s rest = cond (text s) (over c s rest) (fault 7)
+stepOver (Message m) c s rest = into m c s rest
+
+-- The field at the front of octets, after its control part has been read. The length is compared with what is left.
+unfoldable pub stepFrom : List Entry → ℕ → List ℕ → Control → Step
+stepFrom es n s Absent = done
+stepFrom es n s Partial = fault 3
+stepFrom es n s (Whole tag len size) =
+    cond (leb len (length s - size))
+    (stepOver (find es n tag) (take size s) (take len (drop size s)) (drop len (drop size s)))
+    (fault 4)
+
+unfoldable pub step : List Entry → ℕ → List ℕ → Step
+step es n s = stepFrom es n s (control s)
+
+pub data Reading : Type 0 where
+  accepted : Cut → Reading
+  refused : ℕ → ℕ → Reading
+
+-- A reading's cut with something put before it.
+unfoldable pub onCut : (Cut → Cut) → Reading → Reading
+onCut f (accepted cut) = accepted (f cut)
+onCut f (refused number place) = refused number place
+
+-- A nested message is read before the fields that follow it.
+unfoldable pub inOrder : (Cut → Cut → Cut) → Reading → Reading → Reading
+inOrder f (accepted cut) rest = onCut (f cut) rest
+inOrder f (refused number place) rest = refused number place
+
+-- How a nested message is read: its number, the place of its field, the place of its contents, and its contents.
+abbrev pub Inner : Type 0
+Inner = ℕ → ℕ → ℕ → List ℕ → Reading
+
+-- The fields of one message, from a place on. `left` bounds the fields that are still looked at.
+unfoldable pub fieldsFrom : List Entry → Inner → ℕ → ℕ → ℕ → List ℕ → Reading
+fieldsFrom es inner n zero at s = refused 3 at
+fieldsFrom es inner n (suc left) at s =
+    elim (step es n s) [
+      | done ↦ accepted end
+      | fault number ↦ refused number at
+      | over c b rest ↦ onCut (leaf c b) (fieldsFrom es inner n left (at + length c + length b) rest)
+      | into m c b rest ↦
+          inOrder (nested c) (inner m at (at + length c) b) (fieldsFrom es inner n left (at + length c + length b) rest)
+    ]
+
+-- A message of a number, at most `room` messages deep. It is refused with 5 at the field that holds it where it is too deep. A field
+-- takes an octet or more, so one look more than there are octets is enough.
+unfoldable pub messageFrom : List Entry → ℕ → Inner
+messageFrom es zero n field at s = refused 5 field
+messageFrom es (suc room) n field at s = fieldsFrom es (messageFrom es room) n (suc (length s)) at s
+
+-- The outermost message: its cut, or the first refusal.
+unfoldable pub reading : List Entry → ℕ → List ℕ → Reading
+reading es n s = messageFrom es 8 n 0 0 s

@@ -1,0 +1,69 @@
+-- The dozen worked samples that document 01 marks to be proved, as one list under one statement about the definitions.
+use Prim.Native.Nat.{ℕ}
+use mathlib.Core.Path.{_≡_}
+use mathlib.Core.List.{List, [], _∷_, _++_}
+use lib.IntN.{ℤ, pos, negsuc}
+use lib.ListN.{replicate}
+use Rattle.hproto_table.specs.Entry.{Entry}
+use Rattle.hproto_message.specs.Tree.{Tree, Value, end, leaf, nested, uint, int, tree}
+use Rattle.hproto_message.specs.Reading as readings
+use Rattle.hproto_message.specs.Shortest.{shortest}
+
+-- What a message reads as: its tree, with the tree's shortest form, or a refusal with its place.
+pub data Outcome : Type 0 where
+  reads : Tree → List ℕ → Outcome
+  refuses : ℕ → ℕ → Outcome
+
+unfoldable pub outcomeOf : List Entry → readings.Reading → Outcome
+outcomeOf es (readings.accepted cut) = reads (tree es 0 cut) (shortest (tree es 0 cut))
+outcomeOf es (readings.refused number place) = refuses number place
+
+-- A sample: a table, a message with number 0, and what is expected of it.
+pub record Sample : Type 0 where
+  pub table : List Entry
+  pub message : List ℕ
+  pub expected : Outcome
+
+unfoldable pub outcome : Sample → Outcome
+outcome x = outcomeOf (x .table) (readings.reading (x .table) 0 (x .message))
+
+-- Every sample of a list comes out as expected.
+unfoldable pub Hold : List Sample → Type 0
+Hold [] = Unit {0}
+Hold (x ∷ xs) = (outcome x ≡ x .expected) × Hold xs
+
+unfoldable pub only : ℕ → List Entry
+only kind = record { number = 0; tag = 12; kind = kind; inner = 0 } ∷ []
+
+unfoldable pub pair : List Entry
+pair = record { number = 0; tag = 1; kind = 5; inner = 1 } ∷ record { number = 1; tag = 0; kind = 1; inner = 0 } ∷ []
+
+-- One field with the tag 12, of kind uint (1) or int (2).
+unfoldable pub uintOf : List ℕ → ℕ → List ℕ → Sample
+uintOf s v short = record { table = only 1; message = s; expected = reads (leaf 12 (uint v) end) short }
+
+unfoldable pub intOf : List ℕ → ℤ → List ℕ → Sample
+intOf s z short = record { table = only 2; message = s; expected = reads (leaf 12 (int z) end) short }
+
+unfoldable pub refusedAs : List ℕ → ℕ → ℕ → Sample
+refusedAs s number place = record { table = only 1; message = s; expected = refuses number place }
+
+unfoldable pub samples : List Sample
+samples =
+    uintOf (0xc0 ∷ []) 0 (0xc0 ∷ []) ∷
+    uintOf (0xc2 ∷ 0x01 ∷ 0x23 ∷ []) 291 (0xc2 ∷ 0x01 ∷ 0x23 ∷ []) ∷
+    intOf (0xc1 ∷ 0x80 ∷ []) (negsuc 127) (0xc1 ∷ 0x80 ∷ []) ∷
+    intOf (0xc2 ∷ 0x80 ∷ 0x80 ∷ []) (negsuc 127) (0xc1 ∷ 0x80 ∷ []) ∷
+    intOf (0xc2 ∷ 0x00 ∷ 0x80 ∷ []) (pos 128) (0xc2 ∷ 0x00 ∷ 0x80 ∷ []) ∷
+    intOf (0xc2 ∷ 0x80 ∷ 0x81 ∷ []) (negsuc 128) (0xc2 ∷ 0x80 ∷ 0x81 ∷ []) ∷
+    uintOf (0xe1 ∷ 0x0c ∷ 0x05 ∷ []) 5 (0xc1 ∷ 0x05 ∷ []) ∷
+    uintOf (0xf1 ∷ 0x00 ∷ 0x0c ∷ 0x05 ∷ []) 5 (0xc1 ∷ 0x05 ∷ []) ∷
+    uintOf (0xcd ∷ 0x00 ∷ 0x01 ∷ 0x05 ∷ []) 5 (0xc1 ∷ 0x05 ∷ []) ∷
+    record {
+      table = pair;
+      message = 0x1c ∷ 0x0c ∷ 0x08 ∷ 0x00 ∷ 0x00 ∷ 0x00 ∷ 0x00 ∷ 0x00 ∷ 0x00 ∷ 0x00 ∷ 0x2a ∷ 0x02 ∷ 0x00 ∷ 0x07 ∷ [];
+      expected = reads (nested 1 (leaf 0 (uint 42) (leaf 0 (uint 7) end)) end) (0x14 ∷ 0x01 ∷ 0x2a ∷ 0x01 ∷ 0x07 ∷ []);
+    } ∷
+    refusedAs (0xc9 ∷ replicate 9 0x00) 6 0 ∷
+    refusedAs (0xc3 ∷ 0x01 ∷ 0x02 ∷ []) 4 0 ∷
+    []

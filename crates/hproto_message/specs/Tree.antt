@@ -1,0 +1,70 @@
+-- What a message says: its fields in order, each with tag, kind and value.
+use Prim.Native.Nat.{ℕ, zero, suc, _+_, max}
+use mathlib.Core.List.{List}
+use lib.IntN.{ℤ}
+use Rattle.octets.specs.Number as octets
+use Rattle.octets.specs.Signed.{integer}
+use Rattle.octets.specs.Control.{control}
+use Rattle.octets.specs.declared.Control.{Control}
+use Rattle.octets.specs.declared.Control.the-variants.{Absent, Partial, Whole}
+use Rattle.hproto_table.specs.Entry.{Entry, find}
+use Rattle.hproto_table.specs.declared.Meaning.{Meaning}
+use Rattle.hproto_table.specs.declared.Meaning.the-variants.{Raw, Uint, Int, String, Text, Message}
+use Rattle.hproto_message.specs.Cut.{Cut}
+
+-- The value of a field that is no message, by its kind.
+pub data Value : Type 0 where
+  raw : List ℕ → Value
+  uint : ℕ → Value
+  int : ℤ → Value
+  string : List ℕ → Value
+  text : List ℕ → Value
+
+-- The fields of a message. Two messages read the same (document 01's term) when they have the same tree.
+pub data Tree : Type 0 where
+  end : Tree
+  leaf : ℕ → Value → Tree → Tree
+  nested : ℕ → Tree → Tree → Tree
+
+-- The count of fields at all depths.
+unfoldable pub fields : Tree → ℕ
+fields end = 0
+fields (leaf tag value rest) = 1 + fields rest
+fields (nested tag inside rest) = 1 + fields inside + fields rest
+
+-- The depth of the deepest message, empty or not.
+unfoldable pub depth : Tree → ℕ
+depth end = 1
+depth (leaf tag value rest) = depth rest
+depth (nested tag inside rest) = max (suc (depth inside)) (depth rest)
+
+-- The tag of a control part.
+unfoldable pub tagOf : Control → ℕ
+tagOf Absent = 0
+tagOf Partial = 0
+tagOf (Whole tag length size) = tag
+
+-- What contents mean as a field of each kind that is no message.
+unfoldable pub value : Meaning → List ℕ → Value
+value Raw s = raw s
+value Uint s = uint (octets.number s)
+value Int s = int (integer s)
+value String s = string s
+value Text s = text s
+value (Message m) s = raw s
+
+-- The inner message number of a kind.
+unfoldable pub innerOf : Meaning → ℕ
+innerOf Raw = 0
+innerOf Uint = 0
+innerOf Int = 0
+innerOf String = 0
+innerOf Text = 0
+innerOf (Message m) = m
+
+-- The tree that a cut gives under a table and a message number.
+unfoldable pub tree : List Entry → ℕ → Cut → Tree
+tree es n Cut.end = Tree.end
+tree es n (Cut.leaf c s rest) = Tree.leaf (tagOf (control c)) (value (find es n (tagOf (control c))) s) (tree es n rest)
+tree es n (Cut.nested c inside rest) =
+    Tree.nested (tagOf (control c)) (tree es (innerOf (find es n (tagOf (control c)))) inside) (tree es n rest)

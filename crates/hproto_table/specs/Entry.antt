@@ -1,0 +1,38 @@
+-- Entries of a field table, and what a tag means under them.
+use Prim.Native.Nat.{ℕ, _/_, _%_, _^_}
+use mathlib.Core.Bool.{Bool, cond, _&&_}
+use mathlib.Core.List.{List, [], _∷_, map}
+use lib.ListN.{take}
+use lib.Dec.{eqb}
+use Rattle.hproto_table.specs.declared.Meaning.{Meaning}
+use Rattle.hproto_table.specs.declared.Meaning.the-variants.{Raw, Uint, Int, String, Text, Message}
+use Rattle.hproto_table.specs.declared.Table.{Table}
+
+-- In messages of this number, this tag has this kind; a nested message has the inner number.
+pub record Entry : Type 0 where
+  pub number : ℕ
+  pub tag : ℕ
+  pub kind : ℕ
+  pub inner : ℕ
+
+-- The kinds' numbers: 1 uint, 2 int, 3 string, 4 text, 5 message.
+unfoldable pub meaning : Entry → Meaning
+meaning e =
+    cond (eqb (e .kind) 1) Uint
+    (cond (eqb (e .kind) 2) Int
+    (cond (eqb (e .kind) 3) String
+    (cond (eqb (e .kind) 4) Text
+    (cond (eqb (e .kind) 5) (Message (e .inner)) Raw))))
+
+-- What a tag means in messages of a number.
+unfoldable pub find : List Entry → ℕ → ℕ → Meaning
+find [] number tag = Raw
+find (e ∷ es) number tag = cond (eqb (e .number) number && eqb (e .tag) tag) (meaning e) (find es number tag)
+
+-- The entry in a word of a table.
+unfoldable pub entry : ℕ → Entry
+entry w = record { number = w / 2 ^ 32; tag = w / 2 ^ 16 % 2 ^ 16; kind = w / 2 ^ 8 % 2 ^ 8; inner = w % 2 ^ 8 }
+
+-- The entries of a table.
+unfoldable pub entries : Table → List Entry
+entries t = map entry (take (t .count) (t .words))

@@ -1,0 +1,65 @@
+-- Numbers of a chosen width, and the control part made of two of them.
+use Prim.Native.Nat.{ℕ, zero, suc, _+_, _*_, _-_, _/_, _%_, _^_}
+use mathlib.Core.Bool.{Bool, true, false, cond}
+use mathlib.Core.List.{List, [], _∷_, _++_}
+use lib.ListN.{length, getD, take, drop}
+use lib.Dec.{ltb}
+use Rattle.octets.specs.Number.{number, octetsOf}
+use Rattle.octets.specs.declared.LeastControl.{LeastControl}
+use Rattle.octets.specs.declared.Control.{Control}
+use Rattle.octets.specs.declared.Control.the-variants.{Absent, Partial, Whole}
+
+-- A lead below `direct` is the number itself. The lead `direct + i` says that the number follows in as many octets as widths has at i.
+pub record Code : Type 0 where
+  pub direct : ℕ
+  pub widths : List ℕ
+
+-- The left nybble of a control octet is a tag's lead, the right nybble a length's.
+abbrev pub tagCode : Code
+tagCode = record { direct = 14; widths = 1 ∷ 2 ∷ [] }
+
+abbrev pub lengthCode : Code
+lengthCode = record { direct = 12; widths = 1 ∷ 2 ∷ 4 ∷ 8 ∷ [] }
+
+-- How many octets follow a lead.
+unfoldable pub following : Code → ℕ → ℕ
+following code lead = cond (ltb lead (code .direct)) 0 (getD (code .widths) (lead - code .direct) 0)
+
+-- The number that a lead and the octets that follow it stand for.
+unfoldable pub coded : Code → ℕ → List ℕ → ℕ
+coded code lead s = cond (ltb lead (code .direct)) lead (number s)
+
+-- A control part of which the two leads, and all octets after them, are given.
+unfoldable pub controlOf : ℕ → ℕ → List ℕ → Control
+controlOf t l s =
+    let n = following tagCode t in
+    let m = following lengthCode l in
+    cond (ltb (length s) (n + m)) Partial (Whole (coded tagCode t (take n s)) (coded lengthCode l (take m (drop n s))) (1 + n + m))
+
+-- The control part at the front of octets.
+unfoldable pub control : List ℕ → Control
+control [] = Absent
+control (c ∷ s) = controlOf (c / 16) (c % 16) s
+
+-- The lead and the octets that follow it, for the first width, from the lead d on, that holds v.
+unfoldable pub firstFit : ℕ → List ℕ → ℕ → ℕ × List ℕ
+firstFit d [] v = (d, [])
+firstFit d (w ∷ ws) v = cond (ltb v (256 ^ w)) (d, octetsOf w v) (firstFit (suc d) ws v)
+
+-- The least form of a number in a code: its lead, and the octets that follow.
+unfoldable pub leastCode : Code → ℕ → ℕ × List ℕ
+leastCode code v = cond (ltb v (code .direct)) (v, []) (firstFit (code .direct) (code .widths) v)
+
+-- The least control part of a tag and a length.
+unfoldable pub leastControl : ℕ → ℕ → List ℕ
+leastControl tag length =
+    let t = leastCode tagCode tag in
+    let l = leastCode lengthCode length in
+    (t .0 * 16 + l .0) ∷ t .1 ++ l .1
+
+-- The same as three numbers: the control octet, and how many octets of the tag and of the length follow it.
+unfoldable pub controlLeast : ℕ → ℕ → LeastControl
+controlLeast tag len =
+    let t = leastCode tagCode tag in
+    let l = leastCode lengthCode len in
+    record { octet = t .0 * 16 + l .0; «tag_width» = length (t .1); «length_width» = length (l .1) }

@@ -1,0 +1,45 @@
+-- Unsigned numbers as octets, the first octet the most significant.
+use Prim.Native.Nat.{ℕ, zero, suc, _+_, _*_, _/_, _%_, _^_, _<_}
+use mathlib.Core.Bool.{Bool, true, false, cond}
+use mathlib.Core.List.{List, [], _∷_}
+use lib.ListN.{length}
+use lib.Dec.{leb}
+use Rattle.octets.specs.declared.Unsigned.{Unsigned}
+use Rattle.octets.specs.declared.Unsigned.the-variants.{Value, Long}
+use Rattle.octets.specs.declared.Least.{Least}
+
+-- Octets are numbers below 256.
+unfoldable pub Octets : List ℕ → Type 0
+Octets [] = Unit {0}
+Octets (x ∷ s) = (x < 256) × Octets s
+
+-- The big-endian number that octets hold; no octets hold 0.
+unfoldable pub number : List ℕ → ℕ
+number [] = 0
+number (x ∷ s) = x * 256 ^ length s + number s
+
+-- The unsigned number that octets hold: at most eight.
+unfoldable pub unsigned : List ℕ → Unsigned
+unsigned s = cond (leb (length s) 8) (Value (number s)) Long
+
+-- A number's last n octets.
+unfoldable pub octetsOf : ℕ → ℕ → List ℕ
+octetsOf zero v = []
+octetsOf (suc n) v = v / 256 ^ n % 256 ∷ octetsOf n v
+
+-- The least n, at most m, with v < 256 ^ n (m where there is none below it).
+unfoldable pub widthWithin : ℕ → ℕ → ℕ
+widthWithin zero v = zero
+widthWithin (suc m) v = cond (leb (256 ^ m) v) (suc m) (widthWithin m v)
+
+-- How many octets a number of 64 bits needs: none for 0.
+unfoldable pub width : ℕ → ℕ
+width v = widthWithin 8 v
+
+-- The least octets of a uint.
+unfoldable pub leastUint : ℕ → List ℕ
+leastUint v = octetsOf (width v) v
+
+-- The same as a pair of numbers.
+unfoldable pub uintLeast : ℕ → Least
+uintLeast v = record { width = width v; bits = v }

@@ -1,0 +1,49 @@
+-- Signed numbers as octets: the leftmost bit is the sign, the other bits the magnitude.
+use Prim.Native.Nat.{ℕ, zero, suc, _+_, _*_, _-_, _%_, _^_}
+use mathlib.Core.Bool.{Bool, true, false, cond}
+use mathlib.Core.List.{List, [], _∷_}
+use lib.ListN.{length}
+use lib.Dec.{leb}
+use lib.IntN.{ℤ, pos, negsuc, negℤ}
+use Rattle.octets.specs.declared.Signed.{Signed}
+use Rattle.octets.specs.declared.Signed.the-variants.{Value, Long}
+use Rattle.octets.specs.declared.Least.{Least}
+use Rattle.octets.specs.Number.{number, octetsOf, width}
+
+-- What n octets mean whose bits after the sign are all zero while the sign is set: minus this.
+unfoldable pub lowest : ℕ → ℕ
+lowest n = 2 ^ (8 * n - 1)
+
+-- The value of n octets by their sign, set or not, and their magnitude.
+unfoldable pub withSign : ℕ → Bool → ℕ → ℤ
+withSign n false m = pos m
+withSign n true zero = negℤ (pos (lowest n))
+withSign n true (suc m) = negℤ (pos (suc m))
+
+-- The signed number that octets hold; no octets hold 0.
+unfoldable pub integer : List ℕ → ℤ
+integer [] = pos 0
+integer (x ∷ s) = withSign (length (x ∷ s)) (leb 128 x) (number (x % 128 ∷ s))
+
+-- The same for at most eight octets.
+unfoldable pub signed : List ℕ → Signed
+signed s = cond (leb (length s) 8) (Value (integer s)) Long
+
+-- How many octets a signed number needs: none for 0, else a bit for the sign beside the magnitude. One less than the magnitude counts
+-- below zero, since minus `lowest n` takes n octets.
+unfoldable pub signedWidth : ℤ → ℕ
+signedWidth (pos v) = width (2 * v)
+signedWidth (negsuc k) = width (2 * k + 1)
+
+-- The n octets of a signed number, read as an unsigned one: the sign, and the magnitude, or nothing where that is `lowest n`.
+unfoldable pub signedBits : ℕ → ℤ → ℕ
+signedBits n (pos v) = v
+signedBits n (negsuc k) = lowest n + suc k % lowest n
+
+-- The least octets of an int.
+unfoldable pub leastInt : ℤ → List ℕ
+leastInt z = octetsOf (signedWidth z) (signedBits (signedWidth z) z)
+
+-- The same as a pair of numbers.
+unfoldable pub intLeast : ℤ → Least
+intLeast z = record { width = signedWidth z; bits = signedBits (signedWidth z) z }
