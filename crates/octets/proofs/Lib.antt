@@ -1,1 +1,5 @@
 pub mod Number
+pub mod Shorter
+pub mod Integer
+pub mod Codes
+pub mod ControlPart
