@@ -1,1 +1,4 @@
 pub mod Samples
+pub mod Step
+pub mod Accepted
+pub mod Shortened

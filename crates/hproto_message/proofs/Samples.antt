@@ -11,7 +11,7 @@ use Rattle.hproto_message.specs.Samples as samples
 
 pub samples-hold : samples.Hold samples.samples
 unfolding samples.Hold samples.samples samples.outcome samples.outcomeOf samples.uintOf samples.intOf samples.refusedAs samples.only samples.pair
-    readings.reading readings.messageFrom readings.fieldsFrom readings.onCut readings.inOrder readings.step readings.stepFrom
+    readings.reading readings.messageFrom readings.fieldsFrom readings.afterStep readings.onCut readings.inOrder readings.step readings.stepFrom
     readings.stepOver find meaning tree tagOf innerOf value shortest field leastContents
     octets.number octets.octetsOf octets.width octets.widthWithin octets.leastUint
     signs.integer signs.withSign signs.lowest signs.leastInt signs.signedWidth signs.signedBits

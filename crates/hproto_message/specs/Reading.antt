@@ -60,17 +60,18 @@ inOrder f (refused number place) rest = refused number place
 abbrev pub Inner : Type 0
 Inner = ℕ → ℕ → ℕ → List ℕ → Reading
 
+-- What a step from a place comes to, where `next` reads the fields that follow.
+unfoldable pub afterStep : Inner → (ℕ → List ℕ → Reading) → ℕ → Step → Reading
+afterStep inner next at done = accepted end
+afterStep inner next at (fault number) = refused number at
+afterStep inner next at (over c b rest) = onCut (leaf c b) (next (at + length c + length b) rest)
+afterStep inner next at (into m c b rest) =
+    inOrder (nested c) (inner m at (at + length c) b) (next (at + length c + length b) rest)
+
 -- The fields of one message, from a place on. `left` bounds the fields that are still looked at.
 unfoldable pub fieldsFrom : List Entry → Inner → ℕ → ℕ → ℕ → List ℕ → Reading
 fieldsFrom es inner n zero at s = refused 3 at
-fieldsFrom es inner n (suc left) at s =
-    elim (step es n s) [
-      | done ↦ accepted end
-      | fault number ↦ refused number at
-      | over c b rest ↦ onCut (leaf c b) (fieldsFrom es inner n left (at + length c + length b) rest)
-      | into m c b rest ↦
-          inOrder (nested c) (inner m at (at + length c) b) (fieldsFrom es inner n left (at + length c + length b) rest)
-    ]
+fieldsFrom es inner n (suc left) at s = afterStep inner (fieldsFrom es inner n left) at (step es n s)
 
 -- A message of a number, at most `room` messages deep. It is refused with 5 at the field that holds it where it is too deep. A field
 -- takes an octet or more, so one look more than there are octets is enough.

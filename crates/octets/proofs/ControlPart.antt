@@ -246,3 +246,22 @@ leastControl-least c tag len k o e h = go (alone c tag len o e)
             let v = q .same (omega arith) g in
             let x : leastCode tagCode tag .0 * 16 + leastCode lengthCode k .0 ≡ a .octet = rw (u .0, v .0) (omega arith) in
             rw (x, u .1, v .1) (sym (a .is)) )
+
+-- No control part at all is the end of the octets.
+pub control-absent : (s : List ℕ) → control s ≡ Absent → s ≡ []
+unfolding control controlOf
+control-absent [] e = refl
+control-absent (x ∷ s) e =
+    go (ltb (length s) (n + m)) (coded tagCode (x / 16) (take n s)) (coded lengthCode (x % 16) (take m (drop n s))) (1 + n + m) e
+  where
+    n : ℕ
+    n = following tagCode (x / 16)
+    m : ℕ
+    m = following lengthCode (x % 16)
+    go : (t : Bool) (tag len size : ℕ) → cond t Partial (Whole tag len size) ≡ Absent → x ∷ s ≡ []
+    go true tag len size e = let z : _≡_ {A = ℕ} 0 1 = cc in absurd (omega arith)
+    go false tag len size e = let z : _≡_ {A = ℕ} 0 1 = cc in absurd (omega arith)
+
+pub control-nil : control [] ≡ Absent
+unfolding control
+control-nil = refl

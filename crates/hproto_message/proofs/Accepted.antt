@@ -1,0 +1,131 @@
+-- A message is accepted by the reading exactly when it has a good cut, and it has at most one.
+use Prim.Native.Nat.{ℕ, zero, suc, _+_, _≤_, _<_, max}
+use native.Mathlib.Omega.{arith}
+use mathlib.Core.Path.{_≡_, refl, sym, ap, ap₂, _∙_, subst}
+use mathlib.Core.List.{List, [], _∷_, _++_}
+use mathlib.Core.Logic.{_↔_}
+use lib.ListN.{length, length-append}
+use Rattle.octets.proofs.ControlPart.{control-size}
+use Rattle.hproto_table.specs.Entry.{Entry}
+use Rattle.hproto_message.specs.Cut.{Cut, end, leaf, nested, joined, depth, WholeField, LeafField, NestedField, Allowed, Good}
+use Rattle.hproto_message.specs.Reading.{Step, done, fault, over, into, step, Reading, accepted, refused, onCut, inOrder, Inner, afterStep, fieldsFrom, messageFrom, reading}
+use Rattle.hproto_message.proofs.Step.{StepMeans, step-means, step-of-leaf, step-of-nested, step-of-end}
+
+module _ (es : List Entry) (room n : ℕ) (s : List ℕ) where
+  good-end : s ≡ [] → Good es (suc room) n s end
+  unfolding joined Allowed depth
+  good-end e = record { divides = sym e; allowed = tt; shallow = omega arith }
+
+  good-leaf : (c b rest : List ℕ) (cut : Cut) → LeafField es n c b → s ≡ c ++ b ++ rest → Good es (suc room) n rest cut
+      → Good es (suc room) n s (leaf c b cut)
+  unfolding joined Allowed depth
+  good-leaf c b rest cut f e g =
+      record
+      { divides = ap (λ (r : List ℕ). c ++ b ++ r) (g .divides) ∙ sym e
+      ; allowed = (f, g .allowed)
+      ; shallow = g .shallow
+      }
+
+  good-nested : (m : ℕ) (c b rest : List ℕ) (inside cut : Cut) → NestedField es n m c b → s ≡ c ++ b ++ rest → Good es room m b inside
+      → Good es (suc room) n rest cut → Good es (suc room) n s (nested c inside cut)
+  unfolding joined Allowed depth
+  good-nested m c b rest inside cut f e i g =
+      let p = i .shallow in
+      let q = g .shallow in
+      record
+      { divides = ap₂ (λ (x y : List ℕ). c ++ x ++ y) (i .divides) (g .divides) ∙ sym e
+      ; allowed = ((m, subst (λ (x : List ℕ). NestedField es n m c x) (sym (i .divides)) f, i .allowed), g .allowed)
+      ; shallow = omega arith
+      }
+
+-- Where nested messages are accepted only with a good cut, so are the fields of a message.
+module _ (es : List Entry) (room : ℕ) (inner : Inner)
+    (below : (m field at : ℕ) (b : List ℕ) (cut : Cut) → inner m field at b ≡ accepted cut → Good es room m b cut) where
+  after-good : (n : ℕ) (next : ℕ → List ℕ → Reading)
+      → ((at : ℕ) (r : List ℕ) (cut : Cut) → next at r ≡ accepted cut → Good es (suc room) n r cut)
+      → (at : ℕ) (s : List ℕ) (cut : Cut) (p : Step) → StepMeans es n s p → afterStep inner next at p ≡ accepted cut → Good es (suc room) n s cut
+  unfolding afterStep StepMeans onCut inOrder
+  after-good n next later at s cut done h e = subst (Good es (suc room) n s) (cc) (good-end es room n s h)
+  after-good n next later at s cut (fault number) h e = let z : _≡_ {A = ℕ} 0 1 = cc in absurd (omega arith)
+  after-good n next later at s cut (over c b rest) h e = go (next (at + length c + length b) rest) refl e
+    where
+      go : (r : Reading) → next (at + length c + length b) rest ≡ r → onCut (leaf c b) r ≡ accepted cut → Good es (suc room) n s cut
+      go (accepted k) f g = subst (Good es (suc room) n s) (cc) (good-leaf es room n s c b rest k (h .0) (h .1) (later (at + length c + length b) rest k f))
+      go (refused number place) f g = let z : _≡_ {A = ℕ} 0 1 = cc in absurd (omega arith)
+  after-good n next later at s cut (into m c b rest) h e =
+      go (inner m at (at + length c) b) refl (next (at + length c + length b) rest) refl e
+    where
+      go : (q : Reading) → inner m at (at + length c) b ≡ q → (r : Reading) → next (at + length c + length b) rest ≡ r
+          → inOrder (nested c) q r ≡ accepted cut → Good es (suc room) n s cut
+      go (accepted i) d (accepted k) f g =
+          subst (Good es (suc room) n s) (cc)
+          (good-nested es room n s m c b rest i k (h .0) (h .1) (below m at (at + length c) b i d) (later (at + length c + length b) rest k f))
+      go (accepted i) d (refused number place) f g = let z : _≡_ {A = ℕ} 0 1 = cc in absurd (omega arith)
+      go (refused number place) d r f g = let z : _≡_ {A = ℕ} 0 1 = cc in absurd (omega arith)
+
+  fields-good : (n left at : ℕ) (s : List ℕ) (cut : Cut) → fieldsFrom es inner n left at s ≡ accepted cut → Good es (suc room) n s cut
+  unfolding fieldsFrom
+  fields-good n zero at s cut e = let z : _≡_ {A = ℕ} 0 1 = cc in absurd (omega arith)
+  fields-good n (suc left) at s cut e =
+      after-good n (fieldsFrom es inner n left) (fields-good n left) at s cut (step es n s) (step-means es n s) e
+
+pub accepted-good : (es : List Entry) (room n field at : ℕ) (s : List ℕ) (cut : Cut)
+    → messageFrom es room n field at s ≡ accepted cut → Good es room n s cut
+unfolding messageFrom
+accepted-good es zero n field at s cut e = let z : _≡_ {A = ℕ} 0 1 = cc in absurd (omega arith)
+accepted-good es (suc room) n field at s cut e =
+    fields-good es room (messageFrom es room) (accepted-good es room) n (suc (length s)) at s cut e
+
+-- A whole field takes an octet or more.
+field-size : (tag : ℕ) (c b : List ℕ) → WholeField tag c b → 1 ≤ length c
+field-size tag c b w = control-size c tag (length b) (length c) (w .control-part) .0
+
+-- Where nested messages with a good cut are accepted, so is a message of good fields.
+module _ (es : List Entry) (room : ℕ) (inner : Inner)
+    (below : (m field at : ℕ) (b : List ℕ) (cut : Cut) → Good es room m b cut → inner m field at b ≡ accepted cut) where
+  fields-accepted : (cut : Cut) (n left at : ℕ) → Allowed es n cut → depth cut ≤ suc room → length (joined cut) < left
+      → fieldsFrom es inner n left at (joined cut) ≡ accepted cut
+  unfolding fieldsFrom afterStep onCut inOrder joined Allowed depth
+  fields-accepted end n zero at a d h = absurd (omega arith)
+  fields-accepted end n (suc left) at a d h = rw (step-of-end es n)
+  fields-accepted (leaf c b cut) n zero at a d h = absurd (omega arith)
+  fields-accepted (leaf c b cut) n (suc left) at a d h =
+      let k = field-size (a .0 .tag) c b (a .0 .whole) in
+      let l : length (c ++ b ++ joined cut) ≡ length c + length b + length (joined cut) = simp length-append (omega arith) in
+      let r = fields-accepted cut n left (at + length c + length b) (a .1) d (omega arith) in
+      rw (step-of-leaf es n c b (joined cut) (a .0), r)
+  fields-accepted (nested c inside cut) n zero at a d h = absurd (omega arith)
+  fields-accepted (nested c inside cut) n (suc left) at a d h =
+      let m = a .0 .0 in
+      let b = joined inside in
+      let k = field-size (a .0 .1 .tag) c b (a .0 .1 .whole) in
+      let l : length (c ++ b ++ joined cut) ≡ length c + length b + length (joined cut) = simp length-append (omega arith) in
+      let q = below m at (at + length c) b inside (record { divides = refl; allowed = a .0 .2; shallow = omega arith }) in
+      let r = fields-accepted cut n left (at + length c + length b) (a .1) (omega arith) (omega arith) in
+      rw (step-of-nested es n m c b (joined cut) (a .0 .1), q, r)
+
+depth-positive : (cut : Cut) → 1 ≤ depth cut
+unfolding depth
+depth-positive end = omega arith
+depth-positive (leaf c b cut) = depth-positive cut
+depth-positive (nested c inside cut) = omega arith
+
+pub good-accepted : (es : List Entry) (room n field at : ℕ) (s : List ℕ) (cut : Cut)
+    → Good es room n s cut → messageFrom es room n field at s ≡ accepted cut
+unfolding messageFrom
+good-accepted es zero n field at s cut g = let h = depth-positive cut in let k = g .shallow in absurd (omega arith)
+good-accepted es (suc room) n field at s cut g =
+    subst (λ (r : List ℕ). fieldsFrom es (messageFrom es room) n (suc (length r)) at r ≡ accepted cut) (g .divides)
+    (fields-accepted es room (messageFrom es room) (good-accepted es room) cut n (suc (length (joined cut))) at (g .allowed) (g .shallow) (omega arith))
+
+-- The reading accepts a message with a cut exactly where that cut is good.
+pub accepted-exactly : (es : List Entry) (n : ℕ) (s : List ℕ) (cut : Cut) → (reading es n s ≡ accepted cut) ↔ Good es 8 n s cut
+unfolding reading
+accepted-exactly es n s cut = (accepted-good es 8 n 0 0 s cut, good-accepted es 8 n 0 0 s cut)
+
+-- Octets have at most one good cut.
+pub good-cut-unique : (es : List Entry) (room n : ℕ) (s : List ℕ) (cut other : Cut) → Good es room n s cut → Good es room n s other → cut ≡ other
+good-cut-unique es room n s cut other g h =
+    let p = good-accepted es room n 0 0 s cut g in
+    let q = good-accepted es room n 0 0 s other h in
+    cc

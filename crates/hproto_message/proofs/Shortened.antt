@@ -1,0 +1,198 @@
+-- The shortest form of a tree that a message reads as has a good cut and the same tree, and all other octets with a good cut and that
+-- tree are more.
+use Prim.Native.Nat.{ℕ, zero, suc, _+_, _^_, _≤_, _<_, max}
+use native.Mathlib.Omega.{arith}
+use mathlib.Core.Path.{_≡_, refl, sym, ap, ap₂, _∙_, subst}
+use mathlib.Core.List.{List, [], _∷_, _++_, append-assoc}
+use lib.ListN.{length, length-append}
+use Rattle.octets.specs.Number.{Octets, number, leastUint}
+use Rattle.octets.specs.Signed.{integer, leastInt}
+use Rattle.octets.specs.Control.{control, leastControl}
+use Rattle.octets.specs.declared.Control.{Control}
+use Rattle.octets.specs.declared.Control.the-variants.{Absent, Partial, Whole}
+use Rattle.octets.proofs.Number.{octets-append, octets-before, octets-after, number-leastUint, number-below-most, octets-leastUint}
+use Rattle.octets.proofs.Integer.{integer-leastInt, integer-in-range, octets-leastInt, leastInt-no-shorter}
+use Rattle.octets.proofs.Shorter.{NoShorter, no-shorter-self, no-shorter-append, no-shorter-other, leastUint-no-shorter}
+use Rattle.octets.proofs.ControlPart.{control-bounds, control-leastControl, octets-leastControl, leastControl-least}
+use Rattle.hproto_table.specs.Entry.{Entry, find}
+use Rattle.hproto_table.specs.declared.Meaning.{Meaning}
+use Rattle.hproto_table.specs.declared.Meaning.the-variants.{Raw, Uint, Int, String, Text, Message}
+use Rattle.hproto_message.specs.Cut as cuts
+use Rattle.hproto_message.specs.Cut.{Cut, joined, WholeField, Contents, LeafField, NestedField, Allowed, Good}
+use Rattle.hproto_message.specs.Tree as trees
+use Rattle.hproto_message.specs.Tree.{Tree, Value, tagOf, innerOf, value, tree}
+use Rattle.hproto_message.specs.Shortest.{leastContents, field, shortest}
+
+-- The tag of a whole field is that of its control part.
+tag-of-whole : (tag : ℕ) (c b : List ℕ) → WholeField tag c b → tagOf (control c) ≡ tag
+unfolding tagOf
+tag-of-whole tag c b w = ap tagOf (w .control-part)
+
+-- The least contents of a value are no longer than contents that mean it, mean the same, and are as allowed.
+record Lessened (k : Meaning) (b : List ℕ) : Type 0 where
+  no-shorter : NoShorter (leastContents (value k b)) b
+  same-value : value k (leastContents (value k b)) ≡ value k b
+  contents : Contents k (leastContents (value k b))
+  octets : Octets (leastContents (value k b))
+
+lessened : (k : Meaning) (b : List ℕ) → Octets b → Contents k b → Lessened k b
+unfolding leastContents value Contents
+lessened Raw b o h = record { no-shorter = no-shorter-self b; same-value = refl; contents = tt; octets = o }
+lessened Uint b o h =
+    let n = leastUint-no-shorter b o h in
+    let k = n .long in
+    record
+    { no-shorter = n
+    ; same-value = ap Value.uint (number-leastUint (number b) (number-below-most b 8 o h))
+    ; contents = omega arith
+    ; octets = octets-leastUint (number b)
+    }
+lessened Int b o h =
+    let n = leastInt-no-shorter b o h in
+    let k = n .long in
+    record
+    { no-shorter = n
+    ; same-value = ap Value.int (integer-leastInt (integer b) (integer-in-range b o h))
+    ; contents = omega arith
+    ; octets = octets-leastInt (integer b)
+    }
+lessened String b o h = record { no-shorter = no-shorter-self b; same-value = refl; contents = tt; octets = o }
+lessened Text b o h = record { no-shorter = no-shorter-self b; same-value = refl; contents = h; octets = o }
+lessened (Message m) b o h = absurd h
+
+-- A whole field with contents no longer than before keeps its tag, and is no shorter.
+record Refitted (tag : ℕ) (c b r : List ℕ) : Type 0 where
+  whole : WholeField tag (leastControl tag (length r)) r
+  no-shorter : NoShorter (field tag r) (c ++ b)
+  octets : Octets (field tag r)
+
+refitted : (tag : ℕ) (c b r : List ℕ) → Octets c → Octets r → WholeField tag c b → NoShorter r b → Refitted tag c b r
+unfolding field
+refitted tag c b r o p w n =
+    let e = w .control-part in
+    let k = control-bounds c tag (length b) o e in
+    let h = n .long in
+    let least = leastControl-least c tag (length b) (length r) o e h in
+    let l = least .0 in
+    record
+    { whole = record { control-part = control-leastControl tag (length r) (k .0) (omega arith) }
+    ; no-shorter =
+        record
+        { long = simp length-append (omega arith)
+        ; same = λ s.
+            let f : length (leastControl tag (length r)) + length r ≡ length c + length b = simp length-append at s in
+            ap₂ (λ (x y : List ℕ). x ++ y) (least .1 (omega arith) (omega arith)) (n .same (omega arith))
+        }
+    ; octets = octets-append (leastControl tag (length r)) r (octets-leastControl tag (length r) (k .0) (omega arith)) p
+    }
+
+-- The cut of a tree's shortest form.
+cutOf : Tree → Cut
+cutOf Tree.end = Cut.end
+cutOf (Tree.leaf tag v rest) = Cut.leaf (leastControl tag (length (leastContents v))) (leastContents v) (cutOf rest)
+cutOf (Tree.nested tag inside rest) = Cut.nested (leastControl tag (length (shortest inside))) (cutOf inside) (cutOf rest)
+
+joined-cutOf : (t : Tree) → joined (cutOf t) ≡ shortest t
+unfolding joined cutOf shortest field
+joined-cutOf Tree.end = refl
+joined-cutOf (Tree.leaf tag v rest) = rw (joined-cutOf rest)
+joined-cutOf (Tree.nested tag inside rest) = rw (joined-cutOf inside, joined-cutOf rest)
+
+-- What holds of the shortest form of the tree t of a cut.
+record Short (es : List Entry) (n : ℕ) (cut : Cut) (t : Tree) : Type 0 where
+  is : tree es n cut ≡ t
+  allowed : Allowed es n (cutOf t)
+  same-tree : tree es n (cutOf t) ≡ t
+  same-depth : cuts.depth (cutOf t) ≡ cuts.depth cut
+  no-shorter : NoShorter (shortest t) (joined cut)
+  octets : Octets (shortest t)
+
+module _ (es : List Entry) (n : ℕ) where
+  short-end : Short es n Cut.end Tree.end
+  unfolding tree Allowed cutOf cuts.depth shortest joined Octets
+  short-end = record { is = refl; allowed = tt; same-tree = refl; same-depth = refl; no-shorter = no-shorter-self []; octets = tt }
+
+  short-leaf : (c b : List ℕ) (rest : Cut) (t : Tree) (f : LeafField es n c b) → Octets c → Octets b → Short es n rest t
+      → Short es n (Cut.leaf c b rest) (Tree.leaf (f .tag) (value (find es n (f .tag)) b) t)
+  unfolding tree Allowed cutOf cuts.depth shortest joined
+  short-leaf c b rest t f oc ob later =
+      let tag = f .tag in
+      let k = find es n tag in
+      let less = lessened k b ob (f .allowed) in
+      let fit = refitted tag c b (leastContents (value k b)) oc (less .octets) (f .whole) (less .no-shorter) in
+      let r = leastContents (value k b) in
+      record
+      { is = rw (tag-of-whole tag c b (f .whole), later .is)
+      ; allowed = (record { tag = tag; whole = fit .whole; allowed = less .contents }, later .allowed)
+      ; same-tree = rw (tag-of-whole tag (leastControl tag (length r)) r (fit .whole), less .same-value, later .same-tree)
+      ; same-depth = later .same-depth
+      ; no-shorter = no-shorter-append (field tag r) (c ++ b) (shortest t) (joined rest) (fit .no-shorter) (later .no-shorter)
+      ; octets = octets-append (field tag r) (shortest t) (fit .octets) (later .octets)
+      }
+
+  short-nested : (m : ℕ) (c : List ℕ) (inside rest : Cut) (u t : Tree) (f : NestedField es n m c (joined inside)) → Octets c → Short es m inside u
+      → Short es n rest t → Short es n (Cut.nested c inside rest) (Tree.nested (f .tag) u t)
+  unfolding tree Allowed cutOf cuts.depth shortest joined innerOf
+  short-nested m c inside rest u t f oc inner later =
+      let tag = f .tag in
+      let r = shortest u in
+      let b = joined inside in
+      let fit = refitted tag c b r oc (inner .octets) (f .whole) (inner .no-shorter) in
+      let w : WholeField tag (leastControl tag (length r)) (joined (cutOf u)) =
+          subst (λ (x : List ℕ). WholeField tag (leastControl tag (length r)) x) (sym (joined-cutOf u)) (fit .whole) in
+      record
+      { is = rw (tag-of-whole tag c b (f .whole), f .allowed, inner .is, later .is)
+      ; allowed = ((m, record { tag = tag; whole = w; allowed = f .allowed }, inner .allowed), later .allowed)
+      ; same-tree = rw (tag-of-whole tag (leastControl tag (length r)) r (fit .whole), f .allowed, inner .same-tree, later .same-tree)
+      ; same-depth = rw (inner .same-depth, later .same-depth)
+      ; no-shorter = no-shorter-append (field tag r) (c ++ b) (shortest t) (joined rest) (fit .no-shorter) (later .no-shorter)
+      ; octets = octets-append (field tag r) (shortest t) (fit .octets) (later .octets)
+      }
+
+-- The tree of a cut of allowed fields has such a shortest form.
+short : (es : List Entry) (cut : Cut) (n : ℕ) → Allowed es n cut → Octets (joined cut) → Short es n cut (tree es n cut)
+unfolding Allowed joined
+short es Cut.end n a o = unfold tree in short-end es n
+short es (Cut.leaf c b rest) n a o =
+    let h = octets-before (c ++ b) (joined rest) o in
+    let s = short-leaf es n c b rest (tree es n rest) (a .0) (octets-before c b h) (octets-after c b h)
+        (short es rest n (a .1) (octets-after (c ++ b) (joined rest) o)) in
+    subst (Short es n (Cut.leaf c b rest)) (sym (s .is)) s
+short es (Cut.nested c inside rest) n a o =
+    let h = octets-before (c ++ joined inside) (joined rest) o in
+    let m = a .0 .0 in
+    let s = short-nested es n m c inside rest (tree es m inside) (tree es n rest) (a .0 .1) (octets-before c (joined inside) h)
+        (short es inside m (a .0 .2) (octets-after c (joined inside) h))
+        (short es rest n (a .1) (octets-after (c ++ joined inside) (joined rest) o)) in
+    subst (Short es n (Cut.nested c inside rest)) (sym (s .is)) s
+
+-- A message accepted with a cut, and its tree.
+module _ (es : List Entry) (room n : ℕ) (s : List ℕ) (cut : Cut) (o : Octets s) (g : Good es room n s cut) where
+  shortened : Short es n cut (tree es n cut)
+  shortened = short es cut n (g .allowed) (subst Octets (sym (g .divides)) o)
+
+  -- The shortest form of a tree that octets read as has a good cut with that tree.
+  pub shortest-good : (other : Cut) × Good es room n (shortest (tree es n cut)) other × (tree es n other ≡ tree es n cut)
+  shortest-good =
+      ( cutOf (tree es n cut)
+      , record
+      { divides = joined-cutOf (tree es n cut)
+      ; allowed = shortened .allowed
+      ; shallow = subst (λ (d : ℕ). d ≤ room) (sym (shortened .same-depth)) (g .shallow)
+      }
+      , shortened .same-tree )
+
+  pub shortest-octets : Octets (shortest (tree es n cut))
+  shortest-octets = shortened .octets
+
+  -- All other octets, of any length, with a good cut and the same tree are more than the shortest form.
+  pub others-longer : (shortest (tree es n cut) ≡ s → ⊥) → length (shortest (tree es n cut)) < length s
+  others-longer ne =
+      no-shorter-other (shortest (tree es n cut)) s (subst (NoShorter (shortest (tree es n cut))) (g .divides) (shortened .no-shorter)) ne
+
+-- The depth of a tree is that of its cut.
+pub tree-depth : (es : List Entry) (cut : Cut) (n : ℕ) → trees.depth (tree es n cut) ≡ cuts.depth cut
+unfolding tree trees.depth cuts.depth
+tree-depth es Cut.end n = refl
+tree-depth es (Cut.leaf c b rest) n = tree-depth es rest n
+tree-depth es (Cut.nested c inside rest) n = rw (tree-depth es inside (innerOf (find es n (tagOf (control c)))), tree-depth es rest n)
