@@ -4,12 +4,14 @@ use native.Mathlib.Omega.{arith}
 use mathlib.Core.Path.{_≡_, refl, sym, ap, ap₂, _∙_, subst}
 use mathlib.Core.List.{List, [], _∷_, _++_}
 use mathlib.Core.Logic.{_↔_}
-use lib.ListN.{length, length-append}
+use lib.ListN.{length, take, drop, length-append}
 use Rattle.octets.proofs.ControlPart.{control-size}
 use Rattle.hproto_table.specs.Entry.{Entry}
+use Rattle.hproto_message.specs.declared.Step.{Step}
+use Rattle.hproto_message.specs.declared.Step.the-variants.{Done, Fault, Over, Into}
 use Rattle.hproto_message.specs.Cut.{Cut, end, leaf, nested, joined, depth, WholeField, LeafField, NestedField, Allowed, Good}
-use Rattle.hproto_message.specs.Reading.{Step, done, fault, over, into, step, Reading, accepted, refused, onCut, inOrder, Inner, afterStep, fieldsFrom, messageFrom, reading}
-use Rattle.hproto_message.proofs.Step.{StepMeans, step-means, step-of-leaf, step-of-nested, step-of-end}
+use Rattle.hproto_message.specs.Reading.{step, Reading, accepted, refused, onCut, inOrder, Inner, afterStep, fieldsFrom, messageFrom, reading}
+use Rattle.hproto_message.proofs.Steps.{StepMeans, step-means, step-of-leaf, step-of-nested, step-of-end, split-in-three, in-three}
 
 module _ (es : List Entry) (room n : ℕ) (s : List ℕ) where
   good-end : s ≡ [] → Good es (suc room) n s end
@@ -43,23 +45,29 @@ module _ (es : List Entry) (room : ℕ) (inner : Inner)
     (below : (m field at : ℕ) (b : List ℕ) (cut : Cut) → inner m field at b ≡ accepted cut → Good es room m b cut) where
   after-good : (n : ℕ) (next : ℕ → List ℕ → Reading)
       → ((at : ℕ) (r : List ℕ) (cut : Cut) → next at r ≡ accepted cut → Good es (suc room) n r cut)
-      → (at : ℕ) (s : List ℕ) (cut : Cut) (p : Step) → StepMeans es n s p → afterStep inner next at p ≡ accepted cut → Good es (suc room) n s cut
+      → (at : ℕ) (s : List ℕ) (cut : Cut) (p : Step) → StepMeans es n s p → afterStep inner next at s p ≡ accepted cut
+      → Good es (suc room) n s cut
   unfolding afterStep StepMeans onCut inOrder
-  after-good n next later at s cut done h e = subst (Good es (suc room) n s) (cc) (good-end es room n s h)
-  after-good n next later at s cut (fault number) h e = let z : _≡_ {A = ℕ} 0 1 = cc in absurd (omega arith)
-  after-good n next later at s cut (over c b rest) h e = go (next (at + length c + length b) rest) refl e
+  after-good n next later at s cut Done h e = subst (Good es (suc room) n s) (cc) (good-end es room n s h)
+  after-good n next later at s cut (Fault number) h e = let z : _≡_ {A = ℕ} 0 1 = cc in absurd (omega arith)
+  after-good n next later at s cut (Over k l) h e = go (next (at + k + l) (drop (k + l) s)) refl e
     where
-      go : (r : Reading) → next (at + length c + length b) rest ≡ r → onCut (leaf c b) r ≡ accepted cut → Good es (suc room) n s cut
-      go (accepted k) f g = subst (Good es (suc room) n s) (cc) (good-leaf es room n s c b rest k (h .0) (h .1) (later (at + length c + length b) rest k f))
-      go (refused number place) f g = let z : _≡_ {A = ℕ} 0 1 = cc in absurd (omega arith)
-  after-good n next later at s cut (into m c b rest) h e =
-      go (inner m at (at + length c) b) refl (next (at + length c + length b) rest) refl e
-    where
-      go : (q : Reading) → inner m at (at + length c) b ≡ q → (r : Reading) → next (at + length c + length b) rest ≡ r
-          → inOrder (nested c) q r ≡ accepted cut → Good es (suc room) n s cut
-      go (accepted i) d (accepted k) f g =
+      go : (r : Reading) → next (at + k + l) (drop (k + l) s) ≡ r → onCut (leaf (take k s) (take l (drop k s))) r ≡ accepted cut
+          → Good es (suc room) n s cut
+      go (accepted rest) f g =
           subst (Good es (suc room) n s) (cc)
-          (good-nested es room n s m c b rest i k (h .0) (h .1) (below m at (at + length c) b i d) (later (at + length c + length b) rest k f))
+          (good-leaf es room n s (take k s) (take l (drop k s)) (drop (k + l) s) rest (h .0) (sym (split-in-three k l s))
+          (later (at + k + l) (drop (k + l) s) rest f))
+      go (refused number place) f g = let z : _≡_ {A = ℕ} 0 1 = cc in absurd (omega arith)
+  after-good n next later at s cut (Into m k l) h e =
+      go (inner m at (at + k) (take l (drop k s))) refl (next (at + k + l) (drop (k + l) s)) refl e
+    where
+      go : (q : Reading) → inner m at (at + k) (take l (drop k s)) ≡ q → (r : Reading) → next (at + k + l) (drop (k + l) s) ≡ r
+          → inOrder (nested (take k s)) q r ≡ accepted cut → Good es (suc room) n s cut
+      go (accepted i) d (accepted rest) f g =
+          subst (Good es (suc room) n s) (cc)
+          (good-nested es room n s m (take k s) (take l (drop k s)) (drop (k + l) s) i rest (h .0) (sym (split-in-three k l s))
+          (below m at (at + k) (take l (drop k s)) i d) (later (at + k + l) (drop (k + l) s) rest f))
       go (accepted i) d (refused number place) f g = let z : _≡_ {A = ℕ} 0 1 = cc in absurd (omega arith)
       go (refused number place) d r f g = let z : _≡_ {A = ℕ} 0 1 = cc in absurd (omega arith)
 
@@ -93,7 +101,8 @@ module _ (es : List Entry) (room : ℕ) (inner : Inner)
       let k = field-size (a .0 .tag) c b (a .0 .whole) in
       let l : length (c ++ b ++ joined cut) ≡ length c + length b + length (joined cut) = simp length-append (omega arith) in
       let r = fields-accepted cut n left (at + length c + length b) (a .1) d (omega arith) in
-      rw (step-of-leaf es n c b (joined cut) (a .0), r)
+      let p = in-three c b (joined cut) in
+      rw (step-of-leaf es n c b (joined cut) (a .0), p .first, p .second, p .third, r)
   fields-accepted (nested c inside cut) n zero at a d h = absurd (omega arith)
   fields-accepted (nested c inside cut) n (suc left) at a d h =
       let m = a .0 .0 in
@@ -102,7 +111,8 @@ module _ (es : List Entry) (room : ℕ) (inner : Inner)
       let l : length (c ++ b ++ joined cut) ≡ length c + length b + length (joined cut) = simp length-append (omega arith) in
       let q = below m at (at + length c) b inside (record { divides = refl; allowed = a .0 .2; shallow = omega arith }) in
       let r = fields-accepted cut n left (at + length c + length b) (a .1) (omega arith) (omega arith) in
-      rw (step-of-nested es n m c b (joined cut) (a .0 .1), q, r)
+      let p = in-three c b (joined cut) in
+      rw (step-of-nested es n m c b (joined cut) (a .0 .1), p .first, p .second, p .third, q, r)
 
 depth-positive : (cut : Cut) → 1 ≤ depth cut
 unfolding depth

@@ -1,4 +1,4 @@
 pub mod Samples
-pub mod Step
+pub mod Steps
 pub mod Accepted
 pub mod Shortened

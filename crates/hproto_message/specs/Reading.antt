@@ -11,34 +11,26 @@ use Rattle.octets.specs.declared.Control.the-variants.{Absent, Partial, Whole}
 use Rattle.hproto_table.specs.Entry.{Entry, find}
 use Rattle.hproto_table.specs.declared.Meaning.{Meaning}
 use Rattle.hproto_table.specs.declared.Meaning.the-variants.{Raw, Uint, Int, String, Text, Message}
+use Rattle.hproto_message.specs.declared.Step.{Step}
+use Rattle.hproto_message.specs.declared.Step.the-variants.{Done, Fault, Over, Into}
 use Rattle.hproto_message.specs.Cut.{Cut, end, leaf, nested}
 
--- What stands at the front of octets: their end, a field that is refused with a number, a field that is no message (its control part,
--- its contents and what follows), or a field that is a message of a number.
-pub data Step : Type 0 where
-  done : Step
-  fault : ℕ → Step
-  over : List ℕ → List ℕ → List ℕ → Step
-  into : ℕ → List ℕ → List ℕ → List ℕ → Step
+-- A field whose octets are all there, by what its tag means, the size of its control part and its contents.
+unfoldable pub stepOver : Meaning → ℕ → List ℕ → Step
+stepOver Raw size s = Over size (length s)
+stepOver Uint size s = cond (leb (length s) 8) (Over size (length s)) (Fault 6)
+stepOver Int size s = cond (leb (length s) 8) (Over size (length s)) (Fault 6)
+stepOver String size s = Over size (length s)
+stepOver Text size s = cond (text s) (Over size (length s)) (Fault 7)
+stepOver (Message m) size s = Into m size (length s)
 
--- A field whose octets are all there, by what its tag means.
-unfoldable pub stepOver : Meaning → List ℕ → List ℕ → List ℕ → Step
-stepOver Raw c s rest = over c s rest
-stepOver Uint c s rest = cond (leb (length s) 8) (over c s rest) (fault 6)
-stepOver Int c s rest = cond (leb (length s) 8) (over c s rest) (fault 6)
-stepOver String c s rest = over c s rest
-stepOver Text c s rest = cond (text s) (over c s rest) (fault 7)
-stepOver (Message m) c s rest = into m c s rest
-
--- The field at the front of octets, after its control part has been read. The length is compared with what is left.
+-- The field at the front of octets, by its control part. The length is compared with what is left.
 unfoldable pub stepFrom : List Entry → ℕ → List ℕ → Control → Step
-stepFrom es n s Absent = done
-stepFrom es n s Partial = fault 3
-stepFrom es n s (Whole tag len size) =
-    cond (leb len (length s - size))
-    (stepOver (find es n tag) (take size s) (take len (drop size s)) (drop len (drop size s)))
-    (fault 4)
+stepFrom es n s Absent = Done
+stepFrom es n s Partial = Fault 3
+stepFrom es n s (Whole tag len size) = cond (leb len (length s - size)) (stepOver (find es n tag) size (take len (drop size s))) (Fault 4)
 
+-- What stands at the front of octets in a message of a number.
 unfoldable pub step : List Entry → ℕ → List ℕ → Step
 step es n s = stepFrom es n s (control s)
 
@@ -60,18 +52,18 @@ inOrder f (refused number place) rest = refused number place
 abbrev pub Inner : Type 0
 Inner = ℕ → ℕ → ℕ → List ℕ → Reading
 
--- What a step from a place comes to, where `next` reads the fields that follow.
-unfoldable pub afterStep : Inner → (ℕ → List ℕ → Reading) → ℕ → Step → Reading
-afterStep inner next at done = accepted end
-afterStep inner next at (fault number) = refused number at
-afterStep inner next at (over c b rest) = onCut (leaf c b) (next (at + length c + length b) rest)
-afterStep inner next at (into m c b rest) =
-    inOrder (nested c) (inner m at (at + length c) b) (next (at + length c + length b) rest)
+-- What a step at the front of octets, at a place, comes to, where `next` reads the fields that follow.
+unfoldable pub afterStep : Inner → (ℕ → List ℕ → Reading) → ℕ → List ℕ → Step → Reading
+afterStep inner next at s Done = accepted end
+afterStep inner next at s (Fault number) = refused number at
+afterStep inner next at s (Over k l) = onCut (leaf (take k s) (take l (drop k s))) (next (at + k + l) (drop (k + l) s))
+afterStep inner next at s (Into m k l) =
+    inOrder (nested (take k s)) (inner m at (at + k) (take l (drop k s))) (next (at + k + l) (drop (k + l) s))
 
 -- The fields of one message, from a place on. `left` bounds the fields that are still looked at.
 unfoldable pub fieldsFrom : List Entry → Inner → ℕ → ℕ → ℕ → List ℕ → Reading
 fieldsFrom es inner n zero at s = refused 3 at
-fieldsFrom es inner n (suc left) at s = afterStep inner (fieldsFrom es inner n left) at (step es n s)
+fieldsFrom es inner n (suc left) at s = afterStep inner (fieldsFrom es inner n left) at s (step es n s)
 
 -- A message of a number, at most `room` messages deep. It is refused with 5 at the field that holds it where it is too deep. A field
 -- takes an octet or more, so one look more than there are octets is enough.

@@ -1,0 +1,133 @@
+-- One step of the reading takes exactly one whole and allowed field.
+use Prim.Native.Nat.{ℕ, zero, suc, _+_, _-_, _≤_, _<_}
+use native.Mathlib.Omega.{arith}
+use mathlib.Core.Path.{_≡_, refl, sym, ap, ap₂, _∙_, subst}
+use mathlib.Core.Bool.{Bool, true, false, cond}
+use mathlib.Core.List.{List, [], _∷_, _++_, append-assoc, append-nil}
+use lib.ListN.{length, take, drop, length-append, length-take, length-drop, take-append-drop}
+use lib.Seq.{take-at, drop-at, length-take-le, drop-drop}
+use lib.Dec.{T, leb}
+use borrow.Author.Tests.{leb-true, leb-false, le-leb}
+use Rattle.octets.specs.Text.{text}
+use Rattle.octets.specs.Control.{control}
+use Rattle.octets.specs.declared.Control.{Control}
+use Rattle.octets.specs.declared.Control.the-variants.{Absent, Partial, Whole}
+use Rattle.octets.proofs.ControlPart.{control-append, control-size, control-take, control-absent, control-nil}
+use Rattle.hproto_table.specs.Entry.{Entry, find}
+use Rattle.hproto_table.specs.declared.Meaning.{Meaning}
+use Rattle.hproto_table.specs.declared.Meaning.the-variants.{Raw, Uint, Int, String, Text, Message}
+use Rattle.hproto_message.specs.Cut.{Cut, WholeField, Contents, LeafField, NestedField}
+use Rattle.hproto_message.specs.declared.Step.{Step}
+use Rattle.hproto_message.specs.declared.Step.the-variants.{Done, Fault, Over, Into}
+use Rattle.hproto_message.specs.Reading.{stepOver, stepFrom, step}
+
+-- Octets in three parts.
+pub split-in-three : (k l : ℕ) (s : List ℕ) → take k s ++ take l (drop k s) ++ drop (k + l) s ≡ s
+split-in-three k l s =
+    append-assoc (take k s) (take l (drop k s)) (drop (k + l) s)
+    ∙ rw (← drop-drop l k s, take-append-drop l (drop k s)) (take-append-drop k s)
+
+-- What each answer of a step says of the octets.
+unfoldable pub StepMeans : List Entry → ℕ → List ℕ → Step → Type 0
+StepMeans es n s Done = s ≡ []
+StepMeans es n s (Fault number) = Unit {0}
+StepMeans es n s (Over k l) = LeafField es n (take k s) (take l (drop k s)) × (1 ≤ k) × (k + l ≤ length s)
+StepMeans es n s (Into m k l) = NestedField es n m (take k s) (take l (drop k s)) × (1 ≤ k) × (k + l ≤ length s)
+
+module _ (es : List Entry) (n tag : ℕ) (s : List ℕ) (k l : ℕ) (w : WholeField tag (take k s) (take l (drop k s)))
+    (positive : 1 ≤ k) (inside : k + l ≤ length s) where
+  over-means : (m : Meaning) → find es n tag ≡ m → Contents m (take l (drop k s)) → StepMeans es n s (Over k l)
+  unfolding StepMeans
+  over-means m e allowed =
+      (record { tag = tag; whole = w; allowed = subst (λ (x : Meaning). Contents x (take l (drop k s))) (sym e) allowed }, positive, inside)
+
+  tested-means : (m : Meaning) → find es n tag ≡ m → (t : Bool) (number : ℕ) → (t ≡ true → Contents m (take l (drop k s)))
+      → StepMeans es n s (cond t (Over k l) (Fault number))
+  unfolding StepMeans
+  tested-means m e true number allowed = over-means m e (allowed refl)
+  tested-means m e false number allowed = tt
+
+  stepOver-means : (m : Meaning) → find es n tag ≡ m → length (take l (drop k s)) ≡ l → StepMeans es n s (stepOver m k (take l (drop k s)))
+  unfolding StepMeans stepOver Contents
+  stepOver-means Raw e f = rw f (over-means Raw e tt)
+  stepOver-means Uint e f = rw f (tested-means Uint e (leb l 8) 6 (λ t. leb-true (length (take l (drop k s))) 8 (rw f t)))
+  stepOver-means Int e f = rw f (tested-means Int e (leb l 8) 6 (λ t. leb-true (length (take l (drop k s))) 8 (rw f t)))
+  stepOver-means String e f = rw f (over-means String e tt)
+  stepOver-means Text e f = rw f (tested-means Text e (text (take l (drop k s))) 7 (λ t. subst T (sym t) tt))
+  stepOver-means (Message m) e f = rw f (record { tag = tag; whole = w; allowed = e }, positive, inside)
+
+stepFrom-means : (es : List Entry) (n : ℕ) (s : List ℕ) (k : Control) → control s ≡ k → StepMeans es n s (stepFrom es n s k)
+unfolding StepMeans stepFrom
+stepFrom-means es n s Absent e = control-absent s e
+stepFrom-means es n s Partial e = tt
+stepFrom-means es n s (Whole tag len size) e = go (leb len (length s - size)) refl
+  where
+    go : (t : Bool) → leb len (length s - size) ≡ t
+        → StepMeans es n s (cond t (stepOver (find es n tag) size (take len (drop size s))) (Fault 4))
+    go true t =
+        let fits = control-size s tag len size e in
+        let p = fits .0 in
+        let q = fits .1 in
+        let h = leb-true len (length s - size) t in
+        let c = length-take-le size s q in
+        let d = length-drop size s in
+        let b = length-take-le len (drop size s) (omega arith) in
+        stepOver-means es n tag s size len (record { control-part = rw (b, c) (control-take s tag len size e) }) p (omega arith)
+        (find es n tag) refl b
+    go false t = tt
+
+pub step-means : (es : List Entry) (n : ℕ) (s : List ℕ) → StepMeans es n s (step es n s)
+unfolding step
+step-means es n s = stepFrom-means es n s (control s) refl
+
+-- A whole and allowed field at the front of octets is what the step finds.
+found : (es : List Entry) (n tag : ℕ) (c b rest : List ℕ) → WholeField tag c b
+    → step es n (c ++ b ++ rest) ≡ stepOver (find es n tag) (length c) b
+unfolding step stepFrom
+found es n tag c b rest w =
+    let s = c ++ b ++ rest in
+    let a = append-assoc c b rest in
+    let k : control s ≡ Whole tag (length b) (length c) = rw a (control-append c (b ++ rest) tag (length b) (length c) (w .control-part)) in
+    let l : length s ≡ length c + length b + length rest = simp length-append (omega arith) in
+    let d : drop (length c) s ≡ b ++ rest = rw a (drop-at c (b ++ rest) (length c) refl) in
+    let f : leb (length b) (length s - length c) ≡ true = le-leb (length b) (length s - length c) (omega arith) in
+    rw (k, f, d, take-at b rest (length b) refl)
+
+pub step-of-leaf : (es : List Entry) (n : ℕ) (c b rest : List ℕ) → LeafField es n c b → step es n (c ++ b ++ rest) ≡ Over (length c) (length b)
+unfolding stepOver Contents
+step-of-leaf es n c b rest f = found es n (f .tag) c b rest (f .whole) ∙ go (find es n (f .tag)) (f .allowed)
+  where
+    passed : (t : Bool) → T t → cond t (Over (length c) (length b)) (Fault 7) ≡ Over (length c) (length b)
+    passed true h = refl
+    passed false h = absurd h
+    go : (k : Meaning) → Contents k b → stepOver k (length c) b ≡ Over (length c) (length b)
+    go Raw h = refl
+    go Uint h = rw (le-leb (length b) 8 h)
+    go Int h = rw (le-leb (length b) 8 h)
+    go String h = refl
+    go Text h = passed (text b) h
+    go (Message m) h = absurd h
+
+pub step-of-nested : (es : List Entry) (n m : ℕ) (c b rest : List ℕ) → NestedField es n m c b
+    → step es n (c ++ b ++ rest) ≡ Into m (length c) (length b)
+unfolding stepOver
+step-of-nested es n m c b rest f = found es n (f .tag) c b rest (f .whole) ∙ rw (f .allowed)
+
+pub step-of-end : (es : List Entry) (n : ℕ) → step es n [] ≡ Done
+unfolding step stepFrom
+step-of-end es n = rw control-nil
+
+-- The parts that a step's sizes name.
+pub record InThree (c b rest : List ℕ) : Type 0 where
+  pub first : take (length c) (c ++ b ++ rest) ≡ c
+  pub second : take (length b) (drop (length c) (c ++ b ++ rest)) ≡ b
+  pub third : drop (length c + length b) (c ++ b ++ rest) ≡ rest
+
+pub in-three : (c b rest : List ℕ) → InThree c b rest
+in-three c b rest =
+    let a = append-assoc c b rest in
+    record
+    { first = rw a (take-at c (b ++ rest) (length c) refl)
+    ; second = rw (a, drop-at c (b ++ rest) (length c) refl) (take-at b rest (length b) refl)
+    ; third = drop-at (c ++ b) rest (length c + length b) (length-append c b)
+    }
