@@ -22,10 +22,10 @@ module _ (es : List Entry) (room n : ℕ) (s : List ℕ) where
       → Good es (suc room) n s (leaf c b cut)
   unfolding joined Allowed depth
   good-leaf c b rest cut f e g =
-      record
-      { divides = ap (λ (r : List ℕ). c ++ b ++ r) (g .divides) ∙ sym e
-      ; allowed = (f, g .allowed)
-      ; shallow = g .shallow
+      record {
+        divides = ap (λ (r : List ℕ). c ++ b ++ r) (g .divides) ∙ sym e;
+        allowed = (f, g .allowed);
+        shallow = g .shallow;
       }
 
   good-nested : (m : ℕ) (c b rest : List ℕ) (inside cut : Cut) → NestedField es n m c b → s ≡ c ++ b ++ rest → Good es room m b inside
@@ -34,10 +34,10 @@ module _ (es : List Entry) (room n : ℕ) (s : List ℕ) where
   good-nested m c b rest inside cut f e i g =
       let p = i .shallow in
       let q = g .shallow in
-      record
-      { divides = ap₂ (λ (x y : List ℕ). c ++ x ++ y) (i .divides) (g .divides) ∙ sym e
-      ; allowed = ((m, subst (λ (x : List ℕ). NestedField es n m c x) (sym (i .divides)) f, i .allowed), g .allowed)
-      ; shallow = omega arith
+      record {
+        divides = ap₂ (λ (x y : List ℕ). c ++ x ++ y) (i .divides) (g .divides) ∙ sym e;
+        allowed = ((m, subst (λ (x : List ℕ). NestedField es n m c x) (sym (i .divides)) f, i .allowed), g .allowed);
+        shallow = omega arith;
       }
 
 -- Where nested messages are accepted only with a good cut, so are the fields of a message.
@@ -85,7 +85,7 @@ accepted-good es (suc room) n field at s cut e =
     fields-good es room (messageFrom es room) (accepted-good es room) n (suc (length s)) at s cut e
 
 -- A whole field takes an octet or more.
-field-size : (tag : ℕ) (c b : List ℕ) → WholeField tag c b → 1 ≤ length c
+pub field-size : (tag : ℕ) (c b : List ℕ) → WholeField tag c b → 1 ≤ length c
 field-size tag c b w = control-size c tag (length b) (length c) (w .control-part) .0
 
 -- Where nested messages with a good cut are accepted, so is a message of good fields.
@@ -114,7 +114,7 @@ module _ (es : List Entry) (room : ℕ) (inner : Inner)
       let p = in-three c b (joined cut) in
       rw (step-of-nested es n m c b (joined cut) (a .0 .1), p .first, p .second, p .third, q, r)
 
-depth-positive : (cut : Cut) → 1 ≤ depth cut
+pub depth-positive : (cut : Cut) → 1 ≤ depth cut
 unfolding depth
 depth-positive end = omega arith
 depth-positive (leaf c b cut) = depth-positive cut

@@ -41,20 +41,20 @@ lessened Raw b o h = record { no-shorter = no-shorter-self b; same-value = refl;
 lessened Uint b o h =
     let n = leastUint-no-shorter b o h in
     let k = n .long in
-    record
-    { no-shorter = n
-    ; same-value = ap Value.uint (number-leastUint (number b) (number-below-most b 8 o h))
-    ; contents = omega arith
-    ; octets = octets-leastUint (number b)
+    record {
+      no-shorter = n;
+      same-value = ap Value.uint (number-leastUint (number b) (number-below-most b 8 o h));
+      contents = omega arith;
+      octets = octets-leastUint (number b);
     }
 lessened Int b o h =
     let n = leastInt-no-shorter b o h in
     let k = n .long in
-    record
-    { no-shorter = n
-    ; same-value = ap Value.int (integer-leastInt (integer b) (integer-in-range b o h))
-    ; contents = omega arith
-    ; octets = octets-leastInt (integer b)
+    record {
+      no-shorter = n;
+      same-value = ap Value.int (integer-leastInt (integer b) (integer-in-range b o h));
+      contents = omega arith;
+      octets = octets-leastInt (integer b);
     }
 lessened String b o h = record { no-shorter = no-shorter-self b; same-value = refl; contents = tt; octets = o }
 lessened Text b o h = record { no-shorter = no-shorter-self b; same-value = refl; contents = h; octets = o }
@@ -74,16 +74,16 @@ refitted tag c b r o p w n =
     let h = n .long in
     let least = leastControl-least c tag (length b) (length r) o e h in
     let l = least .0 in
-    record
-    { whole = record { control-part = control-leastControl tag (length r) (k .0) (omega arith) }
-    ; no-shorter =
-        record
-        { long = simp length-append (omega arith)
-        ; same = λ s.
-            let f : length (leastControl tag (length r)) + length r ≡ length c + length b = simp length-append at s in
-            ap₂ (λ (x y : List ℕ). x ++ y) (least .1 (omega arith) (omega arith)) (n .same (omega arith))
-        }
-    ; octets = octets-append (leastControl tag (length r)) r (octets-leastControl tag (length r) (k .0) (omega arith)) p
+    record {
+      whole = record { control-part = control-leastControl tag (length r) (k .0) (omega arith) };
+      no-shorter =
+          record {
+            long = simp length-append (omega arith);
+            same = λ s.
+                let f : length (leastControl tag (length r)) + length r ≡ length c + length b = simp length-append at s in
+                ap₂ (λ (x y : List ℕ). x ++ y) (least .1 (omega arith) (omega arith)) (n .same (omega arith));
+          };
+      octets = octets-append (leastControl tag (length r)) r (octets-leastControl tag (length r) (k .0) (omega arith)) p;
     }
 
 -- The cut of a tree's shortest form.
@@ -121,13 +121,13 @@ module _ (es : List Entry) (n : ℕ) where
       let less = lessened k b ob (f .allowed) in
       let fit = refitted tag c b (leastContents (value k b)) oc (less .octets) (f .whole) (less .no-shorter) in
       let r = leastContents (value k b) in
-      record
-      { is = rw (tag-of-whole tag c b (f .whole), later .is)
-      ; allowed = (record { tag = tag; whole = fit .whole; allowed = less .contents }, later .allowed)
-      ; same-tree = rw (tag-of-whole tag (leastControl tag (length r)) r (fit .whole), less .same-value, later .same-tree)
-      ; same-depth = later .same-depth
-      ; no-shorter = no-shorter-append (field tag r) (c ++ b) (shortest t) (joined rest) (fit .no-shorter) (later .no-shorter)
-      ; octets = octets-append (field tag r) (shortest t) (fit .octets) (later .octets)
+      record {
+        is = rw (tag-of-whole tag c b (f .whole), later .is);
+        allowed = (record { tag = tag; whole = fit .whole; allowed = less .contents }, later .allowed);
+        same-tree = rw (tag-of-whole tag (leastControl tag (length r)) r (fit .whole), less .same-value, later .same-tree);
+        same-depth = later .same-depth;
+        no-shorter = no-shorter-append (field tag r) (c ++ b) (shortest t) (joined rest) (fit .no-shorter) (later .no-shorter);
+        octets = octets-append (field tag r) (shortest t) (fit .octets) (later .octets);
       }
 
   short-nested : (m : ℕ) (c : List ℕ) (inside rest : Cut) (u t : Tree) (f : NestedField es n m c (joined inside)) → Octets c → Short es m inside u
@@ -139,14 +139,14 @@ module _ (es : List Entry) (n : ℕ) where
       let b = joined inside in
       let fit = refitted tag c b r oc (inner .octets) (f .whole) (inner .no-shorter) in
       let w : WholeField tag (leastControl tag (length r)) (joined (cutOf u)) =
-          subst (λ (x : List ℕ). WholeField tag (leastControl tag (length r)) x) (sym (joined-cutOf u)) (fit .whole) in
-      record
-      { is = rw (tag-of-whole tag c b (f .whole), f .allowed, inner .is, later .is)
-      ; allowed = ((m, record { tag = tag; whole = w; allowed = f .allowed }, inner .allowed), later .allowed)
-      ; same-tree = rw (tag-of-whole tag (leastControl tag (length r)) r (fit .whole), f .allowed, inner .same-tree, later .same-tree)
-      ; same-depth = rw (inner .same-depth, later .same-depth)
-      ; no-shorter = no-shorter-append (field tag r) (c ++ b) (shortest t) (joined rest) (fit .no-shorter) (later .no-shorter)
-      ; octets = octets-append (field tag r) (shortest t) (fit .octets) (later .octets)
+      subst (λ (x : List ℕ). WholeField tag (leastControl tag (length r)) x) (sym (joined-cutOf u)) (fit .whole) in
+      record {
+        is = rw (tag-of-whole tag c b (f .whole), f .allowed, inner .is, later .is);
+        allowed = ((m, record { tag = tag; whole = w; allowed = f .allowed }, inner .allowed), later .allowed);
+        same-tree = rw (tag-of-whole tag (leastControl tag (length r)) r (fit .whole), f .allowed, inner .same-tree, later .same-tree);
+        same-depth = rw (inner .same-depth, later .same-depth);
+        no-shorter = no-shorter-append (field tag r) (c ++ b) (shortest t) (joined rest) (fit .no-shorter) (later .no-shorter);
+        octets = octets-append (field tag r) (shortest t) (fit .octets) (later .octets);
       }
 
 -- The tree of a cut of allowed fields has such a shortest form.
@@ -156,14 +156,14 @@ short es Cut.end n a o = unfold tree in short-end es n
 short es (Cut.leaf c b rest) n a o =
     let h = octets-before (c ++ b) (joined rest) o in
     let s = short-leaf es n c b rest (tree es n rest) (a .0) (octets-before c b h) (octets-after c b h)
-        (short es rest n (a .1) (octets-after (c ++ b) (joined rest) o)) in
+    (short es rest n (a .1) (octets-after (c ++ b) (joined rest) o)) in
     subst (Short es n (Cut.leaf c b rest)) (sym (s .is)) s
 short es (Cut.nested c inside rest) n a o =
     let h = octets-before (c ++ joined inside) (joined rest) o in
     let m = a .0 .0 in
     let s = short-nested es n m c inside rest (tree es m inside) (tree es n rest) (a .0 .1) (octets-before c (joined inside) h)
-        (short es inside m (a .0 .2) (octets-after c (joined inside) h))
-        (short es rest n (a .1) (octets-after (c ++ joined inside) (joined rest) o)) in
+    (short es inside m (a .0 .2) (octets-after c (joined inside) h))
+    (short es rest n (a .1) (octets-after (c ++ joined inside) (joined rest) o)) in
     subst (Short es n (Cut.nested c inside rest)) (sym (s .is)) s
 
 -- A message accepted with a cut, and its tree.
@@ -173,14 +173,15 @@ module _ (es : List Entry) (room n : ℕ) (s : List ℕ) (cut : Cut) (o : Octets
 
   -- The shortest form of a tree that octets read as has a good cut with that tree.
   pub shortest-good : (other : Cut) × Good es room n (shortest (tree es n cut)) other × (tree es n other ≡ tree es n cut)
-  shortest-good =
-      ( cutOf (tree es n cut)
-      , record
-      { divides = joined-cutOf (tree es n cut)
-      ; allowed = shortened .allowed
-      ; shallow = subst (λ (d : ℕ). d ≤ room) (sym (shortened .same-depth)) (g .shallow)
-      }
-      , shortened .same-tree )
+  shortest-good = (
+    cutOf (tree es n cut),
+    record {
+      divides = joined-cutOf (tree es n cut);
+      allowed = shortened .allowed;
+      shallow = subst (λ (d : ℕ). d ≤ room) (sym (shortened .same-depth)) (g .shallow);
+    },
+    shortened .same-tree,
+  )
 
   pub shortest-octets : Octets (shortest (tree es n cut))
   shortest-octets = shortened .octets

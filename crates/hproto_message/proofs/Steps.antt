@@ -100,6 +100,7 @@ step-of-leaf es n c b rest f = found es n (f .tag) c b rest (f .whole) ∙ go (f
     passed : (t : Bool) → T t → cond t (Over (length c) (length b)) (Fault 7) ≡ Over (length c) (length b)
     passed true h = refl
     passed false h = absurd h
+
     go : (k : Meaning) → Contents k b → stepOver k (length c) b ≡ Over (length c) (length b)
     go Raw h = refl
     go Uint h = rw (le-leb (length b) 8 h)
@@ -126,8 +127,8 @@ pub record InThree (c b rest : List ℕ) : Type 0 where
 pub in-three : (c b rest : List ℕ) → InThree c b rest
 in-three c b rest =
     let a = append-assoc c b rest in
-    record
-    { first = rw a (take-at c (b ++ rest) (length c) refl)
-    ; second = rw (a, drop-at c (b ++ rest) (length c) refl) (take-at b rest (length b) refl)
-    ; third = drop-at (c ++ b) rest (length c + length b) (length-append c b)
+    record {
+      first = rw a (take-at c (b ++ rest) (length c) refl);
+      second = rw (a, drop-at c (b ++ rest) (length c) refl) (take-at b rest (length b) refl);
+      third = drop-at (c ++ b) rest (length c + length b) (length-append c b);
     }

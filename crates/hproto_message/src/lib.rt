@@ -6,6 +6,13 @@
 pub enum Step {
     Done,
     Fault(u64),
-    Over { control: u64, contents: u64 },
-    Into { number: u64, control: u64, contents: u64 },
+    Over {
+        control: usize,
+        contents: usize,
+    },
+    Into {
+        number: u64,
+        control: usize,
+        contents: usize,
+    },
 }

@@ -1,0 +1,109 @@
+// The check of a message: its refusal, or the count of its fields and the depth of its deepest message.
+
+use hproto_message::Step;
+ghost use mathlib.Core.Path.{_≡_};
+ghost use mathlib.Core.List.{map};
+ghost use Prim.Native.Nat.{_+_, _≤_, max};
+ghost use lib.ListN.{length, take};
+ghost use Rattle.hproto_table.specs.Entry.{entry};
+ghost use Rattle.hproto_message.specs.Reading.{messageFrom};
+ghost use Rattle.hproto_check.specs.Walks.{walk as walk-of};
+
+// What a walk through a message comes to.
+pub enum Walk {
+    Accepted { fields: u64, depth: u64 },
+    Refused { number: u64, place: u64 },
+}
+
+// The check's answer: a refusal number (0 where the message is accepted), the place of the fault, and where it is accepted the count of
+// fields at all depths and the depth of the deepest message.
+pub struct Checked {
+    pub refusal: u64,
+    pub place: u64,
+    pub fields: u64,
+    pub depth: u64,
+}
+
+fn larger(a: u64, b: u64) -> u64
+    ensures { λ r. ⌜ r ≡ max a b ⌝ }
+{
+    if a < b { b } else { a }
+}
+
+// A message of a number whose octets start at a place, in a field at another place. `room` is how many messages deep it may be, itself
+// counted; a nested message has one less.
+fn message(
+    words: &[u64],
+    count: usize,
+    number: u64,
+    room: u64,
+    field: u64,
+    at: u64,
+    s: &[u8],
+) -> Walk
+    requires { ⌜ at + length (now s) ≤ 65536 ⌝ }
+    requires { ⌜ room ≤ 8 ⌝ }
+    ensures { λ r. ⌜ r ≡ walk-of (messageFrom (map entry (take count (now (words .entry)))) room number field at (now (s .entry))) ⌝ }
+{
+    if room == 0 {
+        return Walk::Refused {
+            number: 5,
+            place: field,
+        };
+    }
+    let mut i: usize = 0;
+    let mut fields: u64 = 0;
+    let mut depth: u64 = 1;
+    loop {
+        match hproto_field::step(words, count, number, &s[i..]) {
+            Step::Done => {
+                return Walk::Accepted { fields, depth };
+            }
+            Step::Fault(n) => {
+                return Walk::Refused {
+                    number: n,
+                    place: at + (i as u64),
+                };
+            }
+            Step::Over { control, contents } => {
+                i = i + control + contents;
+                fields = fields + 1;
+            }
+            Step::Into {
+                number: m,
+                control,
+                contents,
+            } => {
+                let a = i + control;
+                let e = a + contents;
+                match message(
+                    words,
+                    count,
+                    m,
+                    room - 1,
+                    at + (i as u64),
+                    at + (a as u64),
+                    &s[a..e],
+                ) {
+                    Walk::Accepted {
+                        fields: f,
+                        depth: d,
+                    } => {
+                        i = e;
+                        fields = fields + (1 + f);
+                        depth = larger(depth, d + 1);
+                    }
+                    Walk::Refused {
+                        number: n,
+                        place: p,
+                    } => {
+                        return Walk::Refused {
+                            number: n,
+                            place: p,
+                        };
+                    }
+                }
+            }
+        }
+    }
+}

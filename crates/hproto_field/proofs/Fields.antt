@@ -1,0 +1,38 @@
+-- What a step finds once the control part at the front is known.
+use Prim.Native.Nat.{ℕ, _+_, _-_, _≤_, _<_}
+use native.Mathlib.Omega.{arith}
+use mathlib.Core.Path.{_≡_, refl, sym}
+use mathlib.Core.List.{List}
+use lib.ListN.{length, take, drop}
+use borrow.Author.Tests.{le-leb, lt-leb}
+use Rattle.octets.specs.Control.{control}
+use Rattle.octets.specs.declared.Control.{Control}
+use Rattle.octets.specs.declared.Control.the-variants.{Absent, Partial, Whole}
+use Rattle.octets.proofs.ControlPart.{control-size}
+use Rattle.hproto_table.specs.Entry.{Entry, find}
+use Rattle.hproto_message.specs.Reading.{step, stepFrom, stepOver}
+use Rattle.hproto_message.specs.declared.Step.{Step}
+use Rattle.hproto_message.specs.declared.Step.the-variants.{Done, Fault}
+
+module _ (es : List Entry) (n : ℕ) (s : List ℕ) where
+  pub at-end : control s ≡ Absent → Done ≡ step es n s
+  unfolding step stepFrom
+  at-end e = rw e
+
+  pub in-control : control s ≡ Partial → Fault 3 ≡ step es n s
+  unfolding step stepFrom
+  in-control e = rw e
+
+  module _ (tag len size : ℕ) (e : control s ≡ Whole tag len size) where
+    pub size-inside : size ≤ length s
+    size-inside = control-size s tag len size e .1
+
+    pub past-end : length s - size < len → Fault 4 ≡ step es n s
+    unfolding step stepFrom
+    past-end h = rw (e, lt-leb len (length s - size) h)
+
+    pub whole-field : len ≤ length s - size → stepOver (find es n tag) size (take (size + len - size) (drop size s)) ≡ step es n s
+    unfolding step stepFrom
+    whole-field h =
+        let k : size + len - size ≡ len = omega arith in
+        rw (e, le-leb len (length s - size) h, k)

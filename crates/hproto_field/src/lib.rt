@@ -1,0 +1,89 @@
+// One step through a message: what stands at the front of octets.
+use hproto_message::Step;
+use hproto_table::Meaning;
+use octets::Control;
+ghost use mathlib.Core.Path.{_≡_};
+ghost use mathlib.Core.List.{map};
+ghost use mathlib.Core.Bool.{cond};
+ghost use lib.Dec.{leb};
+ghost use lib.ListN.{length, take};
+ghost use Rattle.octets.specs.Text.{text};
+ghost use Rattle.hproto_table.specs.Entry.{entry};
+ghost use Rattle.hproto_message.specs.Reading.{step as step-of, stepOver};
+
+// A field of kind uint or int, by the sizes of its control part and of its contents.
+fn number_field(size: usize, n: usize) -> Step
+    ensures { λ r. ⌜ r ≡ cond (leb n 8) (Step.Over size n) (Step.Fault 6) ⌝ }
+{
+    if n <= 8 {
+        Step::Over {
+            control: size,
+            contents: n,
+        }
+    } else {
+        Step::Fault(6)
+    }
+}
+
+// A field of kind text.
+fn text_field(size: usize, contents: &[u8]) -> Step
+    ensures { λ r. ⌜ r ≡ cond (text (now (contents .entry))) (Step.Over size (length (now (contents .entry)))) (Step.Fault 7) ⌝ }
+{
+    if octets_read::text(contents) {
+        Step::Over {
+            control: size,
+            contents: contents.len(),
+        }
+    } else {
+        Step::Fault(7)
+    }
+}
+
+// A field of a kind whose octets are all there, with the size of its control part.
+fn by_kind(kind: Meaning, size: usize, contents: &[u8]) -> Step
+    ensures { λ r. ⌜ r ≡ stepOver kind size (now (contents .entry)) ⌝ }
+{
+    let n = contents.len();
+    match kind {
+        Meaning::Raw => Step::Over {
+            control: size,
+            contents: n,
+        },
+        Meaning::Uint => number_field(size, n),
+        Meaning::Int => number_field(size, n),
+        Meaning::String => Step::Over {
+            control: size,
+            contents: n,
+        },
+        Meaning::Text => text_field(size, contents),
+        Meaning::Message(m) => Step::Into {
+            number: m,
+            control: size,
+            contents: n,
+        },
+    }
+}
+
+// The field at the front of octets in a message of a number, under the first words of a table. The announced length is compared with
+// what is left after the control part.
+pub fn step(words: &[u64], count: usize, number: u64, s: &[u8]) -> Step
+    ensures { λ r. ⌜ r ≡ step-of (map entry (take count (now (words .entry)))) number (now (s .entry)) ⌝ }
+{
+    match octets_read::control(s) {
+        Control::Absent => Step::Done,
+        Control::Partial => Step::Fault(3),
+        Control::Whole { tag, length, size } => {
+            let start = size as usize;
+            let left = (s.len() - start) as u64;
+            if left < length {
+                return Step::Fault(4);
+            }
+            let end = start + (length as usize);
+            by_kind(
+                hproto_find::find(words, count, number, tag),
+                start,
+                &s[start..end],
+            )
+        }
+    }
+}
