@@ -10,6 +10,7 @@ use Rattle.octets.specs.declared.Control.{Control}
 use Rattle.octets.specs.declared.Control.the-variants.{Absent, Partial, Whole}
 use Rattle.octets.proofs.ControlPart.{control-size}
 use Rattle.hproto_table.specs.Entry.{Entry, find}
+use Rattle.hproto_field.specs.Fronts.{nothing, frontFrom, front}
 use Rattle.hproto_message.specs.Reading.{step, stepFrom, stepOver}
 use Rattle.hproto_message.specs.declared.Step.{Step}
 use Rattle.hproto_message.specs.declared.Step.the-variants.{Done, Fault}
@@ -22,6 +23,14 @@ module _ (es : List Entry) (n : ℕ) (s : List ℕ) where
   pub in-control : control s ≡ Partial → Fault 3 ≡ step es n s
   unfolding step stepFrom
   in-control e = rw e
+
+  pub none-at-end : control s ≡ Absent → nothing ≡ front es n s
+  unfolding front frontFrom
+  none-at-end e = rw e
+
+  pub none-in-control : control s ≡ Partial → nothing ≡ front es n s
+  unfolding front frontFrom
+  none-in-control e = rw e
 
   module _ (tag len size : ℕ) (e : control s ≡ Whole tag len size) where
     pub size-inside : size ≤ length s
@@ -36,3 +45,11 @@ module _ (es : List Entry) (n : ℕ) (s : List ℕ) where
     whole-field h =
         let k : size + len - size ≡ len = omega arith in
         rw (e, le-leb len (length s - size) h, k)
+
+    pub none-past-end : length s - size < len → nothing ≡ front es n s
+    unfolding front frontFrom
+    none-past-end h = rw (e, lt-leb len (length s - size) h)
+
+    pub front-whole : len ≤ length s - size → front es n s ≡ record { tag = tag; kind = find es n tag; control = size; contents = len }
+    unfolding front frontFrom
+    front-whole h = rw (e, le-leb len (length s - size) h)

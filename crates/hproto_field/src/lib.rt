@@ -10,6 +10,15 @@ ghost use lib.ListN.{length, take};
 ghost use Rattle.octets.specs.Text.{text};
 ghost use Rattle.hproto_table.specs.Entry.{entry};
 ghost use Rattle.hproto_message.specs.Reading.{step as step-of, stepOver};
+ghost use Rattle.hproto_field.specs.Fronts.{front as front-of, nothing as nothing-of};
+
+// The tag, the kind and the sizes of the control part and of the contents of a whole field; zeros where there is none.
+pub struct Field {
+    pub tag: u64,
+    pub kind: Meaning,
+    pub control: usize,
+    pub contents: usize,
+}
 
 // A field of kind uint or int, by the sizes of its control part and of its contents.
 fn number_field(size: usize, n: usize) -> Step
@@ -84,6 +93,41 @@ pub fn step(words: &[u64], count: usize, number: u64, s: &[u8]) -> Step
                 start,
                 &s[start..end],
             )
+        }
+    }
+}
+
+fn nothing() -> Field
+    ensures { λ r. ⌜ r ≡ nothing-of ⌝ }
+{
+    Field {
+        tag: 0,
+        kind: Meaning::Raw,
+        control: 0,
+        contents: 0,
+    }
+}
+
+// The field at the front of octets, its contents unread.
+pub fn field_at(words: &[u64], count: usize, number: u64, s: &[u8]) -> Field
+    ensures { λ r. ⌜ r ≡ front-of (map entry (take count (now (words .entry)))) number (now (s .entry)) ⌝ }
+{
+    match octets_read::control(s) {
+        Control::Absent => nothing(),
+        Control::Partial => nothing(),
+        Control::Whole { tag, length, size } => {
+            let start = size as usize;
+            let left = (s.len() - start) as u64;
+            if left < length {
+                return nothing();
+            }
+            let kind = hproto_find::find(words, count, number, tag);
+            Field {
+                tag,
+                kind,
+                control: start,
+                contents: length as usize,
+            }
         }
     }
 }

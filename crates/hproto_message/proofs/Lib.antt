@@ -2,3 +2,4 @@ pub mod Samples
 pub mod Steps
 pub mod Accepted
 pub mod Shortened
+pub mod Next

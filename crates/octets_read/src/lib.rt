@@ -1,24 +1,241 @@
-// Reading octets: numbers, signed numbers, text and control parts. Each function answers what the definition of the same name gives.
+// Reading octets: numbers, signed numbers, text and control parts. Each public function takes every slice and answers what one
+// definition of octets says of it.
 use octets::Control;
+use octets::Signed;
+use octets::Unsigned;
 ghost use mathlib.Core.Path.{_≡_};
-ghost use Rattle.octets.specs.Number.{number as number-of};
+ghost use mathlib.Core.Bool.{cond};
+ghost use Prim.Native.Nat.{_<_, _≤_, _^_};
+ghost use lib.Dec.{ltb};
+ghost use lib.ListN.{length, drop};
+ghost use lib.IntN.{pos, negℤ};
+ghost use Rattle.octets.specs.Number.{number, unsigned};
+ghost use Rattle.octets.specs.Signed.{signed, lowest};
+ghost use Rattle.octets.specs.Text.{text as text-of, textAfter, followers};
+ghost use Rattle.octets.specs.Control.{control as control-of, controlOf, following, tagCode, lengthCode};
+ghost use Rattle.octets_read.specs.Lead.{orFour};
 
-// The big-endian number that at most eight octets hold.
-pub fn number(s: &[u8]) -> u64
-    ensures { λ r. ⌜ r ≡ number-of (now (s .entry)) ⌝ }
+// An octet as a number. As a function it spares each caller the proof that the octet fits.
+fn wide(x: u8) -> u64
+    ensures { λ r. ⌜ r ≡ x ⌝ }
+{
+    x as u64
+}
+
+// The number that a few octets hold. More than eight could hold one too large for the result.
+fn big_endian(s: &[u8]) -> u64
+    requires { ⌜ length (now s) ≤ 8 ⌝ }
+    ensures { λ r. ⌜ r ≡ number (now (s .entry)) ⌝ }
 {
     let mut v: u64 = 0;
     let mut i = 0;
     while i < s.len() {
-        v = v * 256 + (s[i] as u64);
+        v = v * 256 + wide(s[i]);
         i += 1;
     }
     v
 }
 
-pub fn control(s: &[u8]) -> Control {
+pub fn uint(s: &[u8]) -> Unsigned
+    ensures { λ r. ⌜ r ≡ unsigned (now (s .entry)) ⌝ }
+{
+    if s.len() <= 8 {
+        Unsigned::Value(big_endian(s))
+    } else {
+        Unsigned::Long
+    }
+}
+
+// Minus k. The step by one keeps each number on the way within range where k is the largest magnitude.
+fn minus(k: u64) -> i64
+    requires { ⌜ (0 < k) × (k ≤ 2 ^ 63) ⌝ }
+    ensures { λ r. ⌜ r ≡ negℤ (pos k) ⌝ }
+{
+    let d = (k - 1) as i64;
+    -1 - d
+}
+
+// The number whose sign bit stands alone in n octets.
+fn sign_bit(n: usize) -> u64
+    requires { ⌜ (0 < n) × (n ≤ 8) ⌝ }
+    ensures { λ r. ⌜ r ≡ lowest n ⌝ }
+{
+    1u64 << (8 * n - 1)
+}
+
+// With the sign set, no magnitude stands for the lowest number: there is no minus zero.
+pub fn int(s: &[u8]) -> Signed
+    ensures { λ r. ⌜ r ≡ signed (now (s .entry)) ⌝ }
+{
+    let n = s.len();
+    if n > 8 {
+        return Signed::Long;
+    }
+    if n == 0 {
+        return Signed::Value(0);
+    }
+    let v = big_endian(s);
+    if s[0] < 128 {
+        return Signed::Value(v as i64);
+    }
+    let low = sign_bit(n);
+    let m = v - low;
+    if m == 0 {
+        Signed::Value(minus(low))
+    } else {
+        Signed::Value(minus(m))
+    }
+}
+
+// How many octets follow a lead octet of text, 4 where an octet is no lead.
+fn lead(x: u8) -> u8
+    ensures { λ r. ⌜ r ≡ orFour (followers x) ⌝ }
+{
+    if x < 0x80 {
+        return 0;
+    }
+    if x < 0xc0 {
+        return 4;
+    }
+    if x < 0xe0 {
+        return 1;
+    }
+    if x < 0xf0 {
+        return 2;
+    }
+    if x < 0xf8 {
+        return 3;
+    }
+    4
+}
+
+// A number of octets at the front that all stand alone, eight at once. In most texts every octet does, and one by one takes longer.
+fn plain_front(s: &[u8]) -> usize
+    ensures { λ r. ⌜ r ≤ length (now (s .entry)) ⌝ }
+    ensures { λ r. ⌜ text-of (now (s .entry)) ≡ textAfter 0 (drop r (now (s .entry))) ⌝ }
+{
+    let mut i = 0;
+    while 8 <= s.len() - i {
+        let a = s[i] | s[i + 1] | s[i + 2] | s[i + 3];
+        let b = s[i + 4] | s[i + 5] | s[i + 6] | s[i + 7];
+        if 0x80 <= (a | b) {
+            return i;
+        }
+        i += 8;
+    }
+    i
+}
+
+// `left` octets of the group that was begun are still to come.
+pub fn text(s: &[u8]) -> bool
+    ensures { λ r. ⌜ r ≡ text-of (now (s .entry)) ⌝ }
+{
+    let mut left: u8 = 0;
+    let mut i = plain_front(s);
+    while i < s.len() {
+        let x = s[i];
+        if left == 0 {
+            if x < 0x80 {
+                i += 1;
+            } else {
+                let n = lead(x);
+                if n == 4 {
+                    return false;
+                }
+                left = n;
+                i += 1;
+            }
+        } else {
+            if x < 0x80 {
+                return false;
+            }
+            if 0xc0 <= x {
+                return false;
+            }
+            left -= 1;
+            i += 1;
+        }
+    }
+    left == 0
+}
+
+// How many octets of a tag follow its lead.
+fn tag_width(t: u64) -> usize
+    requires { ⌜ t < 16 ⌝ }
+    ensures { λ r. ⌜ r ≡ following tagCode t ⌝ }
+    ensures { λ r. ⌜ r ≤ 8 ⌝ }
+{
+    if t < 14 {
+        return 0;
+    }
+    if t == 14 {
+        return 1;
+    }
+    2
+}
+
+// How many octets of a length follow its lead.
+fn length_width(l: u64) -> usize
+    requires { ⌜ l < 16 ⌝ }
+    ensures { λ r. ⌜ r ≡ following lengthCode l ⌝ }
+    ensures { λ r. ⌜ r ≤ 8 ⌝ }
+{
+    if l < 12 {
+        return 0;
+    }
+    if l == 12 {
+        return 1;
+    }
+    if l == 13 {
+        return 2;
+    }
+    if l == 14 {
+        return 4;
+    }
+    8
+}
+
+// The number that a lead and the octets after it stand for.
+fn value(lead: u64, direct: u64, s: &[u8]) -> u64
+    requires { ⌜ length (now s) ≤ 8 ⌝ }
+    ensures { λ r. ⌜ r ≡ cond (ltb lead direct) lead (number (now (s .entry))) ⌝ }
+{
+    if lead < direct { lead } else { big_endian(s) }
+}
+
+// A control part of which the octets after the first are given.
+fn after_leads(t: u64, l: u64, s: &[u8]) -> Control
+    requires { ⌜ (t < 16) × (l < 16) ⌝ }
+    ensures { λ r. ⌜ r ≡ controlOf t l (now (s .entry)) ⌝ }
+{
+    let n = tag_width(t);
+    let e = n + length_width(l);
+    if s.len() < e {
+        return Control::Partial;
+    }
+    Control::Whole {
+        tag: value(t, 14, &s[0..n]),
+        length: value(l, 12, &s[n..e]),
+        size: 1 + (e as u64),
+    }
+}
+
+// Most control parts are one octet, so that case is tested first.
+pub fn control(s: &[u8]) -> Control
+    ensures { λ r. ⌜ r ≡ control-of (now (s .entry)) ⌝ }
+{
     if s.len() == 0 {
         return Control::Absent;
     }
-    Control::Partial
+    let c = s[0];
+    let t = wide(c >> 4);
+    let l = wide(c & 15);
+    if t < 14 && l < 12 {
+        return Control::Whole {
+            tag: t,
+            length: l,
+            size: 1,
+        };
+    }
+    after_leads(t, l, &s[1..])
 }

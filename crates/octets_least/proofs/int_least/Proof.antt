@@ -1,0 +1,49 @@
+-- `octets_least::int_least` meets its contract.
+use mathlib.Core.Path.{_≡_, sym, ap, _∙_}
+use lib.IntN.{negsuc}
+use mir.Syntax.{w64}
+use mir.ValLaws.{toZ-ofZ}
+use Rattle.octets.specs.Signed.{intLeast}
+use Rattle.octets_least.proofs.Signs.{from-zero, above-is}
+use borrow.Author.Needs.{needs}
+use Rattle.octets_least.proofs.int_least.Statement.{statement}
+use Rattle.octets_least.proofs.int_least.Tie as tie
+
+-- what the machine reads back from the bits of z is z
+under : (c : tie.After-under-zero) → c .before .before .args .z ≡ negsuc (c .under-zero .result)
+under c = sym (toZ-ofZ w64 (c .before .before .args .z) (c .before .before .fits .z)) ∙ c .under-zero .ensures
+
+under-zero-requires : tie.Need-under-zero-requires
+under-zero-requires c κs = search needs
+
+least-below-requires : tie.Need-least-below-requires
+least-below-requires c κs = (rw (under c) at (c .before .before .fits .z)) .sfits
+
+returns : tie.Need-returns
+returns c = c .least-below .ensures ∙ ap intLeast (sym (under (c .before)))
+
+cast-v : tie.Need-cast-v
+cast-v c = from-zero (c .before .args .z) (c .before .fits .z) (c .if1 .left) .cast
+
+mul-width : tie.Need-mul-width
+mul-width c = record { fits = from-zero (c .before .args .z) (c .before .fits .z) (c .if1 .left) .twice }
+
+width-requires : tie.Need-width-requires
+width-requires c κs = search needs
+
+returns-2 : tie.Need-returns-2
+returns-2 c =
+    above-is (c .before .before .args .z) _ _ (from-zero (c .before .before .args .z) (c .before .before .fits .z) (c .before .if1 .left) .same)
+    (c .width .ensures)
+
+pub int-least-spec : {M : Type 1} → statement M
+int-least-spec =
+    tie.close
+    (tie.spec
+    under-zero-requires
+    least-below-requires
+    returns
+    cast-v
+    mul-width
+    width-requires
+    returns-2)

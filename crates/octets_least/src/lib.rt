@@ -1,0 +1,169 @@
+// Least forms: how few octets hold a number, a signed number or a control part, and what they are.
+use octets::Least;
+use octets::LeastControl;
+ghost use mathlib.Core.Path.{_≡_};
+ghost use Prim.Native.Nat.{_<_, _≤_, _^_};
+ghost use lib.IntN.{pos, negsuc};
+ghost use lib.Signed.{_<ℤ_};
+ghost use Rattle.octets.specs.Number.{uintLeast, width as width-of};
+ghost use Rattle.octets.specs.Signed.{intLeast, lowest};
+ghost use Rattle.octets.specs.Control.{controlLeast, tagCode, lengthCode};
+ghost use Rattle.octets_least.specs.Lead.{LeastLead};
+
+// How many octets a number needs.
+fn width(v: u64) -> u64
+    ensures { λ r. ⌜ r ≡ width-of v ⌝ }
+{
+    if v < 1 {
+        return 0;
+    }
+    if v < 0x100 {
+        return 1;
+    }
+    if v < 0x1_0000 {
+        return 2;
+    }
+    if v < 0x100_0000 {
+        return 3;
+    }
+    if v < 0x1_0000_0000 {
+        return 4;
+    }
+    if v < 0x100_0000_0000 {
+        return 5;
+    }
+    if v < 0x1_0000_0000_0000 {
+        return 6;
+    }
+    if v < 0x100_0000_0000_0000 {
+        return 7;
+    }
+    8
+}
+
+pub fn uint_least(v: u64) -> Least
+    ensures { λ r. ⌜ r ≡ uintLeast v ⌝ }
+{
+    Least {
+        width: width(v),
+        bits: v,
+    }
+}
+
+// The number whose sign bit stands alone in n octets.
+fn sign_bit(n: u64) -> u64
+    requires { ⌜ (0 < n) × (n ≤ 8) ⌝ }
+    ensures { λ r. ⌜ r ≡ lowest n ⌝ }
+{
+    1u64 << (8 * n - 1)
+}
+
+// One less than the magnitude of a number below zero. Unlike the magnitude it is in range for each of them.
+fn under_zero(z: i64) -> u64
+    requires { ⌜ z <ℤ pos 0 ⌝ }
+    ensures { λ r. ⌜ z ≡ negsuc r ⌝ }
+{
+    (-1 - z) as u64
+}
+
+// The least octets of the number below zero whose magnitude is k + 1. The mask drops the magnitude where it is the sign bit itself.
+fn least_below(k: u64) -> Least
+    requires { ⌜ k < 2 ^ 63 ⌝ }
+    ensures { λ r. ⌜ r ≡ intLeast (negsuc k) ⌝ }
+{
+    let n = width(2 * k + 1);
+    let low = sign_bit(n);
+    Least {
+        width: n,
+        bits: low + ((k + 1) & (low - 1)),
+    }
+}
+
+pub fn int_least(z: i64) -> Least
+    ensures { λ r. ⌜ r ≡ intLeast z ⌝ }
+{
+    if z < 0 {
+        return least_below(under_zero(z));
+    }
+    let v = z as u64;
+    Least {
+        width: width(2 * v),
+        bits: v,
+    }
+}
+
+// A lead, and how many octets follow it.
+struct Lead {
+    octet: u8,
+    width: u64,
+}
+
+// The least form of a tag.
+fn tag_lead(tag: u16) -> Lead
+    ensures { λ r. ⌜ LeastLead tagCode tag (r .octet) (r .width) ⌝ }
+{
+    if tag < 14 {
+        return Lead {
+            octet: tag as u8,
+            width: 0,
+        };
+    }
+    if tag < 0x100 {
+        return Lead {
+            octet: 14,
+            width: 1,
+        };
+    }
+    Lead {
+        octet: 15,
+        width: 2,
+    }
+}
+
+// The least form of a length.
+fn length_lead(length: u64) -> Lead
+    ensures { λ r. ⌜ LeastLead lengthCode length (r .octet) (r .width) ⌝ }
+{
+    if length < 12 {
+        return Lead {
+            octet: length as u8,
+            width: 0,
+        };
+    }
+    if length < 0x100 {
+        return Lead {
+            octet: 12,
+            width: 1,
+        };
+    }
+    if length < 0x1_0000 {
+        return Lead {
+            octet: 13,
+            width: 2,
+        };
+    }
+    if length < 0x1_0000_0000 {
+        return Lead {
+            octet: 14,
+            width: 4,
+        };
+    }
+    Lead {
+        octet: 15,
+        width: 8,
+    }
+}
+
+pub fn control_least(tag: u16, length: u64) -> LeastControl
+    ensures { λ r. ⌜ r ≡ controlLeast tag length ⌝ }
+{
+    let t = tag_lead(tag);
+    let l = length_lead(length);
+    let high = t.octet;
+    let low = l.octet;
+    LeastControl {
+        octet: (high << 4) + low,
+        tag_width: t.width,
+        length_width: l.width,
+    }
+}

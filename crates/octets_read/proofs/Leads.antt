@@ -1,0 +1,60 @@
+-- Laws for reading a control part.
+use Prim.Native.Nat.{ℕ, _+_, _-_, _/_, _%_, _≤_, _<_}
+use native.Mathlib.Nat.{add-assoc}
+use native.Mathlib.Omega.{arith}
+use mathlib.Core.Path.{_≡_, refl, sym, ap, _∙_}
+use mathlib.Core.Bool.{cond}
+use mathlib.Core.List.{List, [], _∷_}
+use lib.Dec.{ltb}
+use lib.Bits.{bitAnd, and-mask, mask-lt}
+use lib.ListN.{length, getD, take, drop, length-drop}
+use lib.Seq.{take-all}
+use borrow.Author.Tests.{lt-ltb, le-ltb}
+use Rattle.octets.specs.Number.{number}
+use Rattle.octets.specs.Control.{Code, tagCode, lengthCode, following, coded, controlOf, control}
+use Rattle.octets.specs.declared.Control.the-variants.{Absent, Partial, Whole}
+
+-- No octets follow a lead that is the number itself.
+pub direct : (code : Code) (t : ℕ) → t < code .direct → 0 ≡ following code t
+unfolding following
+direct code t h = rw (lt-ltb t (code .direct) h)
+
+pub marked : (code : Code) (t k : ℕ) → t ≡ k → following code k ≡ following code t
+marked code t k e = ap (following code) (sym e)
+
+pub control-none : (s : List ℕ) → length s ≡ 0 → Absent ≡ control s
+unfolding control
+control-none [] h = refl
+control-none (x ∷ s) h = absurd (omega arith)
+
+control-some : (s : List ℕ) → 0 < length s → controlOf (getD s 0 0 / 16) (getD s 0 0 % 16) (drop 1 s) ≡ control s
+unfolding control
+control-some [] h = absurd (omega arith)
+control-some (x ∷ s) h = refl
+
+-- The two nybbles of the first octet by shift and mask, and the octets after it.
+pub control-split : (s : List ℕ) (t l : ℕ) → 0 < length s → t ≡ getD s 0 0 / 16 → l ≡ bitAnd (getD s 0 0) 15
+    → controlOf t l (take (length s - 1) (drop 1 s)) ≡ control s
+control-split s t l h p q =
+    rw (p, q ∙ and-mask (getD s 0 0) 4, take-all (length s - 1) (drop 1 s) (rw (length-drop 1 s) (omega arith))) (control-some s h)
+
+pub nybbles : (x t l : ℕ) → x < 256 → t ≡ x / 16 → l ≡ bitAnd x 15 → (t < 16) × (l < 16)
+nybbles x t l h p q = let m = mask-lt x 4 in (omega arith, omega arith)
+
+-- A control part of one octet.
+pub whole-direct : (t l : ℕ) (s : List ℕ) → t < 14 → l < 12 → Whole t l 1 ≡ controlOf t l s
+unfolding controlOf following coded
+whole-direct t l s a b = rw (lt-ltb t 14 a, lt-ltb l 12 b, le-ltb (length s) 0 (omega arith))
+
+module _ (t l n m : ℕ) (s : List ℕ) (e : n ≡ following tagCode t) (f : m ≡ following lengthCode l) where
+  pub partial : length s < n + m → Partial ≡ controlOf t l s
+  unfolding controlOf
+  partial h = rw (← e, ← f, lt-ltb (length s) (n + m) h)
+
+  pub whole : (a b : ℕ) → n + m ≤ length s → a ≡ cond (ltb t 14) t (number (take (n - 0) (drop 0 s)))
+      → b ≡ cond (ltb l 12) l (number (take (n + m - n) (drop n s))) → Whole a b (1 + (n + m)) ≡ controlOf t l s
+  unfolding controlOf coded
+  whole a b h p q =
+      let y : n - 0 ≡ n = omega arith in
+      let z : n + m - n ≡ m = omega arith in
+      rw (← e, ← f, le-ltb (length s) (n + m) h, add-assoc 1 n m, p, q, y, z)
