@@ -55,13 +55,13 @@ module _ (es : List Entry) (room n : ℕ) where
   leaf-at c b rest f a d =
       let p = in-three c b (joined rest) in
       let k = control-size c (f .tag) (length b) (length c) (f .whole .control-part) in
-      record
-      { rest = rest
-      ; good = record { divides = sym (p .third); allowed = a; shallow = d }
-      ; tree-is = rw (f .whole .control-part, p .second)
-      ; contents = rw (p .second) (f .allowed)
-      ; positive = k .0
-      ; inside = simp length-append (omega arith)
+      record {
+        rest = rest;
+        good = record { divides = sym (p .third); allowed = a; shallow = d };
+        tree-is = rw (f .whole .control-part, p .second);
+        contents = rw (p .second) (f .allowed);
+        positive = k .0;
+        inside = simp length-append (omega arith);
       }
 
   nested-at : (m : ℕ) (c : List ℕ) (inner rest : Cut) (f : NestedField es n m c (joined inner)) → Allowed es m inner → Allowed es n rest
@@ -71,14 +71,14 @@ module _ (es : List Entry) (room n : ℕ) where
   nested-at m c inner rest f i a e d =
       let p = in-three c (joined inner) (joined rest) in
       let k = control-size c (f .tag) (length (joined inner)) (length c) (f .whole .control-part) in
-      record
-      { inner = inner
-      ; rest = rest
-      ; good-inner = record { divides = sym (p .second); allowed = i; shallow = e }
-      ; good = record { divides = sym (p .third); allowed = a; shallow = d }
-      ; tree-is = rw (f .whole .control-part, f .allowed)
-      ; positive = k .0
-      ; inside = simp length-append (omega arith)
+      record {
+        inner = inner;
+        rest = rest;
+        good-inner = record { divides = sym (p .second); allowed = i; shallow = e };
+        good = record { divides = sym (p .third); allowed = a; shallow = d };
+        tree-is = rw (f .whole .control-part, f .allowed);
+        positive = k .0;
+        inside = simp length-append (omega arith);
       }
 
   module _ (tag len size : ℕ) where
@@ -125,3 +125,52 @@ module _ (es : List Entry) (room n : ℕ) where
       next-nested m q =
           subst (λ (x : List ℕ). NextNested es room n m x cut tag len size) (g .divides)
           (nested-of m cut (g .allowed) (g .shallow) q (ap control (g .divides) ∙ e))
+
+-- Octets with a good cut are at their end, or a whole field stands at their front.
+pub record Fronted (s : List ℕ) : Type 0 where
+  pub tag : ℕ
+  pub len : ℕ
+  pub size : ℕ
+  pub control-part : control s ≡ Whole tag len size
+  pub inside : size + len ≤ length s
+
+fronted-of : (es : List Entry) (n : ℕ) (cut : Cut) → Allowed es n cut → 1 ≤ length (joined cut) → Fronted (joined cut)
+unfolding joined Allowed
+fronted-of es n Cut.end a h = absurd (omega arith)
+fronted-of es n (Cut.leaf c b rest) a h =
+    record {
+      tag = a .0 .tag;
+      len = length b;
+      size = length c;
+      control-part = field-control (a .0 .tag) c b (joined rest) (a .0 .whole);
+      inside = simp length-append (omega arith);
+    }
+fronted-of es n (Cut.nested c inner rest) a h =
+    record {
+      tag = a .0 .1 .tag;
+      len = length (joined inner);
+      size = length c;
+      control-part = field-control (a .0 .1 .tag) c (joined inner) (joined rest) (a .0 .1 .whole);
+      inside = simp length-append (omega arith);
+    }
+
+pub fronted : (es : List Entry) (room n : ℕ) (s : List ℕ) (cut : Cut) → Good es room n s cut → 1 ≤ length s → Fronted s
+fronted es room n s cut g h =
+    subst Fronted (g .divides) (fronted-of es n cut (g .allowed) (subst (λ (x : List ℕ). 1 ≤ length x) (sym (g .divides)) h))
+
+-- The only good cut of no octets has no fields.
+pub nothing-left : (es : List Entry) (room n : ℕ) (s : List ℕ) (cut : Cut) → Good es room n s cut → length s ≡ 0 → cut ≡ Cut.end
+unfolding joined Allowed
+nothing-left es room n s cut g h = go cut (g .allowed) (ap length (g .divides) ∙ h)
+  where
+    go : (cut : Cut) → Allowed es n cut → length (joined cut) ≡ 0 → cut ≡ Cut.end
+    go Cut.end a e = refl
+    go (Cut.leaf c b rest) a e =
+        let k = control-size c (a .0 .tag) (length b) (length c) (a .0 .whole .control-part) .0 in
+        let l : length (c ++ b ++ joined rest) ≡ length c + length b + length (joined rest) = simp length-append (omega arith) in
+        absurd (omega arith)
+    go (Cut.nested c inner rest) a e =
+        let k = control-size c (a .0 .1 .tag) (length (joined inner)) (length c) (a .0 .1 .whole .control-part) .0 in
+        let l : length (c ++ joined inner ++ joined rest) ≡ length c + length (joined inner) + length (joined rest) =
+        simp length-append (omega arith) in
+        absurd (omega arith)

@@ -186,6 +186,9 @@ module _ (es : List Entry) (room n : ℕ) (s : List ℕ) (cut : Cut) (o : Octets
   pub shortest-octets : Octets (shortest (tree es n cut))
   shortest-octets = shortened .octets
 
+  pub shortest-no-longer : length (shortest (tree es n cut)) ≤ length s
+  shortest-no-longer = subst (λ (x : List ℕ). length (shortest (tree es n cut)) ≤ length x) (g .divides) (shortened .no-shorter .long)
+
   -- All other octets, of any length, with a good cut and the same tree are more than the shortest form.
   pub others-longer : (shortest (tree es n cut) ≡ s → ⊥) → length (shortest (tree es n cut)) < length s
   others-longer ne =

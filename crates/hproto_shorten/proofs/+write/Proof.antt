@@ -1,0 +1,258 @@
+use Prim.Native.Nat.{ℕ, suc, _+_, _-_, _%_, _≤_, _<_}
+use native.Mathlib.Omega.{arith}
+use borrow.Author.Needs.{needs}
+use mathlib.Core.Path.{_≡_, refl, sym, ap, _∙_, subst}
+use mathlib.Core.List.{List, map}
+use denote.Ref.{now}
+use lib.ListN.{length, take, drop, length-drop}
+use lib.Seq.{take-all}
+use Rattle.octets.specs.Number.{Octets}
+use Rattle.hproto_table.specs.Entry.{Entry, entry}
+use Rattle.hproto_field.specs.Fronts.{front}
+use Rattle.hproto_shorten.specs.Written.{short, Accepts, Put}
+use Rattle.hproto_shorten.proofs.Passing.{plain-of, message-of, octets-part, leaf-contents}
+use Rattle.hproto_shorten.proofs.Writing.{Progress, begun, ended, same-length, accepts-room, next-onward, leaf-fits, leaf-written, nested-accepts, nested-fits, inner-after, wrap-fits, nested-written}
+use borrow.Fn.Kinds.{In}
+use borrow.Fn.PlainCycle.{Measures, is, falls, and}
+use Rattle.hproto_shorten.proofs.write.Reads as write
+use Rattle.hproto_shorten.proofs.write.Kinds as write-kinds
+use Rattle.hproto_shorten.proofs.+write.Lts-write as write-lts
+use Rattle.hproto_field.proofs.field_at.Reads as field-at-reads
+use Rattle.hproto_shorten.proofs.held.Reads as held-reads
+use Rattle.hproto_shorten.proofs.put_value.Reads as put-value-reads
+use Rattle.hproto_shorten.proofs.wrap.Reads as wrap-reads
+use Rattle.hproto_shorten.proofs.+write.{statement}
+use Rattle.hproto_shorten.proofs.+write.Tie.{close}
+
+abbrev μ-write : Measures 3 write-kinds.ps ℕ
+μ-write κs a = a .1 .1 .1 .0
+
+abbrev write-at : ℕ → In 3 write-kinds.ps
+write-at t = and 3 write-kinds.ps (is 3 write-kinds.ps μ-write t) write.Pre
+
+abbrev write-below : ℕ → In 3 write-kinds.ps
+write-below t = and 3 write-kinds.ps (falls 3 write-kinds.ps _<_ μ-write t) write.Pre
+
+abbrev write-Inv-loop : write-lts.InvT-loop
+write-Inv-loop words count number room s out₀ to i₀ end₀ out i end = Progress (map entry (take count words)) (room - 1) number s out₀ to i end out
+
+abbrev write-μ-loop : write-lts.MeasureT-loop
+write-μ-loop words count number room s out₀ to i₀ end₀ out i end = length s - i
+
+-- The place after the field at the front of the octets that are left was found.
+abbrev Found : ℕ → Type 0
+Found t = write-lts.After-field-at (field-at-reads.Asked, field-at-reads.Learnt, held-reads.Asked, held-reads.Learnt, put-value-reads.Asked, put-value-reads.Learnt, write-below t, write.Post, wrap-reads.Asked, wrap-reads.Learnt) (write-at t) write.Post write-Inv-loop write-μ-loop
+
+abbrev At-start : ℕ → Type 0
+At-start t = write-lts.Start (field-at-reads.Asked, field-at-reads.Learnt, held-reads.Asked, held-reads.Learnt, put-value-reads.Asked, put-value-reads.Learnt, write-below t, write.Post, wrap-reads.Asked, wrap-reads.Learnt) (write-at t) write.Post write-Inv-loop write-μ-loop
+
+module _ (t : ℕ) (b : At-start t) where
+  abbrev es : List Entry
+  es = map entry (take (b .args .count) (now (b .args .words)))
+
+  abbrev octets : Octets (now (b .args .s))
+  octets = b .pre .1 .0
+
+  room-is : suc (b .args .room - 1) ≡ b .args .room
+  room-is = accepts-room es (b .args .room) (b .args .number) (now (b .args .s)) (b .pre .1 .1 .0)
+
+  accepts : Accepts es (suc (b .args .room - 1)) (b .args .number) (now (b .args .s))
+  accepts = subst (λ (r : ℕ). Accepts es r (b .args .number) (now (b .args .s))) (sym room-is) (b .pre .1 .1 .0)
+
+  fits : b .args .to + length (short es (suc (b .args .room - 1)) (b .args .number) (now (b .args .s))) ≤ length (now (b .args .out))
+  fits = rw room-is (b .pre .1 .1 .1)
+
+module _ (t : ℕ) (c : Found t) where
+  abbrev b : At-start t
+  b = c .before .before .before .before .before .before .before
+
+  abbrev i : ℕ
+  i = c .before .before .before .loop .i
+
+  abbrev state : Progress (es t b) (b .args .room - 1) (b .args .number) (now (b .args .s)) (now (b .args .out)) (b .args .to) i (c .before .before .before .loop .end) (c .before .before .before .loop .out)
+  state = c .before .before .before .loop .inv
+
+  abbrev more : i < length (now (b .args .s))
+  more = c .before .before .loop-test .taken
+
+  found : c .field-at .result ≡ front (es t b) (b .args .number) (drop i (now (b .args .s)))
+  found = let h = more in c .field-at .ensures ∙ rw (take-all (length (now (b .args .s)) - i) (drop i (now (b .args .s))) (simp length-drop (omega arith)))
+
+-- src/lib.rt:140:5
+write-loop-holds : (t : ℕ) → write-lts.Need-loop-holds (field-at-reads.Asked, field-at-reads.Learnt, held-reads.Asked, held-reads.Learnt, put-value-reads.Asked, put-value-reads.Learnt, write-below t, write.Post, wrap-reads.Asked, wrap-reads.Learnt) (write-at t) write.Post write-Inv-loop write-μ-loop
+write-loop-holds t c =
+    let s = c .before .before .before in
+    begun (es t s) (s .args .room - 1) (s .args .number) (now (s .args .s)) (now (s .args .out)) (s .args .to) (accepts t s)
+
+-- src/lib.rt:141:62
+write-sub-field-at : (t : ℕ) → write-lts.Need-sub-field-at (field-at-reads.Asked, field-at-reads.Learnt, held-reads.Asked, held-reads.Learnt, put-value-reads.Asked, put-value-reads.Learnt, write-below t, write.Post, wrap-reads.Asked, wrap-reads.Learnt) (write-at t) write.Post write-Inv-loop write-μ-loop
+write-sub-field-at t c = search needs
+
+-- src/lib.rt:141:62
+write-part-field-at-start : (t : ℕ) → write-lts.Need-part-field-at-start (field-at-reads.Asked, field-at-reads.Learnt, held-reads.Asked, held-reads.Learnt, put-value-reads.Asked, put-value-reads.Learnt, write-below t, write.Post, wrap-reads.Asked, wrap-reads.Learnt) (write-at t) write.Post write-Inv-loop write-μ-loop
+write-part-field-at-start t c = search needs
+
+-- src/lib.rt:141:62
+write-part-field-at-end : (t : ℕ) → write-lts.Need-part-field-at-end (field-at-reads.Asked, field-at-reads.Learnt, held-reads.Asked, held-reads.Learnt, put-value-reads.Asked, put-value-reads.Learnt, write-below t, write.Post, wrap-reads.Asked, wrap-reads.Learnt) (write-at t) write.Post write-Inv-loop write-μ-loop
+write-part-field-at-end t c = search needs
+
+-- src/lib.rt:141:13
+write-field-at-requires : (t : ℕ) → write-lts.Need-field-at-requires (field-at-reads.Asked, field-at-reads.Learnt, held-reads.Asked, held-reads.Learnt, put-value-reads.Asked, put-value-reads.Learnt, write-below t, write.Post, wrap-reads.Asked, wrap-reads.Learnt) (write-at t) write.Post write-Inv-loop write-μ-loop
+write-field-at-requires t c κs = search needs
+
+-- src/lib.rt:143:17
+write-add-a : (t : ℕ) → write-lts.Need-add-a (field-at-reads.Asked, field-at-reads.Learnt, held-reads.Asked, held-reads.Learnt, put-value-reads.Asked, put-value-reads.Learnt, write-below t, write.Post, wrap-reads.Asked, wrap-reads.Learnt) (write-at t) write.Post write-Inv-loop write-μ-loop
+write-add-a t c = let f = c .before in let h = next-onward (es t (b t f)) (b t f .args .room - 1) (b t f .args .number) (now (b t f .args .s)) (now (b t f .args .out)) (b t f .args .to) (fits t (b t f)) (i t f) (f .before .before .before .loop .end) (f .before .before .before .loop .out) (state t f) (more t f) (octets t (b t f)) (f .field-at .result) (found t f) .1 in let g = b t f .good in omega arith
+
+-- src/lib.rt:144:17
+write-add-e : (t : ℕ) → write-lts.Need-add-e (field-at-reads.Asked, field-at-reads.Learnt, held-reads.Asked, held-reads.Learnt, put-value-reads.Asked, put-value-reads.Learnt, write-below t, write.Post, wrap-reads.Asked, wrap-reads.Learnt) (write-at t) write.Post write-Inv-loop write-μ-loop
+write-add-e t c = let f = c .before .before in let h = next-onward (es t (b t f)) (b t f .args .room - 1) (b t f .args .number) (now (b t f .args .s)) (now (b t f .args .out)) (b t f .args .to) (fits t (b t f)) (i t f) (f .before .before .before .loop .end) (f .before .before .before .loop .out) (state t f) (more t f) (octets t (b t f)) (f .field-at .result) (found t f) .1 in let g = b t f .good in omega arith
+
+-- src/lib.rt:145:19
+write-cast-tag : (t : ℕ) → write-lts.Need-cast-tag (field-at-reads.Asked, field-at-reads.Learnt, held-reads.Asked, held-reads.Learnt, put-value-reads.Asked, put-value-reads.Learnt, write-below t, write.Post, wrap-reads.Asked, wrap-reads.Learnt) (write-at t) write.Post write-Inv-loop write-μ-loop
+write-cast-tag t c = search needs
+
+-- src/lib.rt:146:15
+write-held-requires : (t : ℕ) → write-lts.Need-held-requires (field-at-reads.Asked, field-at-reads.Learnt, held-reads.Asked, held-reads.Learnt, put-value-reads.Asked, put-value-reads.Learnt, write-below t, write.Post, wrap-reads.Asked, wrap-reads.Learnt) (write-at t) write.Post write-Inv-loop write-μ-loop
+write-held-requires t c κs = search needs
+
+-- src/lib.rt:148:44
+write-enum-told : (t : ℕ) → write-lts.Need-enum-told (field-at-reads.Asked, field-at-reads.Learnt, held-reads.Asked, held-reads.Learnt, put-value-reads.Asked, put-value-reads.Learnt, write-below t, write.Post, wrap-reads.Asked, wrap-reads.Learnt) (write-at t) write.Post write-Inv-loop write-μ-loop
+write-enum-told t c = search needs
+
+-- src/lib.rt:148:44
+write-sub-put-value : (t : ℕ) → write-lts.Need-sub-put-value (field-at-reads.Asked, field-at-reads.Learnt, held-reads.Asked, held-reads.Learnt, put-value-reads.Asked, put-value-reads.Learnt, write-below t, write.Post, wrap-reads.Asked, wrap-reads.Learnt) (write-at t) write.Post write-Inv-loop write-μ-loop
+write-sub-put-value t c = search needs
+
+-- src/lib.rt:148:44
+write-part-put-value-start : (t : ℕ) → write-lts.Need-part-put-value-start (field-at-reads.Asked, field-at-reads.Learnt, held-reads.Asked, held-reads.Learnt, put-value-reads.Asked, put-value-reads.Learnt, write-below t, write.Post, wrap-reads.Asked, wrap-reads.Learnt) (write-at t) write.Post write-Inv-loop write-μ-loop
+write-part-put-value-start t c = search needs
+
+-- src/lib.rt:148:44
+write-part-put-value-end : (t : ℕ) → write-lts.Need-part-put-value-end (field-at-reads.Asked, field-at-reads.Learnt, held-reads.Asked, held-reads.Learnt, put-value-reads.Asked, put-value-reads.Learnt, write-below t, write.Post, wrap-reads.Asked, wrap-reads.Learnt) (write-at t) write.Post write-Inv-loop write-μ-loop
+write-part-put-value-end t c = let f = c .before .before .before .before .before .before in let h = next-onward (es t (b t f)) (b t f .args .room - 1) (b t f .args .number) (now (b t f .args .s)) (now (b t f .args .out)) (b t f .args .to) (fits t (b t f)) (i t f) (f .before .before .before .loop .end) (f .before .before .before .loop .out) (state t f) (more t f) (octets t (b t f)) (f .field-at .result) (found t f) .1 in omega arith
+
+-- src/lib.rt:148:17
+write-put-value-requires : (t : ℕ) → write-lts.Need-put-value-requires (field-at-reads.Asked, field-at-reads.Learnt, held-reads.Asked, held-reads.Learnt, put-value-reads.Asked, put-value-reads.Learnt, write-below t, write.Post, wrap-reads.Asked, wrap-reads.Learnt) (write-at t) write.Post write-Inv-loop write-μ-loop
+write-put-value-requires t c κs =
+    let f = c .before .before .before .before .before .before .before .before in
+    let q = plain-of (f .field-at .result .kind) (sym (c .before .before .before .before .held .ensures) ∙ c .before .before .enum-told .given .1) in
+    ( leaf-contents (es t (b t f)) (b t f .args .room - 1) (b t f .args .number) (now (b t f .args .s)) (i t f) (state t f .written) (state t f .passed) (more t f)
+    (f .field-at .result) (found t f) q
+    , leaf-fits (es t (b t f)) (b t f .args .room - 1) (b t f .args .number) (now (b t f .args .s)) (now (b t f .args .out)) (b t f .args .to) (fits t (b t f)) (i t f) (f .before .before .before .loop .end) (f .before .before .before .loop .out) (state t f) (more t f) (octets t (b t f)) (f .field-at .result) (found t f) q )
+
+-- src/lib.rt:140:5
+write-loop-less : (t : ℕ) → write-lts.Need-loop-less (field-at-reads.Asked, field-at-reads.Learnt, held-reads.Asked, held-reads.Learnt, put-value-reads.Asked, put-value-reads.Learnt, write-below t, write.Post, wrap-reads.Asked, wrap-reads.Learnt) (write-at t) write.Post write-Inv-loop write-μ-loop
+write-loop-less t c = let f = c .before .before .before .before .before .before .before .before .before .before .before in let h = next-onward (es t (b t f)) (b t f .args .room - 1) (b t f .args .number) (now (b t f .args .s)) (now (b t f .args .out)) (b t f .args .to) (fits t (b t f)) (i t f) (f .before .before .before .loop .end) (f .before .before .before .loop .out) (state t f) (more t f) (octets t (b t f)) (f .field-at .result) (found t f) in let p = h .0 in let q = h .1 in omega arith
+
+-- src/lib.rt:140:5
+write-loop-again : (t : ℕ) → write-lts.Need-loop-again (field-at-reads.Asked, field-at-reads.Learnt, held-reads.Asked, held-reads.Learnt, put-value-reads.Asked, put-value-reads.Learnt, write-below t, write.Post, wrap-reads.Asked, wrap-reads.Learnt) (write-at t) write.Post write-Inv-loop write-μ-loop
+write-loop-again t c =
+    let f = c .before .before .before .before .before .before .before .before .before .before .before in
+    let q = plain-of (f .field-at .result .kind) (sym (c .before .before .before .before .before .before .before .held .ensures) ∙ c .before .before .before .before .before .enum-told .given .1) in
+    leaf-written (es t (b t f)) (b t f .args .room - 1) (b t f .args .number) (now (b t f .args .s)) (now (b t f .args .out)) (b t f .args .to) (fits t (b t f)) (i t f) (f .before .before .before .loop .end) (f .before .before .before .loop .out) (state t f) (more t f) (octets t (b t f)) (f .field-at .result) (found t f) (c .before .before .put-value .result) (c .before .before .put-value .last .1 .1 .1 .0) q (c .before .before .put-value .ensures)
+
+-- src/lib.rt:151:27
+write-enum-known-m : (t : ℕ) → write-lts.Need-enum-known-m (field-at-reads.Asked, field-at-reads.Learnt, held-reads.Asked, held-reads.Learnt, put-value-reads.Asked, put-value-reads.Learnt, write-below t, write.Post, wrap-reads.Asked, wrap-reads.Learnt) (write-at t) write.Post write-Inv-loop write-μ-loop
+write-enum-known-m t c = search needs
+
+-- src/lib.rt:152:52
+write-sub-write : (t : ℕ) → write-lts.Need-sub-write (field-at-reads.Asked, field-at-reads.Learnt, held-reads.Asked, held-reads.Learnt, put-value-reads.Asked, put-value-reads.Learnt, write-below t, write.Post, wrap-reads.Asked, wrap-reads.Learnt) (write-at t) write.Post write-Inv-loop write-μ-loop
+write-sub-write t c =
+    let f = c .before .before .before .before .before .before .before in
+    let h = nested-accepts (es t (b t f)) (b t f .args .room - 1) (b t f .args .number) (now (b t f .args .s)) (now (b t f .args .out)) (b t f .args .to) (fits t (b t f)) (i t f) (f .before .before .before .loop .end) (f .before .before .before .loop .out) (state t f) (more t f) (octets t (b t f)) (f .field-at .result) (found t f) (c .before .m .given .0 .0) (message-of (f .field-at .result .kind) (c .before .m .given .0 .0) (sym (c .before .before .before .held .ensures) ∙ c .before .m .given .1)) .0 in
+    omega arith
+
+-- src/lib.rt:152:62
+write-sub-write-2 : (t : ℕ) → write-lts.Need-sub-write-2 (field-at-reads.Asked, field-at-reads.Learnt, held-reads.Asked, held-reads.Learnt, put-value-reads.Asked, put-value-reads.Learnt, write-below t, write.Post, wrap-reads.Asked, wrap-reads.Learnt) (write-at t) write.Post write-Inv-loop write-μ-loop
+write-sub-write-2 t c = search needs
+
+-- src/lib.rt:152:62
+write-part-write-start : (t : ℕ) → write-lts.Need-part-write-start (field-at-reads.Asked, field-at-reads.Learnt, held-reads.Asked, held-reads.Learnt, put-value-reads.Asked, put-value-reads.Learnt, write-below t, write.Post, wrap-reads.Asked, wrap-reads.Learnt) (write-at t) write.Post write-Inv-loop write-μ-loop
+write-part-write-start t c = search needs
+
+-- src/lib.rt:152:62
+write-part-write-end : (t : ℕ) → write-lts.Need-part-write-end (field-at-reads.Asked, field-at-reads.Learnt, held-reads.Asked, held-reads.Learnt, put-value-reads.Asked, put-value-reads.Learnt, write-below t, write.Post, wrap-reads.Asked, wrap-reads.Learnt) (write-at t) write.Post write-Inv-loop write-μ-loop
+write-part-write-end t c = let f = c .before .before .before .before .before .before .before in let h = next-onward (es t (b t f)) (b t f .args .room - 1) (b t f .args .number) (now (b t f .args .s)) (now (b t f .args .out)) (b t f .args .to) (fits t (b t f)) (i t f) (f .before .before .before .loop .end) (f .before .before .before .loop .out) (state t f) (more t f) (octets t (b t f)) (f .field-at .result) (found t f) .1 in omega arith
+
+-- src/lib.rt:152:21
+write-write-requires : (t : ℕ) → write-lts.Need-write-requires (field-at-reads.Asked, field-at-reads.Learnt, held-reads.Asked, held-reads.Learnt, put-value-reads.Asked, put-value-reads.Learnt, write-below t, write.Post, wrap-reads.Asked, wrap-reads.Learnt) (write-at t) write.Post write-Inv-loop write-μ-loop
+write-write-requires t c κs =
+    let f = c .before .before .before .before .before .before .before .before .before in
+    let m = c .before .before .before .m .given .0 .0 in
+    let q = message-of (f .field-at .result .kind) (c .before .before .before .m .given .0 .0) (sym (c .before .before .before .before .before .held .ensures) ∙ c .before .before .before .m .given .1) in
+    let h = nested-accepts (es t (b t f)) (b t f .args .room - 1) (b t f .args .number) (now (b t f .args .s)) (now (b t f .args .out)) (b t f .args .to) (fits t (b t f)) (i t f) (f .before .before .before .loop .end) (f .before .before .before .loop .out) (state t f) (more t f) (octets t (b t f)) (f .field-at .result) (found t f) m q in
+    let k = h .0 in
+    let p = b t f .pre .0 in
+    (omega arith, (octets-part (i t f + f .field-at .result .control + f .field-at .result .contents - (i t f + f .field-at .result .control)) (i t f + f .field-at .result .control) (now (b t f .args .s)) (octets t (b t f)), (h .1, nested-fits (es t (b t f)) (b t f .args .room - 1) (b t f .args .number) (now (b t f .args .s)) (now (b t f .args .out)) (b t f .args .to) (fits t (b t f)) (i t f) (f .before .before .before .loop .end) (f .before .before .before .loop .out) (state t f) (more t f) (octets t (b t f)) (f .field-at .result) (found t f) m q)))
+
+-- src/lib.rt:153:43
+write-sub-wrap : (t : ℕ) → write-lts.Need-sub-wrap (field-at-reads.Asked, field-at-reads.Learnt, held-reads.Asked, held-reads.Learnt, put-value-reads.Asked, put-value-reads.Learnt, write-below t, write.Post, wrap-reads.Asked, wrap-reads.Learnt) (write-at t) write.Post write-Inv-loop write-μ-loop
+write-sub-wrap t c =
+    let f = c .before .before .before .before .before .before .before .before .before .before .before .before .before in
+    inner-after (es t (b t f)) (b t f .args .room - 1) (b t f .args .number) (now (b t f .args .s)) (now (b t f .args .out)) (b t f .args .to) (fits t (b t f)) (i t f) (f .before .before .before .loop .end) (f .before .before .before .loop .out) (state t f) (more t f) (octets t (b t f)) (f .field-at .result) (found t f) (c .before .before .before .before .before .before .before .m .given .0 .0) (message-of (f .field-at .result .kind) (c .before .before .before .before .before .before .before .m .given .0 .0) (sym (c .before .before .before .before .before .before .before .before .before .held .ensures) ∙ c .before .before .before .before .before .before .before .m .given .1)) (c .before .before .before .write .result) (c .before .before .before .write .last .1 .1 .1 .1 .1 .0) (c .before .before .before .write .ensures)
+
+-- src/lib.rt:153:17
+write-wrap-requires : (t : ℕ) → write-lts.Need-wrap-requires (field-at-reads.Asked, field-at-reads.Learnt, held-reads.Asked, held-reads.Learnt, put-value-reads.Asked, put-value-reads.Learnt, write-below t, write.Post, wrap-reads.Asked, wrap-reads.Learnt) (write-at t) write.Post write-Inv-loop write-μ-loop
+write-wrap-requires t c κs =
+    let f = c .before .before .before .before .before .before .before .before .before .before .before .before .before in
+    wrap-fits (es t (b t f)) (b t f .args .room - 1) (b t f .args .number) (now (b t f .args .s)) (now (b t f .args .out)) (b t f .args .to) (fits t (b t f)) (i t f) (f .before .before .before .loop .end) (f .before .before .before .loop .out) (state t f) (more t f) (octets t (b t f)) (f .field-at .result) (found t f) (c .before .before .before .before .before .before .before .m .given .0 .0) (message-of (f .field-at .result .kind) (c .before .before .before .before .before .before .before .m .given .0 .0) (sym (c .before .before .before .before .before .before .before .before .before .held .ensures) ∙ c .before .before .before .before .before .before .before .m .given .1)) (c .before .before .before .write .result) (c .before .before .before .write .last .1 .1 .1 .1 .1 .0) (c .before .before .before .write .ensures)
+
+-- src/lib.rt:140:5
+write-loop-less-2 : (t : ℕ) → write-lts.Need-loop-less-2 (field-at-reads.Asked, field-at-reads.Learnt, held-reads.Asked, held-reads.Learnt, put-value-reads.Asked, put-value-reads.Learnt, write-below t, write.Post, wrap-reads.Asked, wrap-reads.Learnt) (write-at t) write.Post write-Inv-loop write-μ-loop
+write-loop-less-2 t c = let f = c .before .before .before .before .before .before .before .before .before .before .before .before .before .before .before .before in let h = next-onward (es t (b t f)) (b t f .args .room - 1) (b t f .args .number) (now (b t f .args .s)) (now (b t f .args .out)) (b t f .args .to) (fits t (b t f)) (i t f) (f .before .before .before .loop .end) (f .before .before .before .loop .out) (state t f) (more t f) (octets t (b t f)) (f .field-at .result) (found t f) in let p = h .0 in let q = h .1 in omega arith
+
+-- src/lib.rt:140:5
+write-loop-again-2 : (t : ℕ) → write-lts.Need-loop-again-2 (field-at-reads.Asked, field-at-reads.Learnt, held-reads.Asked, held-reads.Learnt, put-value-reads.Asked, put-value-reads.Learnt, write-below t, write.Post, wrap-reads.Asked, wrap-reads.Learnt) (write-at t) write.Post write-Inv-loop write-μ-loop
+write-loop-again-2 t c =
+    let f = c .before .before .before .before .before .before .before .before .before .before .before .before .before .before .before .before in
+    nested-written (es t (b t f)) (b t f .args .room - 1) (b t f .args .number) (now (b t f .args .s)) (now (b t f .args .out)) (b t f .args .to) (fits t (b t f)) (i t f) (f .before .before .before .loop .end) (f .before .before .before .loop .out) (state t f) (more t f) (octets t (b t f)) (f .field-at .result) (found t f) (c .before .before .before .before .before .before .before .before .before .before .m .given .0 .0) (message-of (f .field-at .result .kind) (c .before .before .before .before .before .before .before .before .before .before .m .given .0 .0) (sym (c .before .before .before .before .before .before .before .before .before .before .before .before .held .ensures) ∙ c .before .before .before .before .before .before .before .before .before .before .m .given .1)) (c .before .before .before .before .before .before .write .result) (c .before .before .before .before .before .before .write .last .1 .1 .1 .1 .1 .0) (c .before .before .before .before .before .before .write .ensures)
+    (c .before .before .wrap .result) (c .before .before .wrap .last .1 .0) (c .before .before .wrap .ensures .0) (c .before .before .wrap .ensures .1)
+
+-- src/lib.rt:124:1
+write-same-length : (t : ℕ) → write-lts.Need-same-length (field-at-reads.Asked, field-at-reads.Learnt, held-reads.Asked, held-reads.Learnt, put-value-reads.Asked, put-value-reads.Learnt, write-below t, write.Post, wrap-reads.Asked, wrap-reads.Learnt) (write-at t) write.Post write-Inv-loop write-μ-loop
+write-same-length t c =
+    let s = c .before .before .before .before .before in
+    same-length (es t s) (s .args .room - 1) (s .args .number) (now (s .args .s)) (now (s .args .out)) (s .args .to) (c .before .loop .i) (c .before .loop .end) (c .before .loop .out) (c .before .loop .inv)
+
+-- src/lib.rt:124:1
+write-returns : (t : ℕ) → write-lts.Need-returns (field-at-reads.Asked, field-at-reads.Learnt, held-reads.Asked, held-reads.Learnt, put-value-reads.Asked, put-value-reads.Learnt, write-below t, write.Post, wrap-reads.Asked, wrap-reads.Learnt) (write-at t) write.Post write-Inv-loop write-μ-loop
+write-returns t c =
+    let s = c .before .before .before .before .before in
+    subst (λ (r : ℕ). Put (now (s .args .out)) (s .args .to) (short (es t s) r (s .args .number) (now (s .args .s))) (c .before .loop .end) (c .before .loop .out)) (room-is t s)
+    (ended (es t s) (s .args .room - 1) (s .args .number) (now (s .args .s)) (now (s .args .out)) (s .args .to) (c .before .loop .i) (c .before .loop .end) (c .before .loop .out) (c .before .loop .inv) (c .loop-test .left))
+
+pub +write-spec : {M : Type 1} → statement M
++write-spec = close μ-write λ t. write-lts.spec (field-at-reads.Asked, field-at-reads.Learnt, held-reads.Asked, held-reads.Learnt, put-value-reads.Asked, put-value-reads.Learnt, write-below t, write.Post, wrap-reads.Asked, wrap-reads.Learnt)
+    (write-at t)
+    write.Post
+    write-Inv-loop
+    write-μ-loop
+    (write-loop-holds t)
+    (write-sub-field-at t)
+    (write-part-field-at-start t)
+    (write-part-field-at-end t)
+    (write-field-at-requires t)
+    (write-add-a t)
+    (write-add-e t)
+    (write-cast-tag t)
+    (write-held-requires t)
+    (write-enum-told t)
+    (write-sub-put-value t)
+    (write-part-put-value-start t)
+    (write-part-put-value-end t)
+    (write-put-value-requires t)
+    (write-loop-less t)
+    (write-loop-again t)
+    (write-enum-known-m t)
+    (write-sub-write t)
+    (write-sub-write-2 t)
+    (write-part-write-start t)
+    (write-part-write-end t)
+    (write-write-requires t)
+    (write-sub-wrap t)
+    (write-wrap-requires t)
+    (write-loop-less-2 t)
+    (write-loop-again-2 t)
+    (write-same-length t)
+    (write-returns t)

@@ -1,0 +1,42 @@
+-- What the shortener writes for a message that is accepted.
+use Prim.Native.Nat.{ℕ, _+_}
+use mathlib.Core.Path.{_≡_}
+use mathlib.Core.List.{List, []}
+use lib.ListN.{length}
+use Rattle.hproto_put.specs.Store.{stored}
+use Rattle.hproto_table.specs.Entry.{Entry}
+use Rattle.hproto_table.specs.declared.Meaning.{Meaning}
+use Rattle.hproto_table.specs.declared.Meaning.the-variants.{Raw, Uint, Int, String, Text, Message}
+use Rattle.hproto_message.specs.Cut.{Cut}
+use Rattle.hproto_message.specs.Tree.{tree}
+use Rattle.hproto_message.specs.Reading.{Reading, accepted, refused, messageFrom}
+use Rattle.hproto_message.specs.Shortest.{shortest}
+use Rattle.hproto_shorten.specs.declared.Inner.{Inner}
+use Rattle.hproto_shorten.specs.declared.Inner.the-variants.{None, Number}
+
+-- The shortest form of the tree that a reading gives; nothing for a refusal.
+unfoldable pub shortestOf : List Entry → ℕ → Reading → List ℕ
+shortestOf es n (accepted cut) = shortest (tree es n cut)
+shortestOf es n (refused number place) = []
+
+-- The shortest form of a message of a number, at most `room` messages deep.
+unfoldable pub short : List Entry → ℕ → ℕ → List ℕ → List ℕ
+short es room n s = shortestOf es n (messageFrom es room n 0 0 s)
+
+-- The message is accepted.
+unfoldable pub Accepts : List Entry → ℕ → ℕ → List ℕ → Type 0
+Accepts es room n s = (cut : Cut) × (messageFrom es room n 0 0 s ≡ accepted cut)
+
+-- The number of the message that a field of a kind holds, if it holds one.
+unfoldable pub innerOf : Meaning → Inner
+innerOf Raw = None
+innerOf Uint = None
+innerOf Int = None
+innerOf String = None
+innerOf Text = None
+innerOf (Message m) = Number m
+
+-- A store of octets from a place on: the place after them, and the buffer afterwards.
+pub record Put (before : List ℕ) (to : ℕ) (octets : List ℕ) (end : ℕ) (after : List ℕ) : Type 0 where
+  pub place : end ≡ to + length octets
+  pub buffer : after ≡ stored before to octets

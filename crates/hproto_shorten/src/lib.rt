@@ -1,0 +1,159 @@
+// The shortener: writes the shortest octets that read the same as a message.
+use hproto_table::Meaning;
+use hproto_table::Table;
+use octets::Least;
+use octets::Signed;
+use octets::Unsigned;
+ghost use mathlib.Core.Path.{_≡_};
+ghost use mathlib.Core.List.{map};
+ghost use Prim.Native.Nat.{_+_, _≤_};
+ghost use lib.ListN.{length, take, drop};
+ghost use Rattle.octets.specs.Number.{Octets, number as number-of, octetsOf, leastUint};
+ghost use Rattle.octets.specs.Signed.{integer, leastInt};
+ghost use Rattle.octets.specs.Control.{leastControl};
+ghost use Rattle.hproto_put.specs.Store.{stored, moved};
+ghost use Rattle.hproto_table.specs.Entry.{entry};
+ghost use Rattle.hproto_message.specs.Cut.{Contents};
+ghost use Rattle.hproto_message.specs.Tree.{value};
+ghost use Rattle.hproto_message.specs.Shortest.{field, leastContents};
+ghost use Rattle.hproto_shorten.specs.Written.{short, Accepts, innerOf, Put};
+
+// The number of the message that a field holds, if it holds one.
+enum Inner {
+    None,
+    Number(u64),
+}
+
+// The shortener's answer: a refusal number (0 where the message was shortened), the place of the fault, and the length written.
+pub struct Shortened {
+    pub refusal: u64,
+    pub place: u64,
+    pub length: u64,
+}
+
+fn held(kind: Meaning) -> Inner
+    ensures { λ r. ⌜ r ≡ innerOf kind ⌝ }
+{
+    match kind {
+        Meaning::Raw => Inner::None,
+        Meaning::Uint => Inner::None,
+        Meaning::Int => Inner::None,
+        Meaning::String => Inner::None,
+        Meaning::Text => Inner::None,
+        Meaning::Message(m) => Inner::Number(m),
+    }
+}
+
+// A field whose contents are the octets of a number.
+fn put_least(tag: u16, least: Least, out: &mut [u8], to: usize) -> usize
+    requires { ⌜ to + length (field tag (octetsOf (least .width) (least .bits))) ≤ length (now out) ⌝ }
+    ensures { λ r. ⌜ Put (now (out .entry)) to (field tag (octetsOf (least .width) (least .bits))) r (now (out .exit)) ⌝ }
+{
+    let w = least.width;
+    let v = least.bits;
+    let a = to + hproto_put::control_size(tag, w);
+    hproto_put::put_control(out, to, tag, w);
+    hproto_put::put_number(out, a, w, v);
+    a + (w as usize)
+}
+
+// A field whose contents stay as they are.
+fn put_plain(tag: u16, s: &[u8], out: &mut [u8], to: usize) -> usize
+    requires { ⌜ to + length (field tag (now s)) ≤ length (now out) ⌝ }
+    ensures { λ r. ⌜ Put (now (out .entry)) to (field tag (now (s .entry))) r (now (out .exit)) ⌝ }
+{
+    let n = s.len();
+    let a = to + hproto_put::control_size(tag, n as u64);
+    hproto_put::put_control(out, to, tag, n as u64);
+    hproto_put::put_octets(out, a, s);
+    a + n
+}
+
+fn put_uint(tag: u16, s: &[u8], out: &mut [u8], to: usize) -> usize
+    requires { ⌜ length (now s) ≤ 8 ⌝ }
+    requires { ⌜ to + length (field tag (leastUint (number-of (now s)))) ≤ length (now out) ⌝ }
+    ensures { λ r. ⌜ Put (now (out .entry)) to (field tag (leastUint (number-of (now (s .entry))))) r (now (out .exit)) ⌝ }
+{
+    match octets_read::uint(s) {
+        Unsigned::Value(v) => put_least(tag, octets_least::uint_least(v), out, to),
+        Unsigned::Long => to,
+    }
+}
+
+fn put_int(tag: u16, s: &[u8], out: &mut [u8], to: usize) -> usize
+    requires { ⌜ length (now s) ≤ 8 ⌝ }
+    requires { ⌜ to + length (field tag (leastInt (integer (now s)))) ≤ length (now out) ⌝ }
+    ensures { λ r. ⌜ Put (now (out .entry)) to (field tag (leastInt (integer (now (s .entry))))) r (now (out .exit)) ⌝ }
+{
+    match octets_read::int(s) {
+        Signed::Value(v) => put_least(tag, octets_least::int_least(v), out, to),
+        Signed::Long => to,
+    }
+}
+
+// A field that is no message, in its least form.
+fn put_value(kind: Meaning, tag: u16, s: &[u8], out: &mut [u8], to: usize) -> usize
+    requires { ⌜ Contents kind (now s) ⌝ }
+    requires { ⌜ to + length (field tag (leastContents (value kind (now s)))) ≤ length (now out) ⌝ }
+    ensures { λ r. ⌜ Put (now (out .entry)) to (field tag (leastContents (value kind (now (s .entry))))) r (now (out .exit)) ⌝ }
+{
+    match kind {
+        Meaning::Raw => put_plain(tag, s, out, to),
+        Meaning::Uint => put_uint(tag, s, out, to),
+        Meaning::Int => put_int(tag, s, out, to),
+        Meaning::String => put_plain(tag, s, out, to),
+        Meaning::Text => put_plain(tag, s, out, to),
+        Meaning::Message(_) => to,
+    }
+}
+
+// Puts a control part before the n octets that stand at `to`, which are final by then: the length that it says is theirs.
+fn wrap(tag: u16, out: &mut [u8], to: usize, n: usize) -> usize
+    requires { ⌜ to + length (leastControl tag n) + n ≤ length (now out) ⌝ }
+    ensures { λ r. ⌜ r ≡ to + length (leastControl tag n) + n ⌝ }
+    ensures { λ r. ⌜ now (out .exit) ≡ stored (moved (now (out .entry)) to n (length (leastControl tag n))) to (leastControl tag n) ⌝ }
+{
+    let size = hproto_put::control_size(tag, n as u64);
+    hproto_put::move_up(out, to, n, size);
+    hproto_put::put_control(out, to, tag, n as u64);
+    to + size + n
+}
+
+// Writes the shortest form of an accepted message at `to` and answers the place after it. A nested message is written first, so that
+// its control part is chosen when its length is final.
+fn write(
+    words: &[u64],
+    count: usize,
+    number: u64,
+    room: u64,
+    s: &[u8],
+    out: &mut [u8],
+    to: usize,
+) -> usize
+    requires { ⌜ Octets (now s) ⌝ }
+    requires { ⌜ Accepts (map entry (take count (now words))) room number (now s) ⌝ }
+    requires { ⌜ to + length (short (map entry (take count (now words))) room number (now s)) ≤ length (now out) ⌝ }
+    ensures { λ r. ⌜ Put (now (out .entry)) to (short (map entry (take count (now (words .entry)))) room number (now (s .entry))) r (now (out .exit)) ⌝ }
+{
+    let mut i: usize = 0;
+    let mut end = to;
+    while i < s.len() {
+        let f = hproto_field::field_at(words, count, number, &s[i..]);
+        let kind = f.kind;
+        let a = i + f.control;
+        let e = a + f.contents;
+        let tag = (f.tag % 65536) as u16;
+        match held(kind) {
+            Inner::None => {
+                end = put_value(kind, tag, &s[a..e], out, end);
+                i = e;
+            }
+            Inner::Number(m) => {
+                let after = write(words, count, m, room - 1, &s[a..e], out, end);
+                end = wrap(tag, out, end, after - end);
+                i = e;
+            }
+        }
+    }
+    end
+}
