@@ -1,2 +1,4 @@
 pub mod Entry
 pub mod Load
+pub mod Repeat
+pub mod Valid

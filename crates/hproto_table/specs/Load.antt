@@ -1,7 +1,7 @@
 -- Loading a field table from octets: a run of records of 8 octets, a record's tag (01), its length (00 05) and an entry.
-use Prim.Native.Nat.{ℕ, zero, suc, _+_, _*_, _-_, _/_, _^_}
+use Prim.Native.Nat.{ℕ, zero, suc, _*_, _-_, _/_, _^_}
 use mathlib.Core.Path.{_≡_}
-use mathlib.Core.Bool.{Bool, true, false, cond, not, _&&_, _||_}
+use mathlib.Core.Bool.{Bool, false, cond, not, _&&_, _||_}
 use mathlib.Core.List.{List, [], _∷_, _++_}
 use lib.ListN.{length, take, drop, replicate, getD}
 use lib.Dec.{eqb, leb, ltb}
@@ -66,5 +66,5 @@ unfoldable pub load : List ℕ → Loaded
 load s = loadFrom 65 0 s
 
 -- A table value that the loader can give.
-pub Loadable : Table → Type 0
+unfoldable pub Loadable : Table → Type 0
 Loadable t = (s : List ℕ) × Octets s × (load s ≡ record { refusal = 0; place = 0; table = t })

@@ -42,6 +42,7 @@ form-of code x s h l = go (ltb x (code .direct)) refl l
     empty : (r : List ℕ) → length r ≡ 0 → x < code .direct → Form code x x r
     empty [] e k = direct k
     empty (y ∷ r) e k = absurd (omega arith)
+
     go : (t : Bool) → ltb x (code .direct) ≡ t → length s ≡ cond t 0 (getD (code .widths) (x - code .direct) 0)
         → Form code (cond t x (number s)) x s
     go true e k = empty s k (ltb-true x (code .direct) e)
@@ -87,13 +88,13 @@ firstFit-fits d (w ∷ ws) v i h k = go (ltb v (256 ^ w)) refl i h k (firstFit-f
         → ((j : ℕ) → j < length ws → v < 256 ^ getD ws j 0 → Fit (suc d) ws v (firstFit (suc d) ws v .0) (firstFit (suc d) ws v .1))
         → Fit d (w ∷ ws) v (cond t (d, octetsOf w v) (firstFit (suc d) ws v) .0) (cond t (d, octetsOf w v) (firstFit (suc d) ws v) .1)
     go true e i h k later =
-        record
-        { place = 0
-        ; inside = omega arith
-        ; lead = omega arith
-        ; wide = length-octetsOf w v
-        ; value = number-octetsOf w v (ltb-true v (256 ^ w) e)
-        ; octets = octets-octetsOf w v
+        record {
+          place = 0;
+          inside = omega arith;
+          lead = omega arith;
+          wide = length-octetsOf w v;
+          value = number-octetsOf w v (ltb-true v (256 ^ w) e);
+          octets = octets-octetsOf w v;
         }
     go false e zero h k later = let b = ltb-false v (256 ^ w) e in absurd (omega arith)
     go false e (suc j) h k later =
@@ -116,12 +117,13 @@ firstFit-least d u (n ∷ ws) v w y r a h f =
         → Least (cond t (d, octetsOf n v) (firstFit (suc d) ws v) .0) (cond t (d, octetsOf n v) (firstFit (suc d) ws v) .1) y r v w
     go true e zero k l b later =
         let c = length-octetsOf n v in
-        record
-        { long = omega arith
-        ; same = λ p q.
-            ( omega arith
-            , number-injective (octetsOf n v) r (octets-octetsOf n v) (f .octets) p
-            (number-octetsOf n v (ltb-true v (256 ^ n) e) ∙ q ∙ sym (f .value)) )
+        record {
+          long = omega arith;
+          same = λ p q. (
+            omega arith,
+            number-injective (octetsOf n v) r (octets-octetsOf n v) (f .octets) p
+                (number-octetsOf n v (ltb-true v (256 ^ n) e) ∙ q ∙ sym (f .value)),
+          );
         }
     go true e (suc j) k l b later =
         let c = length-octetsOf n v in

@@ -45,8 +45,10 @@ front-of-control (x ∷ s) tag len size e = go (ltb (length s) (n + m)) refl e
   where
     n : ℕ
     n = following tagCode (x / 16)
+
     m : ℕ
     m = following lengthCode (x % 16)
+
     go : (t : Bool) → ltb (length s) (n + m) ≡ t
         → cond t Partial (Whole (coded tagCode (x / 16) (take n s)) (coded lengthCode (x % 16) (take m (drop n s))) (1 + n + m)) ≡ Whole tag len size
         → Front (x ∷ s) tag len size
@@ -56,17 +58,17 @@ front-of-control (x ∷ s) tag len size e = go (ltb (length s) (n + m)) refl e
         let d = length-drop n s in
         let a = length-take-le n s (omega arith) in
         let b = length-take-le m (drop n s) (omega arith) in
-        record
-        { octet = x
-        ; tagged = take n s
-        ; sized = take m (drop n s)
-        ; rest = drop m (drop n s)
-        ; is = rw (take-append-drop m (drop n s), take-append-drop n s)
-        ; tag-wide = a
-        ; length-wide = b
-        ; tag-is = cc
-        ; length-is = cc
-        ; size-is = rw (a, b) (cc)
+        record {
+          octet = x;
+          tagged = take n s;
+          sized = take m (drop n s);
+          rest = drop m (drop n s);
+          is = rw (take-append-drop m (drop n s), take-append-drop n s);
+          tag-wide = a;
+          length-wide = b;
+          tag-is = cc;
+          length-is = cc;
+          size-is = rw (a, b) (cc);
         }
 
 -- The control part of a front is read with any octets after it.
@@ -83,8 +85,8 @@ control-append s r tag len size e = go (front-of-control s tag len size e)
     go : Front s tag len size → control (s ++ r) ≡ Whole tag len size
     go f =
         let k : s ++ r ≡ f .octet ∷ f .tagged ++ (f .sized ++ (f .rest ++ r)) =
-            ap (λ (l : List ℕ). l ++ r) (f .is)
-            ∙ rw (append-assoc (f .octet ∷ f .tagged) (f .sized ++ f .rest) r, append-assoc (f .sized) (f .rest) r) in
+        ap (λ (l : List ℕ). l ++ r) (f .is)
+        ∙ rw (append-assoc (f .octet ∷ f .tagged) (f .sized ++ f .rest) r, append-assoc (f .sized) (f .rest) r) in
         rw k (front-control s tag len size f (f .rest ++ r))
 
 -- A whole control part takes an octet or more, and no more than there are.
@@ -95,7 +97,7 @@ control-size s tag len size e = go (front-of-control s tag len size e)
     go f =
         let k = f .size-is in
         let l : length s ≡ 1 + length (f .tagged) + length (f .sized) + length (f .rest) =
-            ap length (f .is) ∙ simp length-append (omega arith) in
+        ap length (f .is) ∙ simp length-append (omega arith) in
         (omega arith, omega arith)
 
 -- The octets of a whole control part by themselves.
@@ -108,7 +110,7 @@ control-take s tag len size e = go (front-of-control s tag len size e)
         let i = f .size-is in
         let l : length (f .octet ∷ f .tagged ++ f .sized) ≡ size = simp length-append (omega arith) in
         let k : take size s ≡ f .octet ∷ f .tagged ++ (f .sized ++ []) =
-            ap (take size) g ∙ take-at (f .octet ∷ f .tagged ++ f .sized) (f .rest) size l ∙ rw (append-nil (f .sized)) in
+        ap (take size) g ∙ take-at (f .octet ∷ f .tagged ++ f .sized) (f .rest) size l ∙ rw (append-nil (f .sized)) in
         rw k (front-control s tag len size f [])
 
 -- A control part that is all of the octets, as two forms.
@@ -127,27 +129,28 @@ alone c tag len o e = go (front-of-control c tag len (length c) e)
     none : (r : List ℕ) → length r ≡ 0 → r ≡ []
     none [] h = refl
     none (x ∷ r) h = absurd (omega arith)
+
     go : Front c tag len (length c) → Alone c tag len
     go f =
         let k = f .size-is in
         let l : length c ≡ 1 + length (f .tagged) + length (f .sized) + length (f .rest) =
-            ap length (f .is) ∙ simp length-append (omega arith) in
+        ap length (f .is) ∙ simp length-append (omega arith) in
         let n : f .rest ≡ [] = none (f .rest) (omega arith) in
         let g : c ≡ f .octet ∷ f .tagged ++ f .sized =
-            f .is ∙ ap (λ (r : List ℕ). f .octet ∷ f .tagged ++ (f .sized ++ r)) n ∙ rw (append-nil (f .sized)) in
+        f .is ∙ ap (λ (r : List ℕ). f .octet ∷ f .tagged ++ (f .sized ++ r)) n ∙ rw (append-nil (f .sized)) in
         let b : Octets (f .octet ∷ f .tagged ++ f .sized) = subst Octets g o in
         let x = b .0 in
-        record
-        { octet = f .octet
-        ; tagged = f .tagged
-        ; sized = f .sized
-        ; is = g
-        ; tag-form =
-            subst (λ (v : ℕ). Form tagCode v (f .octet / 16) (f .tagged)) (f .tag-is)
-            (form-of tagCode (f .octet / 16) (f .tagged) (omega arith) (f .tag-wide))
-        ; length-form =
-            subst (λ (v : ℕ). Form lengthCode v (f .octet % 16) (f .sized)) (f .length-is)
-            (form-of lengthCode (f .octet % 16) (f .sized) (omega arith) (f .length-wide))
+        record {
+          octet = f .octet;
+          tagged = f .tagged;
+          sized = f .sized;
+          is = g;
+          tag-form =
+              subst (λ (v : ℕ). Form tagCode v (f .octet / 16) (f .tagged)) (f .tag-is)
+              (form-of tagCode (f .octet / 16) (f .tagged) (omega arith) (f .tag-wide));
+          length-form =
+              subst (λ (v : ℕ). Form lengthCode v (f .octet % 16) (f .sized)) (f .length-is)
+              (form-of lengthCode (f .octet % 16) (f .sized) (omega arith) (f .length-wide));
         }
 
 tag-rising : Rising 0 (tagCode .widths)
@@ -190,9 +193,10 @@ control-bounds c tag len o e = go (alone c tag len o e)
   where
     go : Alone c tag len → (tag < 256 ^ 2) × (len < 256 ^ 8)
     go a =
-        let b : Octets (a .octet ∷ a .tagged ++ a .sized) = subst Octets (a .is) o in
-        ( form-below tagCode 2 tag (a .octet / 16) (a .tagged) tag-widths (omega arith) (octets-before (a .tagged) (a .sized) (b .1)) (a .tag-form)
-        , form-below lengthCode 8 len (a .octet % 16) (a .sized) length-widths (omega arith) (octets-after (a .tagged) (a .sized) (b .1)) (a .length-form) )
+        let b : Octets (a .octet ∷ a .tagged ++ a .sized) = subst Octets (a .is) o in (
+          form-below tagCode 2 tag (a .octet / 16) (a .tagged) tag-widths (omega arith) (octets-before (a .tagged) (a .sized) (b .1)) (a .tag-form),
+          form-below lengthCode 8 len (a .octet % 16) (a .sized) length-widths (omega arith) (octets-after (a .tagged) (a .sized) (b .1)) (a .length-form),
+        )
 
 -- The least control part is read as the tag and the length that it was made of.
 pub control-leastControl : (tag len : ℕ) → tag < 256 ^ 2 → len < 256 ^ 8
@@ -220,10 +224,11 @@ pub octets-leastControl : (tag len : ℕ) → tag < 256 ^ 2 → len < 256 ^ 8 �
 unfolding leastControl Octets
 octets-leastControl tag len h k =
     let x = form-lead tagCode tag (leastCode tagCode tag .0) (leastCode tagCode tag .1) (leastCode-form tagCode tag (tag-holds tag h)) in
-    let y = form-lead lengthCode len (leastCode lengthCode len .0) (leastCode lengthCode len .1) (leastCode-form lengthCode len (length-holds len k)) in
-    ( omega arith
-    , octets-append (leastCode tagCode tag .1) (leastCode lengthCode len .1) (leastCode-octets tagCode tag (tag-holds tag h))
-    (leastCode-octets lengthCode len (length-holds len k)) )
+    let y = form-lead lengthCode len (leastCode lengthCode len .0) (leastCode lengthCode len .1) (leastCode-form lengthCode len (length-holds len k)) in (
+      omega arith,
+      octets-append (leastCode tagCode tag .1) (leastCode lengthCode len .1) (leastCode-octets tagCode tag (tag-holds tag h))
+          (leastCode-octets lengthCode len (length-holds len k)),
+    )
 
 -- A control part of the same tag and as large a length is no shorter than the least one, and is the least one where it is as long and has the same length.
 pub leastControl-least : (c : List ℕ) (tag len k : ℕ) → Octets c → control c ≡ Whole tag len (length c) → k ≤ len
@@ -239,13 +244,14 @@ leastControl-least c tag len k o e h = go (alone c tag len o e)
         let pl = p .long in
         let ql = q .long in
         let m : length c ≡ 1 + length (a .tagged) + length (a .sized) = ap length (a .is) ∙ simp length-append (omega arith) in
-        let n : length (leastControl tag k) ≡ 1 + length (leastCode tagCode tag .1) + length (leastCode lengthCode k .1) = simp length-append (omega arith) in
-        ( omega arith
-        , λ f g.
-            let u = p .same (omega arith) refl in
-            let v = q .same (omega arith) g in
-            let x : leastCode tagCode tag .0 * 16 + leastCode lengthCode k .0 ≡ a .octet = rw (u .0, v .0) (omega arith) in
-            rw (x, u .1, v .1) (sym (a .is)) )
+        let n : length (leastControl tag k) ≡ 1 + length (leastCode tagCode tag .1) + length (leastCode lengthCode k .1) = simp length-append (omega arith) in (
+          omega arith,
+          λ f g.
+              let u = p .same (omega arith) refl in
+              let v = q .same (omega arith) g in
+              let x : leastCode tagCode tag .0 * 16 + leastCode lengthCode k .0 ≡ a .octet = rw (u .0, v .0) (omega arith) in
+              rw (x, u .1, v .1) (sym (a .is)),
+        )
 
 -- No control part at all is the end of the octets.
 pub control-absent : (s : List ℕ) → control s ≡ Absent → s ≡ []
@@ -256,8 +262,10 @@ control-absent (x ∷ s) e =
   where
     n : ℕ
     n = following tagCode (x / 16)
+
     m : ℕ
     m = following lengthCode (x % 16)
+
     go : (t : Bool) (tag len size : ℕ) → cond t Partial (Whole tag len size) ≡ Absent → x ∷ s ≡ []
     go true tag len size e = let z : _≡_ {A = ℕ} 0 1 = cc in absurd (omega arith)
     go false tag len size e = let z : _≡_ {A = ℕ} 0 1 = cc in absurd (omega arith)

@@ -165,6 +165,7 @@ integer-of-bits (negsuc k) x s o h e = ⊎-elim equal below (eq-or-lt-of-le h)
     equal f =
         let g : number (x ∷ s) ≡ lowest (suc (length s)) + 0 = e ∙ rw (f, mod-self (lowest (suc (length s)))) in
         integer-of-large x s 0 o g ∙ unfold withSign in ap (λ (n : ℕ). negℤ (pos n)) (sym f)
+
     below : suc k < lowest (suc (length s)) → integer (x ∷ s) ≡ negsuc k
     below f = integer-of-large x s (suc k) o (e ∙ rw (mod-eq-of-lt f)) ∙ unfold withSign in refl
 

@@ -53,9 +53,10 @@ number-below (x ∷ s) h =
 
 -- A number has one digit above a base and one remainder below it.
 pub digits-same : (p x y a b : ℕ) → a < p → b < p → x * p + a ≡ y * p + b → (x ≡ y) × (a ≡ b)
-digits-same p x y a b ha hb e =
-    ( sym (digits-div x ha) ∙ ap (λ (n : ℕ). n / p) e ∙ digits-div y hb
-    , sym (digits-mod x ha) ∙ ap (λ (n : ℕ). n % p) e ∙ digits-mod y hb )
+digits-same p x y a b ha hb e = (
+  sym (digits-div x ha) ∙ ap (λ (n : ℕ). n / p) e ∙ digits-div y hb,
+  sym (digits-mod x ha) ∙ ap (λ (n : ℕ). n % p) e ∙ digits-mod y hb,
+)
 
 -- Few octets hold a number of 64 bits.
 pub number-below-most : (s : List ℕ) (n : ℕ) → Octets s → length s ≤ n → number s < 256 ^ n

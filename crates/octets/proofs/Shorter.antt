@@ -19,13 +19,13 @@ no-shorter-self s = record { long = omega arith; same = λ e. refl }
 
 pub no-shorter-append : (l s k t : List ℕ) → NoShorter l s → NoShorter k t → NoShorter (l ++ k) (s ++ t)
 no-shorter-append l s k t a b =
-    record
-    { long = simp length-append (omega arith)
-    ; same = λ e.
-        let f : length l + length k ≡ length s + length t = simp length-append at e in
-        let p = a .long in
-        let q = b .long in
-        ap₂ (λ (x y : List ℕ). x ++ y) (a .same (omega arith)) (b .same (omega arith))
+    record {
+      long = simp length-append (omega arith);
+      same = λ e.
+          let f : length l + length k ≡ length s + length t = simp length-append at e in
+          let p = a .long in
+          let q = b .long in
+          ap₂ (λ (x y : List ℕ). x ++ y) (a .same (omega arith)) (b .same (omega arith));
     }
 
 -- What is no shorter and not the same has more octets.

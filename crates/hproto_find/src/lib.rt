@@ -1,0 +1,52 @@
+// What a tag means in messages of a number.
+use hproto_table::Meaning;
+ghost use mathlib.Core.Path.{_≡_};
+ghost use mathlib.Core.List.{map};
+ghost use Prim.Native.Nat.{_+_, _*_, _≤_, _<_, min};
+ghost use lib.ListN.{length, take};
+ghost use Rattle.hproto_table.specs.Entry.{entry, find as find-of, meaning as meaning-of};
+
+// What the entry in a word means.
+fn meaning(w: u64) -> Meaning
+    ensures { λ r. ⌜ r ≡ meaning-of (entry w) ⌝ }
+{
+    let kind = w / 256 % 256;
+    match kind {
+        1 => Meaning::Uint,
+        2 => Meaning::Int,
+        3 => Meaning::String,
+        4 => Meaning::Text,
+        5 => Meaning::Message(w % 256),
+        _ => Meaning::Raw,
+    }
+}
+
+fn least(a: usize, b: usize) -> usize
+    ensures { λ r. ⌜ r ≡ min a b ⌝ }
+{
+    if a < b { a } else { b }
+}
+
+// What a tag means under the first words of a table. A word above its lowest 16 bits is the message number and the tag, so one
+// comparison looks at both. A larger number or tag stands in no word.
+pub fn find(words: &[u64], count: usize, number: u64, tag: u64) -> Meaning
+    ensures { λ r. ⌜ r ≡ find-of (map entry (take count (now (words .entry)))) number tag ⌝ }
+{
+    if 65535 < tag {
+        return Meaning::Raw;
+    }
+    if 4294967295 < number {
+        return Meaning::Raw;
+    }
+    let key = number * 65536 + tag;
+    let n = least(count, words.len());
+    let mut i = 0;
+    while i < n {
+        let w = words[i];
+        if w >> 16 == key {
+            return meaning(w);
+        }
+        i += 1;
+    }
+    Meaning::Raw
+}

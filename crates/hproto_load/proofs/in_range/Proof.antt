@@ -1,0 +1,25 @@
+-- `in_range` gives what the definition says, at each return by the tests before it.
+use native.Mathlib.Omega.{arith}
+use Rattle.hproto_load.proofs.Ranges.{high, unwanted, inner, none, plain}
+use Rattle.hproto_load.proofs.in_range.Statement.{statement}
+use Rattle.hproto_load.proofs.in_range.Tie as tie
+
+returns : tie.Need-returns
+returns c = high (c .before .args .w) (omega arith)
+
+returns-2 : tie.Need-returns-2
+returns-2 c =
+    unwanted (c .before .before .before .args .w) (omega arith) (c .before .if2 .taken) (c .if3 .taken)
+
+returns-3 : tie.Need-returns-3
+returns-3 c = inner (c .before .before .before .args .w) (omega arith) (c .if3 .left)
+
+returns-4 : tie.Need-returns-4
+returns-4 c = none (c .before .before .before .args .w) (omega arith) (c .if4 .taken)
+
+returns-5 : tie.Need-returns-5
+returns-5 c =
+    plain (c .before .before .before .args .w) (omega arith) (c .before .if2 .left) (c .if4 .left)
+
+pub in-range-spec : {M : Type 1} → statement M
+in-range-spec = tie.close (tie.spec returns returns-2 returns-3 returns-4 returns-5)

@@ -1,0 +1,12 @@
+use mathlib.Core.Path.{refl}
+use Rattle.hproto_table.specs.Load.{refused, tableOf}
+use Rattle.hproto_load.proofs.refused.Statement.{statement}
+use Rattle.hproto_load.proofs.refused.Tie as tie
+
+returns : tie.Need-returns
+unfolding refused tableOf
+returns c =
+    refl
+
+pub refused-spec : {M : Type 1} → statement M
+refused-spec = tie.close (tie.spec returns)

@@ -1,0 +1,52 @@
+-- Laws of tests that the laws of this crate and of the crates above share.
+use mathlib.Core.Path.{_≡_, refl, sym}
+use mathlib.Core.Bool.{Bool, true, false, not, _&&_, _||_, true≢false, false≢true}
+use Prim.Native.Nat.{ℕ}
+use lib.Dec.{eqb}
+use borrow.Author.Tests.{eqb-true, eq-eqb}
+
+-- What a conjunction that holds says of its parts, and the other way.
+pub and-left : (a b : Bool) → a && b ≡ true → a ≡ true
+and-left true b e = refl
+and-left false b e = e
+
+pub and-right : (a b : Bool) → a && b ≡ true → b ≡ true
+and-right true b e = e
+and-right false b e = absurd (false≢true e)
+
+pub and-both : (a b : Bool) → a ≡ true → b ≡ true → a && b ≡ true
+and-both a b p q = rw (p, q) refl
+
+-- What a disjunction that does not hold says of its parts, and the other way.
+pub or-left : (a b : Bool) → a || b ≡ false → a ≡ false
+or-left true b e = e
+or-left false b e = refl
+
+pub or-right : (a b : Bool) → a || b ≡ false → b ≡ false
+or-right true b e = absurd (true≢false e)
+or-right false b e = e
+
+pub or-neither : (a b : Bool) → a ≡ false → b ≡ false → a || b ≡ false
+or-neither a b p q = rw (p, q) refl
+
+pub or-first : (a b : Bool) → a ≡ true → a || b ≡ true
+or-first a b p = rw p refl
+
+pub or-second : (a b : Bool) → b ≡ true → a || b ≡ true
+or-second true b p = refl
+or-second false b p = p
+
+pub not-of-false : (a : Bool) → a ≡ false → not a ≡ true
+not-of-false a p = rw p refl
+
+-- Two tests of which each holds where the other does.
+same-test : (a b : Bool) → (a ≡ true → b ≡ true) → (b ≡ true → a ≡ true) → a ≡ b
+same-test true true p q = refl
+same-test true false p q = sym (p refl)
+same-test false true p q = q refl
+same-test false false p q = refl
+
+-- Equality of numbers goes both ways.
+pub eqb-swap : (m n : ℕ) → eqb m n ≡ eqb n m
+eqb-swap m n =
+    same-test (eqb m n) (eqb n m) (λ e. eq-eqb n m (sym (eqb-true m n e))) (λ e. eq-eqb m n (sym (eqb-true n m e)))

@@ -1,0 +1,5 @@
+pub mod Bools
+pub mod Lists
+pub mod Repeat
+pub mod Load
+pub mod Valid

@@ -1,0 +1,217 @@
+-- The table values that `valid` accepts are the ones that the loader can give.
+use Prim.Native.Nat.{ℕ, zero, suc, _+_, _*_, _-_, _/_, _%_, _^_, _≤_, _<_}
+use native.Mathlib.Omega.{arith}
+use mathlib.Core.Path.{_≡_, refl, sym, ap, subst, _∙_}
+use mathlib.Core.Logic.{_↔_}
+use mathlib.Core.Bool.{Bool, true, false, cond, not, _&&_, _||_}
+use mathlib.Core.List.{List, [], _∷_, _++_}
+use lib.ListN.{length, take, drop, getD, replicate, take-append-drop, length-drop}
+use lib.Seq.{drop-append-add, take-at, drop-at, take-suc, take-length, length-take-le}
+use lib.Dec.{eqb, leb, ltb, lit<}
+use borrow.Author.Tests.{eqb-true, le-leb, leb-true, ltb-true, not-true, not-false}
+use Rattle.octets.specs.Number.{Octets, number, octetsOf}
+use Rattle.octets.proofs.Number.{octets-append, octets-octetsOf, number-octetsOf, length-octetsOf}
+use Rattle.hproto_table.specs.Entry.{entry}
+use Rattle.hproto_table.specs.Load.{inRange, recordAt, wordAt, sound, wordsBefore, pair, seen, faulty, tableOf, accepted, refused, loadFrom, load, Loadable}
+use Rattle.hproto_table.specs.Repeat.{distinct, firstRepeat}
+use Rattle.hproto_table.specs.Valid.{allInRange, allZero, valid}
+use Rattle.hproto_table.specs.declared.Table.{Table}
+use Rattle.hproto_table.specs.declared.Loaded.{Loaded}
+use Rattle.hproto_table.proofs.Bools.{and-left, and-right, and-both, or-left, or-right, or-neither, not-of-false, eqb-swap}
+use Rattle.hproto_table.proofs.Repeat.{seen-append, seen-one, distinct-is}
+use Rattle.hproto_table.proofs.Load.{length-words, load-whole}
+
+-- ---- a table that is loaded is valid
+
+range-snoc : (ws : List ℕ) (w : ℕ) → allInRange ws ≡ true → inRange (entry w) ≡ true → allInRange (ws ++ (w ∷ [])) ≡ true
+unfolding allInRange
+range-snoc [] w e h = and-both (inRange (entry w)) true h refl
+range-snoc (x ∷ ws) w e h =
+    let a = inRange (entry x) in
+    let b = allInRange ws in
+    and-both a (allInRange (ws ++ (w ∷ []))) (and-left a b e) (range-snoc ws w (and-right a b e) h)
+
+distinct-snoc : (ws : List ℕ) (w : ℕ) → distinct ws ≡ true → seen (pair w) ws ≡ false → distinct (ws ++ (w ∷ [])) ≡ true
+unfolding distinct seen
+distinct-snoc [] w e h = refl
+distinct-snoc (x ∷ ws) w e h =
+    let a = not (seen (pair x) ws) in
+    let b = distinct ws in
+    let u : seen (pair x) ws ≡ false = not-true (seen (pair x) ws) (and-left a b e) in
+    let v : eqb (pair w) (pair x) ≡ false = eqb-swap (pair w) (pair x) ∙ or-left (eqb (pair x) (pair w)) (seen (pair w) ws) h in
+    let z : seen (pair x) (ws ++ (w ∷ [])) ≡ false =
+    seen-append (pair x) ws (w ∷ []) ∙ or-neither (seen (pair x) ws) (seen (pair x) (w ∷ [])) u (seen-one (pair x) w ∙ v) in
+    and-both (not (seen (pair x) (ws ++ (w ∷ [])))) (distinct (ws ++ (w ∷ []))) (not-of-false (seen (pair x) (ws ++ (w ∷ []))) z)
+    (distinct-snoc ws w (and-right a b e) (or-right (eqb (pair x) (pair w)) (seen (pair w) ws) h))
+
+zeros : (n : ℕ) → allZero (replicate n 0) ≡ true
+unfolding allZero
+zeros zero = refl
+zeros (suc n) = zeros n
+
+-- The table of few words that are in range, with no pair twice.
+valid-table : (ws : List ℕ) → length ws ≤ 64 → allInRange ws ≡ true → distinct ws ≡ true → valid (tableOf ws) ≡ true
+unfolding valid tableOf
+valid-table ws h r d =
+    rw (
+      take-at ws (replicate (64 - length ws) 0) (length ws) refl,
+      drop-at ws (replicate (64 - length ws) 0) (length ws) refl,
+      le-leb (length ws) 64 h,
+      r,
+      d,
+    )
+    (zeros (64 - length ws))
+
+sound-range : (s : List ℕ) (i : ℕ) → sound (recordAt s i) ≡ true → inRange (entry (wordAt s i)) ≡ true
+unfolding sound wordAt
+sound-range s i e =
+    let r = recordAt s i in
+    and-right (eqb (length r) 8 && eqb (getD r 0 0) 1 && eqb (number (take 2 (drop 1 r))) 5) (inRange (entry (number (drop 3 r)))) e
+
+-- A record that is not faulty.
+sound-of : (s : List ℕ) (i : ℕ) → faulty s i ≡ false → sound (recordAt s i) ≡ true
+unfolding faulty
+sound-of s i e =
+    let a = not (sound (recordAt s i)) in
+    let b = seen (pair (wordAt s i)) (wordsBefore s i) in
+    not-false (sound (recordAt s i)) (or-left a b (or-left (a || b) (leb 64 i) e))
+
+unseen-of : (s : List ℕ) (i : ℕ) → faulty s i ≡ false → seen (pair (wordAt s i)) (wordsBefore s i) ≡ false
+unfolding faulty
+unseen-of s i e =
+    let a = not (sound (recordAt s i)) in
+    let b = seen (pair (wordAt s i)) (wordsBefore s i) in
+    or-right a b (or-left (a || b) (leb 64 i) e)
+
+refused-not : (place : ℕ) (t : Table) → refused place ≡ record { refusal = 0; place = 0; table = t } → ⊥
+unfolding refused
+refused-not place t e = let z : _≡_ {A = ℕ} 2 0 = ap (λ (l : Loaded). l .refusal) e in omega arith
+
+accepted-table : (ws : List ℕ) (t : Table) → accepted ws ≡ record { refusal = 0; place = 0; table = t } → tableOf ws ≡ t
+unfolding accepted
+accepted-table ws t e = ap (λ (l : Loaded). l .table) e
+
+loaded-valid : (s : List ℕ) (t : Table) (left i : ℕ) → i + left ≤ 65 → allInRange (wordsBefore s i) ≡ true → distinct (wordsBefore s i) ≡ true
+    → loadFrom left i s ≡ record { refusal = 0; place = 0; table = t } → valid t ≡ true
+unfolding loadFrom wordsBefore
+loaded-valid s t zero i few r d e = absurd (refused-not (8 * i) t e)
+loaded-valid s t (suc left) i few r d e = go (leb (length s) (8 * i)) (faulty s i) refl e (loaded-valid s t left (suc i) (omega arith))
+  where
+    go : (a b : Bool) → faulty s i ≡ b
+        → cond a (accepted (wordsBefore s i)) (cond b (refused (8 * i)) (loadFrom left (suc i) s)) ≡ record { refusal = 0; place = 0; table = t }
+        → (allInRange (wordsBefore s (suc i)) ≡ true → distinct (wordsBefore s (suc i)) ≡ true → loadFrom left (suc i) s ≡ record { refusal = 0; place = 0; table = t } → valid t ≡ true)
+        → valid t ≡ true
+    go true b p q on =
+        let same : tableOf (wordsBefore s i) ≡ t = accepted-table (wordsBefore s i) t q in
+        subst (λ (x : Table). valid x ≡ true) same (valid-table (wordsBefore s i) (omega (arith, length-words s i)) r d)
+    go false true p q on = absurd (refused-not (8 * i) t q)
+    go false false p q on =
+        on (range-snoc (wordsBefore s i) (wordAt s i) r (sound-range s i (sound-of s i p)))
+        (distinct-snoc (wordsBefore s i) (wordAt s i) d (unseen-of s i p)) q
+
+-- ---- a table that is valid can be loaded, from the records of its words
+
+-- A record for a word, and records for words.
+unfoldable recordFor : ℕ → List ℕ
+recordFor w = 1 ∷ 0 ∷ 5 ∷ octetsOf 5 w
+
+unfoldable recordsFor : List ℕ → List ℕ
+recordsFor [] = []
+recordsFor (w ∷ ws) = recordFor w ++ recordsFor ws
+
+records-octets : (ws : List ℕ) → Octets (recordsFor ws)
+unfolding recordsFor recordFor Octets
+records-octets [] = tt
+records-octets (w ∷ ws) =
+    octets-append (recordFor w) (recordsFor ws) (lit< tt, (lit< tt, (lit< tt, octets-octetsOf 5 w))) (records-octets ws)
+
+records-length : (ws : List ℕ) → length (recordsFor ws) ≡ 8 * length ws
+unfolding recordsFor recordFor octetsOf
+records-length [] = refl
+records-length (w ∷ ws) = omega (arith, records-length ws)
+
+records-at : (ws : List ℕ) (i : ℕ) → i < length ws → recordAt (recordsFor ws) i ≡ recordFor (getD ws i 0)
+unfolding recordsFor recordFor octetsOf recordAt
+records-at [] i h = absurd (omega arith)
+records-at (w ∷ ws) zero h = refl
+records-at (w ∷ ws) (suc i) h =
+    let e : 8 * suc i ≡ 8 + 8 * i = omega arith in
+    rw (e, drop-append-add (recordFor w) (recordsFor ws) (8 * i)) (records-at ws i (omega arith))
+
+range-at : (ws : List ℕ) (i : ℕ) → allInRange ws ≡ true → i < length ws → inRange (entry (getD ws i 0)) ≡ true
+unfolding allInRange
+range-at [] i e h = absurd (omega arith)
+range-at (w ∷ ws) zero e h = and-left (inRange (entry w)) (allInRange ws) e
+range-at (w ∷ ws) (suc i) e h = range-at ws i (and-right (inRange (entry w)) (allInRange ws) e) (omega arith)
+
+-- A word whose entry is in range fits five octets.
+word-small : (w : ℕ) → inRange (entry w) ≡ true → w < 256 ^ 5
+unfolding inRange entry
+word-small w e =
+    let k = w / 256 % 256 in
+    let a = ltb (w / 4294967296) 16 in
+    let b = leb 1 k in
+    let c = leb k 5 in
+    let d = cond (eqb k 5) (ltb (w % 256) 16) (eqb (w % 256) 0) in
+    let h : w / 4294967296 < 16 = ltb-true (w / 4294967296) 16 (and-left a b (and-left (a && b) c (and-left (a && b && c) d e))) in
+    omega arith
+
+for-sound : (w : ℕ) → inRange (entry w) ≡ true → sound (recordFor w) ≡ true
+unfolding sound recordFor number
+for-sound w e = rw (length-octetsOf 5 w, number-octetsOf 5 w (word-small w e)) e
+
+module _ (ws : List ℕ) (range : allInRange ws ≡ true) where
+  records-sound : (i : ℕ) → i < length ws → sound (recordAt (recordsFor ws) i) ≡ true
+  records-sound i h = rw (records-at ws i h) (for-sound (getD ws i 0) (range-at ws i range h))
+
+  records-word : (i : ℕ) → i < length ws → wordAt (recordsFor ws) i ≡ getD ws i 0
+  unfolding wordAt recordFor
+  records-word i h = rw (records-at ws i h) (number-octetsOf 5 (getD ws i 0) (word-small (getD ws i 0) (range-at ws i range h)))
+
+  records-words : (n : ℕ) → n ≤ length ws → wordsBefore (recordsFor ws) n ≡ take n ws
+  unfolding wordsBefore
+  records-words zero h = refl
+  records-words (suc n) h = rw (records-words n (omega arith), records-word n h) (sym (take-suc ws n 0 h))
+
+  load-records : length ws ≤ 64 → distinct ws ≡ true → load (recordsFor ws) ≡ accepted ws
+  load-records few d =
+      let all : wordsBefore (recordsFor ws) (length ws) ≡ ws = records-words (length ws) (omega arith) ∙ take-length ws in
+      let none : firstRepeat ws ≡ length ws = eqb-true (firstRepeat ws) (length ws) (sym (distinct-is ws) ∙ d) in
+      load-whole (recordsFor ws) (length ws) few records-sound (ap firstRepeat all ∙ none) (omega (arith, records-length ws)) ∙ ap accepted all
+
+zeros-are : (l : List ℕ) → allZero l ≡ true → l ≡ replicate (length l) 0
+unfolding allZero
+zeros-are [] e = refl
+zeros-are (x ∷ l) e =
+    let h : x ≡ 0 = eqb-true x 0 (and-left (eqb x 0) (allZero l) e) in
+    rw (h, ← zeros-are l (and-right (eqb x 0) (allZero l) e)) refl
+
+-- ---- the law
+
+module _ (t : Table) where
+  pub loadable-valid : Loadable t → valid t ≡ true
+  unfolding Loadable load wordsBefore allInRange distinct
+  loadable-valid l = loaded-valid (l .0) t 65 0 (omega arith) refl refl (l .2)
+
+  pub valid-loadable : length (t .words) ≡ 64 → valid t ≡ true → Loadable t
+  unfolding Loadable valid accepted tableOf
+  valid-loadable size v =
+      let n = t .count in
+      let used = take n (t .words) in
+      let rest = drop n (t .words) in
+      let a = leb n 64 in
+      let b = allInRange used in
+      let c = distinct used in
+      let d = allZero rest in
+      let few : n ≤ 64 = leb-true n 64 (and-left a b (and-left (a && b) c (and-left (a && b && c) d v))) in
+      let range : b ≡ true = and-right a b (and-left (a && b) c (and-left (a && b && c) d v)) in
+      let apart : c ≡ true = and-right (a && b) c (and-left (a && b && c) d v) in
+      let len : length used ≡ n = length-take-le n (t .words) (omega arith) in
+      let left : length rest ≡ 64 - n = rw (length-drop n (t .words), size) refl in
+      let filled : used ++ replicate (64 - n) 0 ≡ t .words =
+      rw (← left, ← zeros-are rest (and-right (a && b && c) d v)) (take-append-drop n (t .words)) in
+      (recordsFor used, records-octets used, load-records used range (omega arith) apart ∙ rw (len, filled) refl)
+
+  -- Of a table value with 64 words: it is valid exactly when the loader can give it.
+  pub valid-exactly : length (t .words) ≡ 64 → (valid t ≡ true) ↔ Loadable t
+  valid-exactly size = (valid-loadable size, loadable-valid)
