@@ -225,5 +225,5 @@ nested-small es room n field at i k l s f d r h w a =
     let c = counts-small es room n field at b f d (sym w ∙ a) in
     let p = c .0 in
     let m : length b ≡ l =
-        length-take-le (i + k + l - (i + k)) (drop (i + k) s) (simp length-drop (omega arith)) ∙ omega arith in
+    length-take-le (i + k + l - (i + k)) (drop (i + k) s) (simp length-drop (omega arith)) ∙ omega arith in
     (omega arith, c .1)

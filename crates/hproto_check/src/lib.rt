@@ -1,12 +1,14 @@
 // The check of a message: its refusal, or the count of its fields and the depth of its deepest message.
 
 use hproto_message::Step;
+use hproto_table::Table;
 ghost use mathlib.Core.Path.{_≡_};
 ghost use mathlib.Core.List.{map};
 ghost use Prim.Native.Nat.{_+_, _≤_, max};
 ghost use lib.ListN.{length, take};
 ghost use Rattle.hproto_table.specs.Entry.{entry};
 ghost use Rattle.hproto_message.specs.Reading.{messageFrom};
+ghost use Rattle.hproto_check.specs.Check.{check as check-of, refusal};
 ghost use Rattle.hproto_check.specs.Walks.{walk as walk-of};
 
 // What a walk through a message comes to.
@@ -32,7 +34,7 @@ fn larger(a: u64, b: u64) -> u64
 
 // A message of a number whose octets start at a place, in a field at another place. `room` is how many messages deep it may be, itself
 // counted; a nested message has one less.
-fn message(
+fn nested(
     words: &[u64],
     count: usize,
     number: u64,
@@ -76,7 +78,7 @@ fn message(
             } => {
                 let a = i + control;
                 let e = a + contents;
-                match message(
+                match nested(
                     words,
                     count,
                     m,
@@ -105,5 +107,42 @@ fn message(
                 }
             }
         }
+    }
+}
+
+fn refused(number: u64, place: u64) -> Checked
+    ensures { λ r. ⌜ r ≡ refusal number place ⌝ }
+{
+    Checked {
+        refusal: number,
+        place,
+        fields: 0,
+        depth: 0,
+    }
+}
+
+// The check of a message of a number under a table.
+pub fn check(t: Table, number: u64, message: &[u8]) -> Checked
+    ensures { λ r. ⌜ r ≡ check-of t number (now (message .entry)) ⌝ }
+{
+    if 65536 < message.len() {
+        return refused(1, 0);
+    }
+    if !hproto_valid::valid(t) {
+        return refused(2, 0);
+    }
+    if 15 < number {
+        return refused(2, 0);
+    }
+    let words = t.words;
+    let count = t.count;
+    match nested(&words, count, number, 8, 0, 0, message) {
+        Walk::Accepted { fields, depth } => Checked {
+            refusal: 0,
+            place: 0,
+            fields,
+            depth,
+        },
+        Walk::Refused { number: n, place } => refused(n, place),
     }
 }

@@ -3,3 +3,4 @@ pub mod Steps
 pub mod Accepted
 pub mod Shortened
 pub mod Next
+pub mod Refusals

@@ -1,3 +1,5 @@
 pub mod Passing
 pub mod Puts
 pub mod Writing
+pub mod Measuring
+pub mod Answers

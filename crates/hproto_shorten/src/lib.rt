@@ -16,6 +16,8 @@ ghost use Rattle.hproto_table.specs.Entry.{entry};
 ghost use Rattle.hproto_message.specs.Cut.{Contents};
 ghost use Rattle.hproto_message.specs.Tree.{value};
 ghost use Rattle.hproto_message.specs.Shortest.{field, leastContents};
+ghost use lib.Dec.{leb};
+ghost use Rattle.hproto_shorten.specs.Shorten.{answer, buffer};
 ghost use Rattle.hproto_shorten.specs.Written.{short, Accepts, innerOf, Put};
 
 // The number of the message that a field holds, if it holds one.
@@ -156,4 +158,123 @@ fn write(
         }
     }
     end
+}
+
+fn uint_size(s: &[u8]) -> usize
+    requires { ⌜ length (now s) ≤ 8 ⌝ }
+    ensures { λ r. ⌜ r ≡ length (leastUint (number-of (now (s .entry)))) ⌝ }
+{
+    match octets_read::uint(s) {
+        Unsigned::Value(v) => octets_least::uint_least(v).width as usize,
+        Unsigned::Long => 0,
+    }
+}
+
+fn int_size(s: &[u8]) -> usize
+    requires { ⌜ length (now s) ≤ 8 ⌝ }
+    ensures { λ r. ⌜ r ≡ length (leastInt (integer (now (s .entry)))) ⌝ }
+{
+    match octets_read::int(s) {
+        Signed::Value(v) => octets_least::int_least(v).width as usize,
+        Signed::Long => 0,
+    }
+}
+
+// How many octets the least contents take.
+fn least_size(kind: Meaning, s: &[u8]) -> usize
+    requires { ⌜ Contents kind (now s) ⌝ }
+    ensures { λ r. ⌜ r ≡ length (leastContents (value kind (now (s .entry)))) ⌝ }
+{
+    match kind {
+        Meaning::Raw => s.len(),
+        Meaning::Uint => uint_size(s),
+        Meaning::Int => int_size(s),
+        Meaning::String => s.len(),
+        Meaning::Text => s.len(),
+        Meaning::Message(_) => 0,
+    }
+}
+
+// How many octets a field that is no message takes in its least form.
+fn value_size(kind: Meaning, tag: u16, s: &[u8]) -> usize
+    requires { ⌜ Contents kind (now s) ⌝ }
+    requires { ⌜ length (now s) ≤ 65536 ⌝ }
+    ensures { λ r. ⌜ r ≡ length (field tag (leastContents (value kind (now (s .entry))))) ⌝ }
+{
+    let n = least_size(kind, s);
+    hproto_put::control_size(tag, n as u64) + n
+}
+
+// How many octets the shortest form of an accepted message takes.
+fn measure(words: &[u64], count: usize, number: u64, room: u64, s: &[u8]) -> usize
+    requires { ⌜ length (now s) ≤ 65536 ⌝ }
+    requires { ⌜ Octets (now s) ⌝ }
+    requires { ⌜ Accepts (map entry (take count (now words))) room number (now s) ⌝ }
+    ensures { λ r. ⌜ r ≡ length (short (map entry (take count (now (words .entry)))) room number (now (s .entry))) ⌝ }
+{
+    let mut i: usize = 0;
+    let mut size: usize = 0;
+    while i < s.len() {
+        let f = hproto_field::field_at(words, count, number, &s[i..]);
+        let kind = f.kind;
+        let a = i + f.control;
+        let e = a + f.contents;
+        let tag = (f.tag % 65536) as u16;
+        match held(kind) {
+            Inner::None => {
+                size = size + value_size(kind, tag, &s[a..e]);
+                i = e;
+            }
+            Inner::Number(m) => {
+                let n = measure(words, count, m, room - 1, &s[a..e]);
+                size = size + (hproto_put::control_size(tag, n as u64) + n);
+                i = e;
+            }
+        }
+    }
+    size
+}
+
+// Whether the shortest form of an accepted message takes at most `len` octets. It is no longer than the message, so only a smaller
+// buffer needs it measured.
+fn has_room(words: &[u64], count: usize, number: u64, message: &[u8], len: usize) -> bool
+    requires { ⌜ length (now message) ≤ 65536 ⌝ }
+    requires { ⌜ Octets (now message) ⌝ }
+    requires { ⌜ Accepts (map entry (take count (now words))) 8 number (now message) ⌝ }
+    ensures { λ r. ⌜ r ≡ leb (length (short (map entry (take count (now (words .entry)))) 8 number (now (message .entry)))) len ⌝ }
+{
+    if message.len() <= len {
+        return true;
+    }
+    measure(words, count, number, 8, message) <= len
+}
+
+// Writes the shortest octets that read the same as a message at the front of a second buffer and answers their length.
+pub fn shorten(t: Table, number: u64, message: &[u8], out: &mut [u8]) -> Shortened
+    ensures { λ r. ⌜ r ≡ answer t number (now (message .entry)) (now (out .entry)) ⌝ }
+    ensures { λ r. ⌜ now (out .exit) ≡ buffer t number (now (message .entry)) (now (out .entry)) ⌝ }
+{
+    let c = hproto_check::check(t, number, message);
+    if c.refusal != 0 {
+        return Shortened {
+            refusal: c.refusal,
+            place: c.place,
+            length: 0,
+        };
+    }
+    let words = t.words;
+    let count = t.count;
+    if !has_room(&words, count, number, message, out.len()) {
+        return Shortened {
+            refusal: 9,
+            place: 0,
+            length: 0,
+        };
+    }
+    let end = write(&words, count, number, 8, message, out, 0);
+    Shortened {
+        refusal: 0,
+        place: 0,
+        length: end as u64,
+    }
 }

@@ -136,10 +136,11 @@ write-part-put-value-end t c = let f = c .before .before .before .before .before
 write-put-value-requires : (t : ℕ) → write-lts.Need-put-value-requires (field-at-reads.Asked, field-at-reads.Learnt, held-reads.Asked, held-reads.Learnt, put-value-reads.Asked, put-value-reads.Learnt, write-below t, write.Post, wrap-reads.Asked, wrap-reads.Learnt) (write-at t) write.Post write-Inv-loop write-μ-loop
 write-put-value-requires t c κs =
     let f = c .before .before .before .before .before .before .before .before in
-    let q = plain-of (f .field-at .result .kind) (sym (c .before .before .before .before .held .ensures) ∙ c .before .before .enum-told .given .1) in
-    ( leaf-contents (es t (b t f)) (b t f .args .room - 1) (b t f .args .number) (now (b t f .args .s)) (i t f) (state t f .written) (state t f .passed) (more t f)
-    (f .field-at .result) (found t f) q
-    , leaf-fits (es t (b t f)) (b t f .args .room - 1) (b t f .args .number) (now (b t f .args .s)) (now (b t f .args .out)) (b t f .args .to) (fits t (b t f)) (i t f) (f .before .before .before .loop .end) (f .before .before .before .loop .out) (state t f) (more t f) (octets t (b t f)) (f .field-at .result) (found t f) q )
+    let q = plain-of (f .field-at .result .kind) (sym (c .before .before .before .before .held .ensures) ∙ c .before .before .enum-told .given .1) in (
+      leaf-contents (es t (b t f)) (b t f .args .room - 1) (b t f .args .number) (now (b t f .args .s)) (i t f) (state t f .written) (state t f .passed) (more t f)
+          (f .field-at .result) (found t f) q,
+      leaf-fits (es t (b t f)) (b t f .args .room - 1) (b t f .args .number) (now (b t f .args .s)) (now (b t f .args .out)) (b t f .args .to) (fits t (b t f)) (i t f) (f .before .before .before .loop .end) (f .before .before .before .loop .out) (state t f) (more t f) (octets t (b t f)) (f .field-at .result) (found t f) q,
+    )
 
 -- src/lib.rt:140:5
 write-loop-less : (t : ℕ) → write-lts.Need-loop-less (field-at-reads.Asked, field-at-reads.Learnt, held-reads.Asked, held-reads.Learnt, put-value-reads.Asked, put-value-reads.Learnt, write-below t, write.Post, wrap-reads.Asked, wrap-reads.Learnt) (write-at t) write.Post write-Inv-loop write-μ-loop

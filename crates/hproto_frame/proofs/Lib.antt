@@ -1,0 +1,6 @@
+pub mod Prefixes
+pub mod Reading
+pub mod Writing
+pub mod Accepted
+pub mod ReadBack
+pub mod Samples

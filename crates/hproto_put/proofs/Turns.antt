@@ -1,0 +1,155 @@
+-- What the loops of this crate have stored, and that a turn stores one octet more.
+use Prim.Native.Nat.{ℕ, suc, _+_, _-_, _/_, _%_, _^_, _≤_, _<_}
+use native.Mathlib.Nat.{pow-suc, div-div-eq-div-mul, div-one}
+use native.Mathlib.Numerals.{add-one}
+use native.Mathlib.Omega.{arith}
+use mathlib.Core.Path.{_≡_, refl, sym, ap, ap₂, _∙_, subst}
+use mathlib.Core.List.{List, [], _∷_, _++_}
+use lib.ListN.{length, getD, set, take, drop, length-append}
+use lib.Seq.{sets, length-sets, take-suc, take-all, drop-cons, length-take-le}
+use Rattle.octets.specs.Number.{octetsOf}
+use Rattle.octets.proofs.Number.{length-octetsOf}
+use Rattle.hproto_put.specs.Store.{stored, moved}
+use Rattle.hproto_put.proofs.Sets.{sets-append, set-before-sets, getD-before-sets}
+use Rattle.hproto_put.proofs.Stores.{stored-fits, stored-too-long}
+use Rattle.hproto_put.proofs.Moves.{moved-fits}
+
+-- The buffer d with xs from `at` on, where they fit.
+pub record Written (d : List ℕ) (at : ℕ) (xs out : List ℕ) : Type 0 where
+  pub room : at + length xs ≤ length d
+  pub is : out ≡ sets d at xs
+
+pub written-length : (d : List ℕ) (at : ℕ) (xs out : List ℕ) → Written d at xs out → length out ≡ length d
+written-length d at xs out w = ap length (w .is) ∙ length-sets d at xs
+
+pub written-stored : (d : List ℕ) (at : ℕ) (xs out : List ℕ) → Written d at xs out → out ≡ stored d at xs
+written-stored d at xs out w = w .is ∙ sym (stored-fits d at xs (w .room))
+
+pub none-written : (d : List ℕ) (at : ℕ) → at ≤ length d → Written d at [] d
+none-written d at h = record { room = omega arith; is = refl }
+
+pub one-before : (d : List ℕ) (i j x : ℕ) (xs out : List ℕ) → suc j ≡ i → Written d i xs out → Written d j (x ∷ xs) (set out j x)
+one-before d i j x xs out e w =
+    let r = w .room in
+    record {
+      room = omega arith;
+      is =
+          ap (λ (l : List ℕ). set l j x) (w .is) ∙ set-before-sets d i j x xs (omega arith)
+          ∙ ap (λ (k : ℕ). sets (set d j x) k xs) (sym e);
+    }
+
+pub one-after : (d : List ℕ) (at j x : ℕ) (xs out : List ℕ) → at + length xs ≡ j → j < length d → Written d at xs out
+    → Written d at (xs ++ (x ∷ [])) (set out j x)
+one-after d at j x xs out e h w =
+    record {
+      room = rw (length-append xs (x ∷ [])) (omega arith);
+      is = ap₂ (λ (l : List ℕ) (k : ℕ). set l k x) (w .is) (sym e) ∙ sym (sets-append d at xs (x ∷ []));
+    }
+
+-- The last k octets of v are stored at the end of the place for n, and `rest` is what is left of v before them.
+pub record NumberDown (d : List ℕ) (at n v : ℕ) (out : List ℕ) (rest k : ℕ) : Type 0 where
+  pub inside : k ≤ n
+  pub room : at + n ≤ length d
+  pub long : length out ≡ length d
+  pub left : rest ≡ v / 256 ^ k
+  pub written : Written d (at + (n - k)) (octetsOf k v) out
+
+pub number-begun : (d : List ℕ) (at n v : ℕ) → at + n ≤ length d → NumberDown d at n v d v 0
+unfolding octetsOf
+number-begun d at n v h =
+    record { inside = omega arith; room = h; long = refl; left = sym (div-one v); written = none-written d (at + (n - 0)) (omega arith) }
+
+pub number-turn : (d : List ℕ) (at n v : ℕ) (out : List ℕ) (rest k : ℕ) → k < n → NumberDown d at n v out rest k
+    → NumberDown d at n v (set out (at + (n - (k + 1))) (rest % 256)) (rest / 256) (k + 1)
+unfolding octetsOf
+number-turn d at n v out rest k h p =
+    let j = at + (n - (k + 1)) in
+    let w : Written d j (octetsOf (k + 1) v) (set out j (rest % 256)) =
+    rw (add-one k, p .left) (one-before d (at + (n - k)) (at + (n - suc k)) (v / 256 ^ k % 256) (octetsOf k v) out (omega arith) (p .written)) in
+    record {
+      inside = omega arith;
+      room = p .room;
+      long = written-length d j (octetsOf (k + 1) v) (set out j (rest % 256)) w;
+      left = rw (p .left, add-one k, pow-suc 256 k) (div-div-eq-div-mul v (256 ^ k) 256);
+      written = w;
+    }
+
+pub number-ended : (d : List ℕ) (at n v : ℕ) (out : List ℕ) (rest k : ℕ) → n ≤ k → NumberDown d at n v out rest k
+    → out ≡ stored d at (octetsOf n v)
+number-ended d at n v out rest k h p =
+    let a = p .inside in
+    let e : at + (n - k) ≡ at = omega arith in
+    let f : k ≡ n = omega arith in
+    written-stored d (at + (n - k)) (octetsOf k v) out (p .written) ∙ rw (e, f)
+
+pub number-too-long : (d : List ℕ) (at n v : ℕ) → length d < at + n → d ≡ stored d at (octetsOf n v)
+number-too-long d at n v h = let l = length-octetsOf n v in sym (stored-too-long d at (octetsOf n v) (omega arith))
+
+-- The first i octets of s are stored.
+pub record CopiedUp (d : List ℕ) (at : ℕ) (s out : List ℕ) (i : ℕ) : Type 0 where
+  pub inside : i ≤ length s
+  pub room : at + length s ≤ length d
+  pub long : length out ≡ length d
+  pub written : Written d at (take i s) out
+
+pub copy-begun : (d : List ℕ) (at : ℕ) (s : List ℕ) → at + length s ≤ length d → CopiedUp d at s d 0
+copy-begun d at s h = record { inside = omega arith; room = h; long = refl; written = none-written d at (omega arith) }
+
+pub copy-turn : (d : List ℕ) (at : ℕ) (s out : List ℕ) (i : ℕ) → i < length s → CopiedUp d at s out i
+    → CopiedUp d at s (set out (at + i) (getD s i 0)) (i + 1)
+copy-turn d at s out i h p =
+    let r = p .room in
+    let l = length-take-le i s (omega arith) in
+    let w : Written d at (take (i + 1) s) (set out (at + i) (getD s i 0)) =
+    rw (add-one i, take-suc s i 0 h) (one-after d at (at + i) (getD s i 0) (take i s) out (rw l) (omega arith) (p .written)) in
+    record {
+      inside = omega arith;
+      room = r;
+      long = written-length d at (take (i + 1) s) (set out (at + i) (getD s i 0)) w;
+      written = w;
+    }
+
+pub copy-ended : (d : List ℕ) (at : ℕ) (s out : List ℕ) (i : ℕ) → length s ≤ i → CopiedUp d at s out i → out ≡ stored d at s
+copy-ended d at s out i h p =
+    written-stored d at (take i s) out (p .written) ∙ rw (take-all i s h)
+
+-- The last k of n octets from `at` on are stored again, `by` places further up.
+pub record MovedDown (d : List ℕ) (at n by : ℕ) (out : List ℕ) (k : ℕ) : Type 0 where
+  pub inside : k ≤ n
+  pub room : at + n + by ≤ length d
+  pub long : length out ≡ length d
+  pub written : Written d (at + by + (n - k)) (take k (drop (at + (n - k)) d)) out
+
+pub move-begun : (d : List ℕ) (at n by : ℕ) → at + n + by ≤ length d → MovedDown d at n by d 0
+move-begun d at n by h =
+    record { inside = omega arith; room = h; long = refl; written = none-written d (at + by + (n - 0)) (omega arith) }
+
+pub move-turn : (d : List ℕ) (at n by : ℕ) (out : List ℕ) (k : ℕ) → k < n → MovedDown d at n by out k
+    → MovedDown d at n by (set out (at + by + (n - (k + 1))) (getD out (at + (n - (k + 1))) 0)) (k + 1)
+move-turn d at n by out k h p =
+    let r = p .room in
+    let i = n - (k + 1) in
+    let j = at + i in
+    let e : suc j ≡ at + (n - k) = omega arith in
+    let x : getD out j 0 ≡ getD d j 0 =
+    ap (λ (l : List ℕ). getD l j 0) (p .written .is) ∙ getD-before-sets d (at + by + (n - k)) j (take k (drop (at + (n - k)) d)) (omega arith) in
+    let t : take (suc k) (drop j d) ≡ getD d j 0 ∷ take k (drop (at + (n - k)) d) = rw (drop-cons d j 0 (omega arith), e) in
+    let w : Written d (at + by + i) (take (k + 1) (drop j d)) (set out (at + by + i) (getD out j 0)) =
+    subst (λ (m : ℕ). Written d (at + by + i) (take m (drop j d)) (set out (at + by + i) (getD out j 0))) (sym (add-one k))
+    (rw (x, t) (one-before d (at + by + (n - k)) (at + by + i) (getD d j 0) (take k (drop (at + (n - k)) d)) out (omega arith) (p .written))) in
+    record {
+      inside = omega arith;
+      room = r;
+      long = written-length d (at + by + i) (take (k + 1) (drop j d)) (set out (at + by + i) (getD out j 0)) w;
+      written = w;
+    }
+
+pub move-ended : (d : List ℕ) (at n by : ℕ) (out : List ℕ) (k : ℕ) → n ≤ k → MovedDown d at n by out k → out ≡ moved d at n by
+move-ended d at n by out k h p =
+    let a = p .inside in
+    let r = p .room in
+    let e : at + by + (n - k) ≡ at + by = omega arith in
+    let f : at + (n - k) ≡ at = omega arith in
+    let g : k ≡ n = omega arith in
+    written-stored d (at + by + (n - k)) (take k (drop (at + (n - k)) d)) out (p .written)
+    ∙ rw (e, f, g) (sym (moved-fits d at n by (omega arith)))

@@ -1,0 +1,110 @@
+-- `hproto_put::move_up` meets its contract: at each turn the last octets are moved, and those before them are as they were.
+use Prim.Native.Nat.{_+_, _-_}
+use borrow.Author.Needs.{needs}
+use native.Mathlib.Omega.{arith}
+use mathlib.Core.Path.{sym}
+use lib.ListN.{length}
+use Rattle.hproto_put.proofs.Room.{room, no-room}
+use Rattle.hproto_put.proofs.Moves.{moved-none, moved-too-far}
+use Rattle.hproto_put.proofs.Turns.{MovedDown, move-begun, move-turn, move-ended}
+use Rattle.hproto_put.proofs.move_up.Statement.{statement}
+use Rattle.hproto_put.proofs.move_up.Tie as tie
+
+abbrev Inv-loop : tie.InvT-loop
+Inv-loop out₀ at n by to k₀ out k = MovedDown out₀ at n by out k
+
+abbrev μ-loop : tie.MeasureT-loop
+μ-loop out₀ at n by to k₀ out k = n - k
+
+has-room-requires : tie.Need-has-room-requires Inv-loop μ-loop
+has-room-requires c κs = search needs
+
+add-has-room : tie.Need-add-has-room Inv-loop μ-loop
+add-has-room c =
+    let a = c .before .before .before .args in
+    omega (arith, room (c .before .has-room .result) (a .at) (a .n) (length (a .out .now)) (c .before .has-room .ensures) (c .if1 .taken))
+
+has-room-requires-2 : tie.Need-has-room-requires-2 Inv-loop μ-loop
+has-room-requires-2 c κs = search needs
+
+add-to : tie.Need-add-to Inv-loop μ-loop
+add-to c =
+    let a = c .before .before .before .before .before .args in
+    omega (arith, room (c .before .has-room2 .result) (a .at + a .n) (a .by) (length (a .out .now)) (c .before .has-room2 .ensures) (c .if2 .taken))
+
+loop-holds : tie.Need-loop-holds Inv-loop μ-loop
+loop-holds c =
+    let a = c .before .before .before .before .before .args in
+    move-begun (a .out .now) (a .at) (a .n) (a .by) (room _ _ _ _ (c .before .has-room2 .ensures) (c .if2 .taken))
+
+add-k : tie.Need-add-k Inv-loop μ-loop
+add-k c = omega arith
+
+sub-i : tie.Need-sub-i Inv-loop μ-loop
+sub-i c = omega arith
+
+add-out : tie.Need-add-out Inv-loop μ-loop
+add-out c = omega arith
+
+slice-read-out : tie.Need-slice-read-out Inv-loop μ-loop
+slice-read-out c = omega arith
+
+add-out-2 : tie.Need-add-out-2 Inv-loop μ-loop
+add-out-2 c = omega arith
+
+slice-write-out : tie.Need-slice-write-out Inv-loop μ-loop
+slice-write-out c = omega arith
+
+loop-less : tie.Need-loop-less Inv-loop μ-loop
+loop-less c = omega arith
+
+loop-again : tie.Need-loop-again Inv-loop μ-loop
+loop-again c =
+    let a = c .before .before .before .before .before .before .before .before .args in
+    let l = c .before .before .loop in
+    move-turn (a .out .now) (a .at) (a .n) (a .by) (l .out) (l .k) (c .before .loop-test .taken) (l .inv)
+
+same-length : tie.Need-same-length Inv-loop μ-loop
+same-length c = c .before .loop .inv .long
+
+returns : tie.Need-returns Inv-loop μ-loop
+returns c =
+    let a = c .before .before .before .before .before .before .before .args in
+    let l = c .before .loop in
+    move-ended (a .out .now) (a .at) (a .n) (a .by) (l .out) (l .k) (c .loop-test .left) (l .inv)
+
+returns-2 : tie.Need-returns-2 Inv-loop μ-loop
+returns-2 c =
+    let a = c .before .before .before .before .before .args in
+    sym
+    (moved-too-far (a .out .now) (a .at) (a .n) (a .by) (room _ _ _ _ (c .before .before .before .has-room .ensures) (c .before .before .if1 .taken))
+    (no-room _ _ _ _ (c .before .has-room2 .ensures) (c .if2 .left)))
+
+returns-3 : tie.Need-returns-3 Inv-loop μ-loop
+returns-3 c =
+    let a = c .before .before .before .args in
+    sym (moved-none (a .out .now) (a .at) (a .n) (a .by) (no-room _ _ _ _ (c .before .has-room .ensures) (c .if1 .left)))
+
+pub move-up-spec : {M : Type 1} → statement M
+move-up-spec =
+    tie.close
+    (tie.spec
+    Inv-loop
+    μ-loop
+    has-room-requires
+    add-has-room
+    has-room-requires-2
+    add-to
+    loop-holds
+    add-k
+    sub-i
+    add-out
+    slice-read-out
+    add-out-2
+    slice-write-out
+    loop-less
+    loop-again
+    same-length
+    returns
+    returns-2
+    returns-3)

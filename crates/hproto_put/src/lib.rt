@@ -1,0 +1,86 @@
+// Storing octets, numbers and control parts into a lent buffer. What does not fit is not stored, so that no call reaches beyond the
+// buffer whatever it is given.
+ghost use mathlib.Core.Path.{_≡_};
+ghost use Prim.Native.Nat.{_+_};
+ghost use lib.Dec.{leb};
+ghost use lib.ListN.{length as length-of};
+ghost use Rattle.octets.specs.Number.{octetsOf};
+ghost use Rattle.octets.specs.Control.{leastControl};
+ghost use Rattle.hproto_put.specs.Store.{stored, moved};
+
+// Whether n octets from `at` on lie within `len`. The sum of the two could be out of range, so n is compared with what is left.
+fn has_room(len: usize, at: usize, n: usize) -> bool
+    ensures { λ r. ⌜ r ≡ leb (at + n) len ⌝ }
+{
+    if len < at {
+        return false;
+    }
+    n <= len - at
+}
+
+// The last `width` octets of v, from the last to the first; k of them are stored. Above its eight octets a number has zeros.
+pub fn put_number(out: &mut [u8], at: usize, width: u64, v: u64)
+    ensures { λ _. ⌜ now (out .exit) ≡ stored (now (out .entry)) at (octetsOf width v) ⌝ }
+{
+    let n = width as usize;
+    if has_room(out.len(), at, n) {
+        let mut rest = v;
+        let mut k = 0;
+        while k < n {
+            k += 1;
+            out[at + (n - k)] = (rest % 256) as u8;
+            rest = rest / 256;
+        }
+    }
+}
+
+// How many octets the least control part of a tag and a length takes.
+pub fn control_size(tag: u16, length: u64) -> usize
+    ensures { λ r. ⌜ r ≡ length-of (leastControl tag length) ⌝ }
+{
+    let c = octets_least::control_least(tag, length);
+    (1 + c.tag_width + c.length_width) as usize
+}
+
+// The least control part of a tag and a length.
+pub fn put_control(out: &mut [u8], at: usize, tag: u16, length: u64)
+    ensures { λ _. ⌜ now (out .exit) ≡ stored (now (out .entry)) at (leastControl tag length) ⌝ }
+{
+    let c = octets_least::control_least(tag, length);
+    let size = control_size(tag, length);
+    if has_room(out.len(), at, size) {
+        out[at] = c.octet;
+        put_number(out, at + 1, c.tag_width, tag as u64);
+        let after = at + 1 + (c.tag_width as usize);
+        put_number(out, after, c.length_width, length);
+    }
+}
+
+pub fn put_octets(out: &mut [u8], at: usize, s: &[u8])
+    ensures { λ _. ⌜ now (out .exit) ≡ stored (now (out .entry)) at (now (s .entry)) ⌝ }
+{
+    if has_room(out.len(), at, s.len()) {
+        let mut i = 0;
+        while i < s.len() {
+            out[at + i] = s[i];
+            i += 1;
+        }
+    }
+}
+
+// The last octet moves first, so that each is read before another is stored in its place; k of them are moved.
+pub fn move_up(out: &mut [u8], at: usize, n: usize, by: usize)
+    ensures { λ _. ⌜ now (out .exit) ≡ moved (now (out .entry)) at n by ⌝ }
+{
+    if has_room(out.len(), at, n) {
+        if has_room(out.len(), at + n, by) {
+            let to = at + by;
+            let mut k = 0;
+            while k < n {
+                k += 1;
+                let i = n - k;
+                out[to + i] = out[at + i];
+            }
+        }
+    }
+}

@@ -1,0 +1,35 @@
+use borrow.Author.Needs.{needs}
+use native.Mathlib.Omega.{arith}
+use mathlib.Core.Path.{sym}
+use mathlib.Core.List.{map}
+use denote.Ref.{now}
+use lib.ListN.{length, take}
+use borrow.Author.Tests.{le-leb}
+use Rattle.hproto_table.specs.Entry.{entry}
+use Rattle.hproto_shorten.specs.Written.{short}
+use Rattle.hproto_shorten.proofs.Measuring.{short-few}
+use Rattle.hproto_shorten.proofs.has_room.Statement.{statement}
+use Rattle.hproto_shorten.proofs.has_room.Tie as tie
+use Rattle.hproto_shorten.proofs.has_room.Reads as reads
+use Rattle.hproto_shorten.proofs.has_room.Lts as lts
+use Rattle.hproto_shorten.proofs.measure.Reads as measure-reads
+
+-- src/lib.rt:247:9
+returns : tie.Need-returns
+returns c =
+    let s = c .before .before .before in
+    let es = map entry (take (s .args .count) (now (s .args .words))) in
+    let h = short-few es 8 (s .args .number) (now (s .args .message)) (s .pre .1 .0) (s .pre .1 .1) in
+    let k = c .if1 .taken in
+    sym (le-leb (length (short es 8 (s .args .number) (now (s .args .message)))) (s .args .len) (omega arith))
+
+-- src/lib.rt:249:5
+measure-requires : tie.Need-measure-requires
+measure-requires c κs = search needs
+
+-- src/lib.rt:240:1
+returns-2 : tie.Need-returns-2
+returns-2 c = rw (c .measure .ensures)
+
+pub has-room-spec : {M : Type 1} → statement M
+has-room-spec = tie.close (tie.spec returns measure-requires returns-2)

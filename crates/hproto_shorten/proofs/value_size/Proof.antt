@@ -1,0 +1,46 @@
+use borrow.Author.Needs.{needs}
+use native.Mathlib.Omega.{arith}
+use mathlib.Core.Path.{_≡_, sym, _∙_}
+use denote.Ref.{now}
+use lib.ListN.{length}
+use Rattle.octets.specs.Control.{leastControl}
+use Rattle.hproto_message.specs.Tree.{value}
+use Rattle.hproto_message.specs.Shortest.{leastContents}
+use Rattle.hproto_shorten.proofs.Puts.{field-length}
+use Rattle.hproto_shorten.proofs.Measuring.{control-few, least-few}
+use Rattle.hproto_shorten.proofs.value_size.Statement.{statement}
+use Rattle.hproto_shorten.proofs.value_size.Tie as tie
+use Rattle.hproto_shorten.proofs.value_size.Reads as reads
+use Rattle.hproto_shorten.proofs.value_size.Lts as lts
+use Rattle.hproto_put.proofs.control_size.Reads as control-size-reads
+use Rattle.hproto_shorten.proofs.least_size.Reads as least-size-reads
+
+-- src/lib.rt:202:9
+least-size-requires : tie.Need-least-size-requires
+least-size-requires c κs = search needs
+
+-- src/lib.rt:203:5
+control-size-requires : tie.Need-control-size-requires
+control-size-requires c κs = search needs
+
+-- src/lib.rt:203:5
+add-result : tie.Need-add-result
+add-result c =
+    let s = c .before .before .before in
+    let e = c .control-size .ensures in
+    let k = control-few (s .args .tag) (c .before .least-size .result) in
+    let f = c .before .least-size .ensures in
+    let l = least-few (s .args .kind) (now (s .args .s)) (s .pre .1) in
+    omega arith
+
+-- src/lib.rt:197:1
+returns : tie.Need-returns
+returns c =
+    let s = c .before .before .before in
+    let f = c .before .least-size .ensures in
+    let xs = leastContents (value (s .args .kind) (now (s .args .s))) in
+    let e : c .control-size .result ≡ length (leastControl (s .args .tag) (length xs)) = c .control-size .ensures ∙ rw f in
+    sym (field-length (s .args .tag) xs ∙ rw (e, f))
+
+pub value-size-spec : {M : Type 1} → statement M
+value-size-spec = tie.close (tie.spec least-size-requires control-size-requires add-result returns)
