@@ -44,7 +44,7 @@ module _ (t : Table) (n : ℕ) (s : List ℕ) where
       long true f e = absurd (omega arith)
       long false f e = bad (not (valid t) || ltb 15 n) (ltb-false (2 ^ 16) (length s) f) e
 
-  short-form : shortForm t n s ≡ short (entries t) 8 n s
+  pub short-form : shortForm t n s ≡ short (entries t) 8 n s
   unfolding shortForm short reading
   short-form = refl
 
@@ -84,7 +84,7 @@ module _ (t : Table) (n : ℕ) (s : List ℕ) where
           let r : leb (length (shortForm t n s)) (length out) ≡ true = rw short-form (le-leb (length (short (entries t) 8 n s)) (length out) h) in
           let q : length (shortForm t n s) ≡ end = sym (p ∙ rw short-form (omega arith)) in
           let a : answer t n s out ≡ record { refusal = 0; place = 0; length = end } = rw (passed, r, q) in
-          record
-          { answered = sym a
-          ; left = b ∙ stored-fits out 0 (short (entries t) 8 n s) (omega arith) ∙ rw (a, short-form)
+          record {
+            answered = sym a;
+            left = b ∙ stored-fits out 0 (short (entries t) 8 n s) (omega arith) ∙ rw (a, short-form);
           }

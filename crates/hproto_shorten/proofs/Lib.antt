@@ -3,3 +3,4 @@ pub mod Puts
 pub mod Writing
 pub mod Measuring
 pub mod Answers
+pub mod Demand3

@@ -47,7 +47,7 @@ returns-2 c =
     let a = c .before .before .before .before .before .before .before .before .before .args in
     let h = c .before .has-room in
     let r = no-room (a .t) (a .number) (now (a .message)) (now (a .out)) (ap (λ (x : Checked). x .refusal) (sym (c .before .before .before .before .before .before .check .ensures)) ∙ c .before .before .before .before .if1 .left)
-        (leb-false (length (short (entries (a .t)) 8 (a .number) (now (a .message)))) (length (now (a .out))) (sym (h .ensures) ∙ not-true (h .result) (c .if2 .taken))) in
+    (leb-false (length (short (entries (a .t)) 8 (a .number) (now (a .message)))) (length (now (a .out))) (sym (h .ensures) ∙ not-true (h .result) (c .if2 .taken))) in
     (r .answered, r .left)
 
 -- src/lib.rt:274:21

@@ -1,0 +1,152 @@
+-- Demand 3 of the order, as one statement about the definitions that the contracts of the loader, the check and the shortener equal:
+-- `load` (hproto_load::load), `check` (hproto_check::check), `answer` and `buffer` (hproto_shorten::shorten).
+use Prim.Native.Nat.{ℕ, suc, _+_, _^_, _≤_, _<_}
+use native.Mathlib.Omega.{arith}
+use mathlib.Core.Path.{_≡_, refl, sym, ap, _∙_, subst}
+use mathlib.Core.Bool.{true}
+use mathlib.Core.List.{List, _++_}
+use mathlib.Core.Logic.{_↔_}
+use lib.ListN.{length, drop}
+use Rattle.hproto_put.specs.Store.{stored}
+use Rattle.hproto_put.proofs.Stores.{stored-parts}
+use Rattle.octets.specs.Number.{Octets}
+use Rattle.hproto_table.specs.Entry.{entries}
+use Rattle.hproto_table.specs.Load.{load, Loadable}
+use Rattle.hproto_table.specs.Valid.{valid}
+use Rattle.hproto_table.specs.declared.Table.{Table}
+use Rattle.hproto_table.proofs.Valid.{loadable-valid}
+use Rattle.hproto_message.specs.Cut.{Cut, Good}
+use Rattle.hproto_message.specs.Tree.{Tree, tree}
+use Rattle.hproto_message.specs.Reading.{accepted, reading}
+use Rattle.hproto_message.specs.Shortest.{shortest}
+use Rattle.hproto_message.proofs.Accepted.{accepted-exactly, good-cut-unique}
+use Rattle.hproto_message.proofs.Shortened.{shortest-good, shortest-octets, shortest-no-longer, others-longer}
+use Rattle.hproto_check.specs.Check.{check, counts}
+use Rattle.hproto_check.proofs.Counts.{read-through}
+use Rattle.hproto_shorten.specs.Written.{shortestOf, short}
+use Rattle.hproto_shorten.specs.Shorten.{shortForm, answer, buffer}
+use Rattle.hproto_shorten.proofs.Passing.{accepts-good, short-is}
+use Rattle.hproto_shorten.proofs.Answers.{check-passed, short-form, no-room, shortened}
+
+-- Octets can be cut, under a table and a number, at most 8 messages deep.
+abbrev pub HasCut : Table → ℕ → List ℕ → Type 0
+HasCut t n s = (cut : Cut) × Good (entries t) 8 n s cut
+
+-- Two messages read the same: both have a cut, and the trees of their cuts are equal.
+pub record ReadTheSame (t : Table) (n : ℕ) (s r : List ℕ) : Type 0 where
+  pub first : Cut
+  pub second : Cut
+  pub first-good : Good (entries t) 8 n s first
+  pub second-good : Good (entries t) 8 n r second
+  pub same-tree : tree (entries t) n second ≡ tree (entries t) n first
+
+-- What the order asks of a table, a message number, a message and a second buffer.
+pub record Demand3 (t : Table) (n : ℕ) (s out : List ℕ) : Type 0 where
+  -- The message is accepted exactly when it can be cut, and there is never a second cut.
+  pub accepted-exactly-cut : (check t n s .refusal ≡ 0) ↔ HasCut t n s
+  pub one-cut : (a b : Cut) → Good (entries t) 8 n s a → Good (entries t) 8 n s b → a ≡ b
+  -- The short form of an accepted message is octets, is accepted, and reads the same.
+  pub short-octets : HasCut t n s → Octets (shortForm t n s)
+  pub short-accepted : HasCut t n s → check t n (shortForm t n s) .refusal ≡ 0
+  pub short-reads-the-same : HasCut t n s → ReadTheSame t n s (shortForm t n s)
+  -- Every other message that reads the same, of any length, has more octets.
+  pub others-more : (r : List ℕ) → Octets r → ReadTheSame t n s r → (r ≡ shortForm t n s → ⊥) → length (shortForm t n s) < length r
+  -- With room the shortener writes the short form at the front of the second buffer and leaves the rest.
+  pub with-room : HasCut t n s → length (shortForm t n s) ≤ length out
+      → (answer t n s out ≡ record { refusal = 0; place = 0; length = length (shortForm t n s) })
+      × (buffer t n s out ≡ shortForm t n s ++ drop (length (shortForm t n s)) out)
+  -- Without room it refuses with 9 and leaves every octet.
+  pub without-room : HasCut t n s → length out < length (shortForm t n s)
+      → (answer t n s out ≡ record { refusal = 9; place = 0; length = 0 }) × (buffer t n s out ≡ out)
+
+module _ (t : Table) (n : ℕ) (v : valid t ≡ true) (k : n ≤ 15) where
+  cut-accepted : (s : List ℕ) → length s ≤ 65536 → HasCut t n s → check t n s .refusal ≡ 0
+  unfolding counts
+  cut-accepted s h c =
+      let e = accepted-exactly (entries t) n s (c .0) .1 (c .1) in
+      ap (λ (x : Rattle.hproto_check.specs.declared.Checked.Checked). x .refusal) (read-through t n s h v k ∙ ap (counts (entries t) n) e)
+
+  accepted-cut : (s : List ℕ) → check t n s .refusal ≡ 0 → HasCut t n s
+  accepted-cut s e = accepts-good (entries t) 8 n s (check-passed t n s e .1)
+
+  -- The short form is the shortest form of the tree of the cut.
+  short-of : (s : List ℕ) (cut : Cut) → Good (entries t) 8 n s cut → shortForm t n s ≡ shortest (tree (entries t) n cut)
+  short-of s cut g = short-form t n s ∙ short-is (entries t) 8 n s cut g
+
+  module _ (s : List ℕ) (o : Octets s) (h : length s ≤ 65536) (c : HasCut t n s) where
+    short-cut : ReadTheSame t n s (shortForm t n s)
+    short-cut =
+        let g = shortest-good (entries t) 8 n s (c .0) o (c .1) in
+        let e = short-of s (c .0) (c .1) in
+        record {
+          first = c .0;
+          second = g .0;
+          first-good = c .1;
+          second-good = subst (λ (r : List ℕ). Good (entries t) 8 n r (g .0)) (sym e) (g .1);
+          same-tree = g .2;
+        }
+
+    short-is-octets : Octets (shortForm t n s)
+    short-is-octets = rw (short-of s (c .0) (c .1)) (shortest-octets (entries t) 8 n s (c .0) o (c .1))
+
+    short-passes : check t n (shortForm t n s) .refusal ≡ 0
+    short-passes =
+        let e = ap length (short-of s (c .0) (c .1)) in
+        let l = shortest-no-longer (entries t) 8 n s (c .0) o (c .1) in
+        cut-accepted (shortForm t n s) (omega arith) (short-cut .second, short-cut .second-good)
+
+  others : (s r : List ℕ) → Octets r → ReadTheSame t n s r → (r ≡ shortForm t n s → ⊥) → length (shortForm t n s) < length r
+  others s r o same ne =
+      let e = short-of s (same .first) (same .first-good) in
+      let x : shortest (tree (entries t) n (same .second)) ≡ shortForm t n s = ap shortest (same .same-tree) ∙ sym e in
+      subst (λ (l : List ℕ). length l < length r) x
+      (others-longer (entries t) 8 n r (same .second) o (same .second-good) (λ q. ne (sym q ∙ x)))
+
+  module _ (s out : List ℕ) (h : length s ≤ 65536) (c : HasCut t n s) where
+    passes : check t n s .refusal ≡ 0
+    passes = cut-accepted s h c
+
+    written : length (shortForm t n s) ≤ length out
+        → (answer t n s out ≡ record { refusal = 0; place = 0; length = length (shortForm t n s) })
+        × (buffer t n s out ≡ shortForm t n s ++ drop (length (shortForm t n s)) out)
+    written room =
+        let xs = short (entries t) 8 n s in
+        let e = short-form t n s in
+        let l = ap length e in
+        let r = shortened t n s out passes (length xs) (stored out 0 xs) (omega arith) (omega arith) refl in
+        let z : 0 + length xs ≡ length xs = omega arith in (
+          sym (r .answered) ∙ rw e,
+          sym (r .left) ∙ stored-parts out 0 xs (omega arith) ∙ rw (z, e),
+        )
+
+    unwritten : length out < length (shortForm t n s)
+        → (answer t n s out ≡ record { refusal = 9; place = 0; length = 0 }) × (buffer t n s out ≡ out)
+    unwritten room =
+        let r = no-room t n s out passes (rw (← short-form t n s) room) in
+        (sym (r .answered), sym (r .left))
+
+-- Demand 3: any table octets that the loader accepts, any number from 0 to 15, any message of at most 65,536 octets, any second buffer.
+pub demand-3 : (octets : List ℕ) (t : Table) → Octets octets → load octets ≡ record { refusal = 0; place = 0; table = t }
+    → (n : ℕ) → n ≤ 15 → (s : List ℕ) → Octets s → length s ≤ 65536 → (out : List ℕ) → Demand3 t n s out
+unfolding Loadable
+demand-3 octets t to loaded n k s o h out =
+    let v : valid t ≡ true = loadable-valid t (octets, to, loaded) in
+    record {
+      accepted-exactly-cut = (accepted-cut t n v k s, cut-accepted t n v k s h);
+      one-cut = good-cut-unique (entries t) 8 n s;
+      short-octets = short-is-octets t n v k s o h;
+      short-accepted = short-passes t n v k s o h;
+      short-reads-the-same = short-cut t n v k s o h;
+      others-more = others t n v k s;
+      with-room = written t n v k s out h;
+      without-room = unwritten t n v k s out h;
+    }
+
+-- Shortening a shortened message gives it back.
+pub shorten-again : (octets : List ℕ) (t : Table) → Octets octets → load octets ≡ record { refusal = 0; place = 0; table = t }
+    → (n : ℕ) → n ≤ 15 → (s : List ℕ) → Octets s → length s ≤ 65536 → HasCut t n s → shortForm t n (shortForm t n s) ≡ shortForm t n s
+unfolding Loadable
+shorten-again octets t to loaded n k s o h c =
+    let v : valid t ≡ true = loadable-valid t (octets, to, loaded) in
+    let r = short-cut t n v k s o h c in
+    short-of t n v k (shortForm t n s) (r .second) (r .second-good) ∙ ap shortest (r .same-tree) ∙ sym (short-of t n v k s (r .first) (r .first-good))

@@ -1,0 +1,12 @@
+pub mod Flags
+pub mod Meaning
+pub mod Widening
+pub mod Kept
+pub mod Size
+pub mod Product
+pub mod Whole
+pub mod Masks
+pub mod Octets
+pub mod Hints
+pub mod Exactly
+pub mod Samples

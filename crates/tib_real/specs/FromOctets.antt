@@ -1,0 +1,21 @@
+-- The real that octets hold.
+use Prim.Native.Nat.{ℕ}
+use mathlib.Core.Bool.{Bool, false, cond}
+use mathlib.Core.List.{List}
+use lib.Dec.{eqb}
+use lib.ListN.{length}
+use lib.Ieee.{binary64, ofBits}
+use Rattle.octets.specs.Number.{number}
+use Rattle.tib_real.specs.declared.types.Real.{Real}
+use Rattle.tib_real.specs.Widened.{widened}
+
+-- A real by its 64 bits; its value is what they stand for.
+unfoldable pub made : ℕ → ℕ → Bool → Real
+made b h present = record { value = ofBits binary64 b; bits = b; hint = h; hinted = present }
+
+-- The real that octets hold, with its hint. Octets of another length than eight and four are no real and answer one of zeros.
+unfoldable pub realOf : List ℕ → ℕ → Bool → Real
+realOf s h present =
+    cond (eqb (length s) 8) (made (number s) h present)
+    (cond (eqb (length s) 4) (made (widened (number s)) h present)
+    (made 0 0 false))

@@ -1,0 +1,4 @@
+pub mod Parts
+pub mod Widened
+pub mod FromOctets
+pub mod InFractions
