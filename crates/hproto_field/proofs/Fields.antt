@@ -11,7 +11,7 @@ use Rattle.octets.specs.declared.Control.the-variants.{Absent, Partial, Whole}
 use Rattle.octets.proofs.ControlPart.{control-size}
 use Rattle.hproto_table.specs.Entry.{Entry, find}
 use Rattle.hproto_field.specs.Fronts.{nothing, frontFrom, front}
-use Rattle.hproto_message.specs.Reading.{step, stepFrom, stepOver}
+use Rattle.hproto_message.specs.Reading.{step, stepFrom, stepByKind}
 use Rattle.hproto_message.specs.declared.Step.{Step}
 use Rattle.hproto_message.specs.declared.Step.the-variants.{Done, Fault}
 
@@ -40,7 +40,7 @@ module _ (es : List Entry) (n : ℕ) (s : List ℕ) where
     unfolding step stepFrom
     past-end h = rw (e, lt-leb len (length s - size) h)
 
-    pub whole-field : len ≤ length s - size → stepOver (find es n tag) size (take (size + len - size) (drop size s)) ≡ step es n s
+    pub whole-field : len ≤ length s - size → stepByKind (find es n tag) size (take (size + len - size) (drop size s)) ≡ step es n s
     unfolding step stepFrom
     whole-field h =
         let k : size + len - size ≡ len = omega arith in

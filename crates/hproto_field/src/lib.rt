@@ -9,7 +9,7 @@ ghost use lib.Dec.{leb};
 ghost use lib.ListN.{length, take};
 ghost use Rattle.octets.specs.Text.{text};
 ghost use Rattle.hproto_table.specs.Entry.{entry};
-ghost use Rattle.hproto_message.specs.Reading.{step as step-of, stepOver};
+ghost use Rattle.hproto_message.specs.Reading.{step as step-of, stepByKind};
 ghost use Rattle.hproto_field.specs.Fronts.{front as front-of, nothing as nothing-of};
 
 // The tag, the kind and the sizes of the control part and of the contents of a whole field; zeros where there is none.
@@ -50,7 +50,7 @@ fn text_field(size: usize, contents: &[u8]) -> Step
 
 // A field of a kind whose octets are all there, with the size of its control part.
 fn by_kind(kind: Meaning, size: usize, contents: &[u8]) -> Step
-    ensures { λ r. ⌜ r ≡ stepOver kind size (now (contents .entry)) ⌝ }
+    ensures { λ r. ⌜ r ≡ stepByKind kind size (now (contents .entry)) ⌝ }
 {
     let n = contents.len();
     match kind {

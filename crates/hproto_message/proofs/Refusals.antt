@@ -16,7 +16,7 @@ use Rattle.hproto_table.specs.declared.Meaning.the-variants.{Raw, Uint, Int, St
 use Rattle.hproto_message.specs.Cut.{Cut}
 use Rattle.hproto_message.specs.declared.Step.{Step}
 use Rattle.hproto_message.specs.declared.Step.the-variants.{Done, Fault, Over, Into}
-use Rattle.hproto_message.specs.Reading.{stepOver, stepFrom, step, Reading, accepted, refused, onCut, inOrder, Inner, afterStep, fieldsFrom, messageFrom}
+use Rattle.hproto_message.specs.Reading.{stepByKind, stepFrom, step, Reading, accepted, refused, onCut, inOrder, Inner, afterStep, fieldsFrom, messageFrom}
 
 -- A step that is refused has a number above 0.
 Numbered : Step → Type 0
@@ -30,14 +30,14 @@ unfolding Numbered
 tested-numbered true k l number h = tt
 tested-numbered false k l number h = h
 
-stepOver-numbered : (m : Meaning) (k : ℕ) (s : List ℕ) → Numbered (stepOver m k s)
-unfolding Numbered stepOver
-stepOver-numbered Raw k s = tt
-stepOver-numbered Uint k s = tested-numbered (leb (length s) 8) k (length s) 6 (omega arith)
-stepOver-numbered Int k s = tested-numbered (leb (length s) 8) k (length s) 6 (omega arith)
-stepOver-numbered String k s = tt
-stepOver-numbered Text k s = tested-numbered (text s) k (length s) 7 (omega arith)
-stepOver-numbered (Message m) k s = tt
+stepByKind-numbered : (m : Meaning) (k : ℕ) (s : List ℕ) → Numbered (stepByKind m k s)
+unfolding Numbered stepByKind
+stepByKind-numbered Raw k s = tt
+stepByKind-numbered Uint k s = tested-numbered (leb (length s) 8) k (length s) 6 (omega arith)
+stepByKind-numbered Int k s = tested-numbered (leb (length s) 8) k (length s) 6 (omega arith)
+stepByKind-numbered String k s = tt
+stepByKind-numbered Text k s = tested-numbered (text s) k (length s) 7 (omega arith)
+stepByKind-numbered (Message m) k s = tt
 
 stepFrom-numbered : (es : List Entry) (n : ℕ) (s : List ℕ) (c : Control) → Numbered (stepFrom es n s c)
 unfolding Numbered stepFrom
@@ -45,8 +45,8 @@ stepFrom-numbered es n s Absent = tt
 stepFrom-numbered es n s Partial = omega arith
 stepFrom-numbered es n s (Whole tag len size) = go (leb len (length s - size))
   where
-    go : (t : Bool) → Numbered (cond t (stepOver (find es n tag) size (take len (drop size s))) (Fault 4))
-    go true = stepOver-numbered (find es n tag) size (take len (drop size s))
+    go : (t : Bool) → Numbered (cond t (stepByKind (find es n tag) size (take len (drop size s))) (Fault 4))
+    go true = stepByKind-numbered (find es n tag) size (take len (drop size s))
     go false = omega arith
 
 -- A reading that is refused has a number above 0.

@@ -10,9 +10,9 @@ use Rattle.hproto_message.specs.Shortest.{shortest, field, leastContents
 use Rattle.hproto_message.specs.Samples as samples
 
 pub samples-hold : samples.Hold samples.samples
-unfolding samples.Hold samples.samples samples.outcome samples.outcomeOf samples.uintOf samples.intOf samples.refusedAs samples.only samples.pair
+unfolding samples.Hold samples.samples samples.outcome samples.outcomeOf samples.uintOf samples.intOf samples.refusedAs samples.only samples.nestedTable
     readings.reading readings.messageFrom readings.fieldsFrom readings.afterStep readings.onCut readings.inOrder readings.step readings.stepFrom
-    readings.stepOver find meaning tree tagOf innerOf value shortest field leastContents
+    readings.stepByKind find meaning tree tagOf innerOf value shortest field leastContents
     octets.number octets.octetsOf octets.width octets.widthWithin octets.leastUint
     signs.integer signs.withSign signs.lowest signs.leastInt signs.signedWidth signs.signedBits
     controls.control controls.controlOf controls.following controls.coded controls.leastControl controls.leastCode controls.firstFit

@@ -19,7 +19,7 @@ use Rattle.hproto_table.specs.declared.Meaning.the-variants.{Raw, Uint, Int, St
 use Rattle.hproto_message.specs.Cut.{Cut, WholeField, Contents, LeafField, NestedField}
 use Rattle.hproto_message.specs.declared.Step.{Step}
 use Rattle.hproto_message.specs.declared.Step.the-variants.{Done, Fault, Over, Into}
-use Rattle.hproto_message.specs.Reading.{stepOver, stepFrom, step}
+use Rattle.hproto_message.specs.Reading.{stepByKind, stepFrom, step}
 
 -- Octets in three parts.
 pub split-in-three : (k l : ℕ) (s : List ℕ) → take k s ++ take l (drop k s) ++ drop (k + l) s ≡ s
@@ -47,14 +47,14 @@ module _ (es : List Entry) (n tag : ℕ) (s : List ℕ) (k l : ℕ) (w : WholeFi
   tested-means m e true number allowed = over-means m e (allowed refl)
   tested-means m e false number allowed = tt
 
-  stepOver-means : (m : Meaning) → find es n tag ≡ m → length (take l (drop k s)) ≡ l → StepMeans es n s (stepOver m k (take l (drop k s)))
-  unfolding StepMeans stepOver Contents
-  stepOver-means Raw e f = rw f (over-means Raw e tt)
-  stepOver-means Uint e f = rw f (tested-means Uint e (leb l 8) 6 (λ t. leb-true (length (take l (drop k s))) 8 (rw f t)))
-  stepOver-means Int e f = rw f (tested-means Int e (leb l 8) 6 (λ t. leb-true (length (take l (drop k s))) 8 (rw f t)))
-  stepOver-means String e f = rw f (over-means String e tt)
-  stepOver-means Text e f = rw f (tested-means Text e (text (take l (drop k s))) 7 (λ t. subst T (sym t) tt))
-  stepOver-means (Message m) e f = rw f (record { tag = tag; whole = w; allowed = e }, positive, inside)
+  stepByKind-means : (m : Meaning) → find es n tag ≡ m → length (take l (drop k s)) ≡ l → StepMeans es n s (stepByKind m k (take l (drop k s)))
+  unfolding StepMeans stepByKind Contents
+  stepByKind-means Raw e f = rw f (over-means Raw e tt)
+  stepByKind-means Uint e f = rw f (tested-means Uint e (leb l 8) 6 (λ t. leb-true (length (take l (drop k s))) 8 (rw f t)))
+  stepByKind-means Int e f = rw f (tested-means Int e (leb l 8) 6 (λ t. leb-true (length (take l (drop k s))) 8 (rw f t)))
+  stepByKind-means String e f = rw f (over-means String e tt)
+  stepByKind-means Text e f = rw f (tested-means Text e (text (take l (drop k s))) 7 (λ t. subst T (sym t) tt))
+  stepByKind-means (Message m) e f = rw f (record { tag = tag; whole = w; allowed = e }, positive, inside)
 
 stepFrom-means : (es : List Entry) (n : ℕ) (s : List ℕ) (k : Control) → control s ≡ k → StepMeans es n s (stepFrom es n s k)
 unfolding StepMeans stepFrom
@@ -63,7 +63,7 @@ stepFrom-means es n s Partial e = tt
 stepFrom-means es n s (Whole tag len size) e = go (leb len (length s - size)) refl
   where
     go : (t : Bool) → leb len (length s - size) ≡ t
-        → StepMeans es n s (cond t (stepOver (find es n tag) size (take len (drop size s))) (Fault 4))
+        → StepMeans es n s (cond t (stepByKind (find es n tag) size (take len (drop size s))) (Fault 4))
     go true t =
         let fits = control-size s tag len size e in
         let p = fits .0 in
@@ -72,7 +72,7 @@ stepFrom-means es n s (Whole tag len size) e = go (leb len (length s - size)) re
         let c = length-take-le size s q in
         let d = length-drop size s in
         let b = length-take-le len (drop size s) (omega arith) in
-        stepOver-means es n tag s size len (record { control-part = rw (b, c) (control-take s tag len size e) }) p (omega arith)
+        stepByKind-means es n tag s size len (record { control-part = rw (b, c) (control-take s tag len size e) }) p (omega arith)
         (find es n tag) refl b
     go false t = tt
 
@@ -82,7 +82,7 @@ step-means es n s = stepFrom-means es n s (control s) refl
 
 -- A whole and allowed field at the front of octets is what the step finds.
 found : (es : List Entry) (n tag : ℕ) (c b rest : List ℕ) → WholeField tag c b
-    → step es n (c ++ b ++ rest) ≡ stepOver (find es n tag) (length c) b
+    → step es n (c ++ b ++ rest) ≡ stepByKind (find es n tag) (length c) b
 unfolding step stepFrom
 found es n tag c b rest w =
     let s = c ++ b ++ rest in
@@ -94,14 +94,14 @@ found es n tag c b rest w =
     rw (k, f, d, take-at b rest (length b) refl)
 
 pub step-of-leaf : (es : List Entry) (n : ℕ) (c b rest : List ℕ) → LeafField es n c b → step es n (c ++ b ++ rest) ≡ Over (length c) (length b)
-unfolding stepOver Contents
+unfolding stepByKind Contents
 step-of-leaf es n c b rest f = found es n (f .tag) c b rest (f .whole) ∙ go (find es n (f .tag)) (f .allowed)
   where
     passed : (t : Bool) → T t → cond t (Over (length c) (length b)) (Fault 7) ≡ Over (length c) (length b)
     passed true h = refl
     passed false h = absurd h
 
-    go : (k : Meaning) → Contents k b → stepOver k (length c) b ≡ Over (length c) (length b)
+    go : (k : Meaning) → Contents k b → stepByKind k (length c) b ≡ Over (length c) (length b)
     go Raw h = refl
     go Uint h = rw (le-leb (length b) 8 h)
     go Int h = rw (le-leb (length b) 8 h)
@@ -111,7 +111,7 @@ step-of-leaf es n c b rest f = found es n (f .tag) c b rest (f .whole) ∙ go (f
 
 pub step-of-nested : (es : List Entry) (n m : ℕ) (c b rest : List ℕ) → NestedField es n m c b
     → step es n (c ++ b ++ rest) ≡ Into m (length c) (length b)
-unfolding stepOver
+unfolding stepByKind
 step-of-nested es n m c b rest f = found es n (f .tag) c b rest (f .whole) ∙ rw (f .allowed)
 
 pub step-of-end : (es : List Entry) (n : ℕ) → step es n [] ≡ Done

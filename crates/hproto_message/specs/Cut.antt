@@ -1,5 +1,5 @@
--- What a message is, independent of any way to read it: octets that can be divided, end to end, into whole fields that a table allows.
-use Prim.Native.Nat.{ℕ, zero, suc, _+_, _≤_, max}
+-- What a message is, with no word on how it is read from left to right: octets that fields with the properties below make up.
+use Prim.Native.Nat.{ℕ, suc, _≤_, max}
 use mathlib.Core.Path.{_≡_}
 use mathlib.Core.List.{List, [], _++_}
 use lib.ListN.{length}
@@ -22,18 +22,18 @@ pub data Cut : Type 0 where
 -- The octets that a cut divides.
 unfoldable pub joined : Cut → List ℕ
 joined end = []
-joined (leaf control contents rest) = control ++ contents ++ joined rest
-joined (nested control inside rest) = control ++ joined inside ++ joined rest
+joined (leaf part contents rest) = part ++ contents ++ joined rest
+joined (nested part inside rest) = part ++ joined inside ++ joined rest
 
 -- The depth of the deepest message; a message with no nested ones has depth 1.
 unfoldable pub depth : Cut → ℕ
 depth end = 1
-depth (leaf control contents rest) = depth rest
-depth (nested control inside rest) = max (suc (depth inside)) (depth rest)
+depth (leaf part contents rest) = depth rest
+depth (nested part inside rest) = max (suc (depth inside)) (depth rest)
 
--- Document 01's whole field: octets that are just a control part, with this tag, and contents of just the length that it says.
-pub record WholeField (tag : ℕ) (octets contents : List ℕ) : Type 0 where
-  pub control-part : control octets ≡ Whole tag (length contents) (length octets)
+-- Document 01's whole field: a control part with this tag and no octet more, and contents of just the length that it says.
+pub record WholeField (tag : ℕ) (part contents : List ℕ) : Type 0 where
+  pub control-part : control part ≡ Whole tag (length contents) (length part)
 
 -- The contents that a field of each kind may have, other than a message's.
 unfoldable pub Contents : Meaning → List ℕ → Type 0
@@ -44,27 +44,27 @@ Contents String s = Unit {0}
 Contents Text s = T (text s)
 Contents (Message m) s = ⊥
 
--- A field that the table allows in messages of a number, and that is no message.
-pub record LeafField (es : List Entry) (number : ℕ) (octets contents : List ℕ) : Type 0 where
+-- A field that the table allows (document 01's term) in messages of a number, and that is no message.
+pub record LeafField (es : List Entry) (number : ℕ) (part contents : List ℕ) : Type 0 where
   pub tag : ℕ
-  pub whole : WholeField tag octets contents
+  pub whole : WholeField tag part contents
   pub allowed : Contents (find es number tag) contents
 
 -- A field that the table makes a message of the number `inner`.
-pub record NestedField (es : List Entry) (number inner : ℕ) (octets contents : List ℕ) : Type 0 where
+pub record NestedField (es : List Entry) (number inner : ℕ) (part contents : List ℕ) : Type 0 where
   pub tag : ℕ
-  pub whole : WholeField tag octets contents
+  pub whole : WholeField tag part contents
   pub allowed : find es number tag ≡ Message inner
 
 -- Every field of a cut, at all depths, is whole and allowed.
 unfoldable pub Allowed : List Entry → ℕ → Cut → Type 0
 Allowed es n end = Unit {0}
-Allowed es n (leaf control contents rest) = LeafField es n control contents × Allowed es n rest
-Allowed es n (nested control inside rest) =
-    ((m : ℕ) × NestedField es n m control (joined inside) × Allowed es m inside) × Allowed es n rest
+Allowed es n (leaf part contents rest) = LeafField es n part contents × Allowed es n rest
+Allowed es n (nested part inside rest) =
+    ((m : ℕ) × NestedField es n m part (joined inside) × Allowed es m inside) × Allowed es n rest
 
--- A good cut of octets, under a table and a message number, at most `room` messages deep.
-pub record Good (es : List Entry) (room number : ℕ) (octets : List ℕ) (cut : Cut) : Type 0 where
+-- A good cut of octets, under a table and a message number, at most `levels` messages deep.
+pub record Good (es : List Entry) (levels number : ℕ) (octets : List ℕ) (cut : Cut) : Type 0 where
   pub divides : joined cut ≡ octets
   pub allowed : Allowed es number cut
-  pub shallow : depth cut ≤ room
+  pub shallow : depth cut ≤ levels

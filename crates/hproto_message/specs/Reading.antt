@@ -1,9 +1,9 @@
 -- Reading a message: its cut, or the first refusal with its place.
 use Prim.Native.Nat.{ℕ, zero, suc, _+_, _-_}
-use mathlib.Core.Bool.{Bool, true, false, cond}
-use mathlib.Core.List.{List, []}
+use mathlib.Core.Bool.{cond}
+use mathlib.Core.List.{List}
 use lib.ListN.{length, take, drop}
-use lib.Dec.{leb, ltb}
+use lib.Dec.{leb}
 use Rattle.octets.specs.Text.{text}
 use Rattle.octets.specs.Control.{control}
 use Rattle.octets.specs.declared.Control.{Control}
@@ -16,24 +16,25 @@ use Rattle.hproto_message.specs.declared.Step.the-variants.{Done, Fault,
 use Rattle.hproto_message.specs.Cut.{Cut, end, leaf, nested}
 
 -- A field whose octets are all there, by what its tag means, the size of its control part and its contents.
-unfoldable pub stepOver : Meaning → ℕ → List ℕ → Step
-stepOver Raw size s = Over size (length s)
-stepOver Uint size s = cond (leb (length s) 8) (Over size (length s)) (Fault 6)
-stepOver Int size s = cond (leb (length s) 8) (Over size (length s)) (Fault 6)
-stepOver String size s = Over size (length s)
-stepOver Text size s = cond (text s) (Over size (length s)) (Fault 7)
-stepOver (Message m) size s = Into m size (length s)
+unfoldable pub stepByKind : Meaning → ℕ → List ℕ → Step
+stepByKind Raw size s = Over size (length s)
+stepByKind Uint size s = cond (leb (length s) 8) (Over size (length s)) (Fault 6)
+stepByKind Int size s = cond (leb (length s) 8) (Over size (length s)) (Fault 6)
+stepByKind String size s = Over size (length s)
+stepByKind Text size s = cond (text s) (Over size (length s)) (Fault 7)
+stepByKind (Message m) size s = Into m size (length s)
 
--- The field at the front of octets, by its control part. The length is compared with what is left.
+-- The field at the front of octets, by its control part. The length that it announces has to fit the octets behind it.
 unfoldable pub stepFrom : List Entry → ℕ → List ℕ → Control → Step
 stepFrom es n s Absent = Done
 stepFrom es n s Partial = Fault 3
-stepFrom es n s (Whole tag len size) = cond (leb len (length s - size)) (stepOver (find es n tag) size (take len (drop size s))) (Fault 4)
+stepFrom es n s (Whole tag len size) = cond (leb len (length s - size)) (stepByKind (find es n tag) size (take len (drop size s))) (Fault 4)
 
 -- What stands at the front of octets in a message of a number.
 unfoldable pub step : List Entry → ℕ → List ℕ → Step
 step es n s = stepFrom es n s (control s)
 
+-- What reading a message comes to: its cut, or a refusal's number and place.
 pub data Reading : Type 0 where
   accepted : Cut → Reading
   refused : ℕ → ℕ → Reading
@@ -65,11 +66,11 @@ unfoldable pub fieldsFrom : List Entry → Inner → ℕ → ℕ → ℕ → Lis
 fieldsFrom es inner n zero at s = refused 3 at
 fieldsFrom es inner n (suc left) at s = afterStep inner (fieldsFrom es inner n left) at s (step es n s)
 
--- A message of a number, at most `room` messages deep. It is refused with 5 at the field that holds it where it is too deep. A field
--- takes an octet or more, so one look more than there are octets is enough.
+-- A message of a number, at most `levels` messages deep. With none left it is refused with 5, at the field that holds it. A field takes
+-- an octet or more, so one look more than there are octets is enough.
 unfoldable pub messageFrom : List Entry → ℕ → Inner
 messageFrom es zero n field at s = refused 5 field
-messageFrom es (suc room) n field at s = fieldsFrom es (messageFrom es room) n (suc (length s)) at s
+messageFrom es (suc levels) n field at s = fieldsFrom es (messageFrom es levels) n (suc (length s)) at s
 
 -- The outermost message: its cut, or the first refusal.
 unfoldable pub reading : List Entry → ℕ → List ℕ → Reading

@@ -32,11 +32,13 @@ unfoldable pub Hold : List Sample → Type 0
 Hold [] = Unit {0}
 Hold (x ∷ xs) = (outcome x ≡ x .expected) × Hold xs
 
+-- A table with one entry: tag 12 in message 0, of a kind.
 unfoldable pub only : ℕ → List Entry
 only kind = record { number = 0; tag = 12; kind = kind; inner = 0 } ∷ []
 
-unfoldable pub pair : List Entry
-pair = record { number = 0; tag = 1; kind = 5; inner = 1 } ∷ record { number = 1; tag = 0; kind = 1; inner = 0 } ∷ []
+-- A table in which tag 1 of message 0 is message 1, and tag 0 of that is a uint.
+unfoldable pub nestedTable : List Entry
+nestedTable = record { number = 0; tag = 1; kind = 5; inner = 1 } ∷ record { number = 1; tag = 0; kind = 1; inner = 0 } ∷ []
 
 -- One field with the tag 12, of kind uint (1) or int (2).
 unfoldable pub uintOf : List ℕ → ℕ → List ℕ → Sample
@@ -60,7 +62,7 @@ samples =
     uintOf (0xf1 ∷ 0x00 ∷ 0x0c ∷ 0x05 ∷ []) 5 (0xc1 ∷ 0x05 ∷ []) ∷
     uintOf (0xcd ∷ 0x00 ∷ 0x01 ∷ 0x05 ∷ []) 5 (0xc1 ∷ 0x05 ∷ []) ∷
     record {
-      table = pair;
+      table = nestedTable;
       message = 0x1c ∷ 0x0c ∷ 0x08 ∷ 0x00 ∷ 0x00 ∷ 0x00 ∷ 0x00 ∷ 0x00 ∷ 0x00 ∷ 0x00 ∷ 0x2a ∷ 0x02 ∷ 0x00 ∷ 0x07 ∷ [];
       expected = reads (nested 1 (leaf 0 (uint 42) (leaf 0 (uint 7) end)) end) (0x14 ∷ 0x01 ∷ 0x2a ∷ 0x01 ∷ 0x07 ∷ []);
     } ∷

@@ -1,5 +1,5 @@
 -- What a message says: its fields in order, each with tag, kind and value.
-use Prim.Native.Nat.{ℕ, zero, suc, _+_, max}
+use Prim.Native.Nat.{ℕ, suc, _+_, max}
 use mathlib.Core.List.{List}
 use lib.IntN.{ℤ}
 use Rattle.octets.specs.Number as octets
@@ -26,13 +26,13 @@ pub data Tree : Type 0 where
   leaf : ℕ → Value → Tree → Tree
   nested : ℕ → Tree → Tree → Tree
 
--- The count of fields at all depths.
+-- How many fields there are, those of nested messages included.
 unfoldable pub fields : Tree → ℕ
 fields end = 0
 fields (leaf tag value rest) = 1 + fields rest
 fields (nested tag inside rest) = 1 + fields inside + fields rest
 
--- The depth of the deepest message, empty or not.
+-- How deep the messages go; a message with no nested ones has depth 1.
 unfoldable pub depth : Tree → ℕ
 depth end = 1
 depth (leaf tag value rest) = depth rest

@@ -1,5 +1,4 @@
--- Demand 3 of the order, as one statement about the definitions that the contracts of the loader, the check and the shortener equal:
--- `load` (hproto_load::load), `check` (hproto_check::check), `answer` and `buffer` (hproto_shorten::shorten).
+-- Demand 3 of the order holds. specs/Demand3.antt states it.
 use Prim.Native.Nat.{ℕ, suc, _+_, _^_, _≤_, _<_}
 use native.Mathlib.Omega.{arith}
 use mathlib.Core.Path.{_≡_, refl, sym, ap, _∙_, subst}
@@ -25,39 +24,9 @@ use Rattle.hproto_check.specs.Check.{check, counts}
 use Rattle.hproto_check.proofs.Counts.{read-through}
 use Rattle.hproto_shorten.specs.Written.{shortestOf, short}
 use Rattle.hproto_shorten.specs.Shorten.{shortForm, answer, buffer}
+use Rattle.hproto_shorten.specs.Demand3.{HasCut, ReadTheSame, Demand3}
 use Rattle.hproto_shorten.proofs.Passing.{accepts-good, short-is}
 use Rattle.hproto_shorten.proofs.Answers.{check-passed, short-form, no-room, shortened}
-
--- Octets can be cut, under a table and a number, at most 8 messages deep.
-abbrev pub HasCut : Table → ℕ → List ℕ → Type 0
-HasCut t n s = (cut : Cut) × Good (entries t) 8 n s cut
-
--- Two messages read the same: both have a cut, and the trees of their cuts are equal.
-pub record ReadTheSame (t : Table) (n : ℕ) (s r : List ℕ) : Type 0 where
-  pub first : Cut
-  pub second : Cut
-  pub first-good : Good (entries t) 8 n s first
-  pub second-good : Good (entries t) 8 n r second
-  pub same-tree : tree (entries t) n second ≡ tree (entries t) n first
-
--- What the order asks of a table, a message number, a message and a second buffer.
-pub record Demand3 (t : Table) (n : ℕ) (s out : List ℕ) : Type 0 where
-  -- The message is accepted exactly when it can be cut, and there is never a second cut.
-  pub accepted-exactly-cut : (check t n s .refusal ≡ 0) ↔ HasCut t n s
-  pub one-cut : (a b : Cut) → Good (entries t) 8 n s a → Good (entries t) 8 n s b → a ≡ b
-  -- The short form of an accepted message is octets, is accepted, and reads the same.
-  pub short-octets : HasCut t n s → Octets (shortForm t n s)
-  pub short-accepted : HasCut t n s → check t n (shortForm t n s) .refusal ≡ 0
-  pub short-reads-the-same : HasCut t n s → ReadTheSame t n s (shortForm t n s)
-  -- Every other message that reads the same, of any length, has more octets.
-  pub others-more : (r : List ℕ) → Octets r → ReadTheSame t n s r → (r ≡ shortForm t n s → ⊥) → length (shortForm t n s) < length r
-  -- With room the shortener writes the short form at the front of the second buffer and leaves the rest.
-  pub with-room : HasCut t n s → length (shortForm t n s) ≤ length out
-      → (answer t n s out ≡ record { refusal = 0; place = 0; length = length (shortForm t n s) })
-      × (buffer t n s out ≡ shortForm t n s ++ drop (length (shortForm t n s)) out)
-  -- Without room it refuses with 9 and leaves every octet.
-  pub without-room : HasCut t n s → length out < length (shortForm t n s)
-      → (answer t n s out ≡ record { refusal = 9; place = 0; length = 0 }) × (buffer t n s out ≡ out)
 
 module _ (t : Table) (n : ℕ) (v : valid t ≡ true) (k : n ≤ 15) where
   cut-accepted : (s : List ℕ) → length s ≤ 65536 → HasCut t n s → check t n s .refusal ≡ 0
@@ -125,7 +94,7 @@ module _ (t : Table) (n : ℕ) (v : valid t ≡ true) (k : n ≤ 15) where
         let r = no-room t n s out passes (rw (← short-form t n s) room) in
         (sym (r .answered), sym (r .left))
 
--- Demand 3: any table octets that the loader accepts, any number from 0 to 15, any message of at most 65,536 octets, any second buffer.
+-- For all table octets that load, all message numbers up to 15, all messages up to the limit and all second buffers.
 pub demand-3 : (octets : List ℕ) (t : Table) → Octets octets → load octets ≡ record { refusal = 0; place = 0; table = t }
     → (n : ℕ) → n ≤ 15 → (s : List ℕ) → Octets s → length s ≤ 65536 → (out : List ℕ) → Demand3 t n s out
 unfolding Loadable
@@ -142,7 +111,7 @@ demand-3 octets t to loaded n k s o h out =
       without-room = unwritten t n v k s out h;
     }
 
--- Shortening a shortened message gives it back.
+-- The short form of a short form is itself.
 pub shorten-again : (octets : List ℕ) (t : Table) → Octets octets → load octets ≡ record { refusal = 0; place = 0; table = t }
     → (n : ℕ) → n ≤ 15 → (s : List ℕ) → Octets s → length s ≤ 65536 → HasCut t n s → shortForm t n (shortForm t n s) ≡ shortForm t n s
 unfolding Loadable

@@ -1,2 +1,3 @@
 pub mod Written
 pub mod Shorten
+pub mod Demand3

@@ -15,7 +15,7 @@ pub record Entry : Type 0 where
   pub kind : ℕ
   pub inner : ℕ
 
--- The kinds' numbers: 1 uint, 2 int, 3 string, 4 text, 5 message.
+-- The kinds' numbers: 1 uint, 2 int, 3 string, 4 text, 5 message. No table that is loaded has another; it would mean raw.
 unfoldable pub meaning : Entry → Meaning
 meaning e =
     cond (eqb (e .kind) 1) Uint

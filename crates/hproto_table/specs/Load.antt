@@ -1,4 +1,4 @@
--- Loading a field table from octets: a run of records of 8 octets, a record's tag (01), its length (00 05) and an entry.
+-- Loading a field table from octets: records of 8 octets, each a record's tag (01), its length (00 05) and an entry.
 use Prim.Native.Nat.{ℕ, zero, suc, _*_, _-_, _/_, _^_}
 use mathlib.Core.Path.{_≡_}
 use mathlib.Core.Bool.{Bool, false, cond, not, _&&_, _||_}
@@ -31,7 +31,7 @@ unfoldable pub wordsBefore : List ℕ → ℕ → List ℕ
 wordsBefore s zero = []
 wordsBefore s (suc n) = wordsBefore s n ++ (wordAt s n ∷ [])
 
--- The pair of message number and field tag that a word is for.
+-- A word's message number and field tag, as one number.
 unfoldable pub pair : ℕ → ℕ
 pair w = w / 2 ^ 16
 
@@ -48,13 +48,14 @@ faulty s i = not (sound (recordAt s i)) || seen (pair (wordAt s i)) (wordsBefore
 unfoldable pub tableOf : List ℕ → Table
 tableOf ws = record { count = length ws; words = ws ++ replicate (64 - length ws) 0 }
 
+-- The answer for a table that is accepted, and for one whose fault is in the record at a place.
 unfoldable pub accepted : List ℕ → Loaded
 accepted ws = record { refusal = 0; place = 0; table = tableOf ws }
 
 unfoldable pub refused : ℕ → Loaded
 refused place = record { refusal = 2; place = place; table = tableOf [] }
 
--- The first faulty record decides. `left` bounds the records that are still looked at.
+-- The answer is a refusal at the first record that is faulty, from the one at i on. `left` bounds the records still looked at.
 unfoldable pub loadFrom : ℕ → ℕ → List ℕ → Loaded
 loadFrom zero i s = refused (8 * i)
 loadFrom (suc left) i s =

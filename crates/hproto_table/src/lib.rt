@@ -1,8 +1,9 @@
 // Field tables: which kind a tag has in a message of a given number. This crate has the types, the definitions (specs/) and the laws
 // about them (proofs/); the functions are in the crates above.
 
-// The entries of a field table, in the order in which they were loaded. Each word is an entry's message number (8 bits), tag (16 bits),
-// kind (8 bits) and inner message number (8 bits), from the most significant down. Words beyond the count are 0.
+// The entries of a field table, in the order in which they were loaded. The lowest 40 bits of a word are an entry's message number
+// (8 bits), tag (16 bits), kind (8 bits) and inner message number (8 bits), in this order from the top. The loader leaves 0 in the words
+// beyond the count.
 pub struct Table {
     pub count: usize,
     pub words: [u64; 64],

@@ -1,4 +1,4 @@
-// Whether a table value is one that the loader can give. Every public entry that takes a table value asks this first.
+// Whether a table value is one that the loader can give. Every public entry that takes a table value asks this before it reads anything under the table.
 use hproto_table::Table;
 ghost use mathlib.Core.Path.{_≡_};
 ghost use mathlib.Core.Bool.{_&&_};

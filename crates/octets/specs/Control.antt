@@ -1,6 +1,6 @@
 -- Numbers of a chosen width, and the control part made of two of them.
-use Prim.Native.Nat.{ℕ, zero, suc, _+_, _*_, _-_, _/_, _%_, _^_}
-use mathlib.Core.Bool.{Bool, true, false, cond}
+use Prim.Native.Nat.{ℕ, suc, _+_, _*_, _-_, _/_, _%_, _^_}
+use mathlib.Core.Bool.{cond}
 use mathlib.Core.List.{List, [], _∷_, _++_}
 use lib.ListN.{length, getD, take, drop}
 use lib.Dec.{ltb}
@@ -41,7 +41,8 @@ unfoldable pub control : List ℕ → Control
 control [] = Absent
 control (c ∷ s) = controlOf (c / 16) (c % 16) s
 
--- The lead and the octets that follow it, for the first width, from the lead d on, that holds v.
+-- The lead and the octets that follow it, for the first width that holds v, where the first width has the lead d. Where none does, a
+-- lead with no octets.
 unfoldable pub firstFit : ℕ → List ℕ → ℕ → ℕ × List ℕ
 firstFit d [] v = (d, [])
 firstFit d (w ∷ ws) v = cond (ltb v (256 ^ w)) (d, octetsOf w v) (firstFit (suc d) ws v)
@@ -52,9 +53,9 @@ leastCode code v = cond (ltb v (code .direct)) (v, []) (firstFit (code .direct) 
 
 -- The least control part of a tag and a length.
 unfoldable pub leastControl : ℕ → ℕ → List ℕ
-leastControl tag length =
+leastControl tag len =
     let t = leastCode tagCode tag in
-    let l = leastCode lengthCode length in
+    let l = leastCode lengthCode len in
     (t .0 * 16 + l .0) ∷ t .1 ++ l .1
 
 -- The same as three numbers: the control octet, and how many octets of the tag and of the length follow it.

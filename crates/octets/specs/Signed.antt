@@ -10,7 +10,7 @@ use Rattle.octets.specs.declared.Signed.the-variants.{Value, Long}
 use Rattle.octets.specs.declared.Least.{Least}
 use Rattle.octets.specs.Number.{number, octetsOf, width}
 
--- What n octets mean whose bits after the sign are all zero while the sign is set: minus this.
+-- Where the sign is set and all other bits are clear, n octets mean minus this.
 unfoldable pub lowest : ℕ → ℕ
 lowest n = 2 ^ (8 * n - 1)
 

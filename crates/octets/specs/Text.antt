@@ -1,4 +1,4 @@
--- Text: a run of groups, each a lead octet and the octets that the lead calls for.
+-- Text: groups one after the other, each a lead octet and as many more as the lead says.
 use Prim.Native.Nat.{ℕ, zero, suc}
 use mathlib.Core.Bool.{Bool, true, false, cond, _&&_}
 use mathlib.Core.List.{List, [], _∷_}

@@ -1,6 +1,6 @@
 use borrow.Author.Needs.{needs}
 use mathlib.Core.Path.{_∙_}
-use Rattle.hproto_message.specs.Reading.{stepOver}
+use Rattle.hproto_message.specs.Reading.{stepByKind}
 use Rattle.hproto_field.proofs.by_kind.Statement.{statement}
 use Rattle.hproto_field.proofs.by_kind.Tie as tie
 use Rattle.hproto_field.proofs.by_kind.Reads as reads
@@ -46,32 +46,32 @@ enum-known-kind c = search needs
 
 -- src/lib.rt:37:1
 returns : tie.Need-returns
-unfolding stepOver
+unfolding stepByKind
 returns c = rw (c .enum-told .given .1)
 
 -- src/lib.rt:37:1
 returns-2 : tie.Need-returns-2
-unfolding stepOver
+unfolding stepByKind
 returns-2 c = c .number-field .ensures ∙ rw (c .before .enum-told2 .given .1)
 
 -- src/lib.rt:37:1
 returns-3 : tie.Need-returns-3
-unfolding stepOver
+unfolding stepByKind
 returns-3 c = c .number-field2 .ensures ∙ rw (c .before .enum-told3 .given .1)
 
 -- src/lib.rt:37:1
 returns-4 : tie.Need-returns-4
-unfolding stepOver
+unfolding stepByKind
 returns-4 c = rw (c .enum-told4 .given .1)
 
 -- src/lib.rt:37:1
 returns-5 : tie.Need-returns-5
-unfolding stepOver
+unfolding stepByKind
 returns-5 c = c .text-field .ensures ∙ rw (c .before .enum-told5 .given .1)
 
 -- src/lib.rt:37:1
 returns-6 : tie.Need-returns-6
-unfolding stepOver
+unfolding stepByKind
 returns-6 c = rw (c .before .kind .given .1)
 
 pub by-kind-spec : {M : Type 1} → statement M
