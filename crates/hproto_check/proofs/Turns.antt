@@ -194,14 +194,14 @@ fields-few es (nested c inside rest) n a =
     simp length-append (omega arith)
 
 -- The counts of an accepted message are small.
-pub counts-small : (es : List Entry) (room n field at : ℕ) (s : List ℕ) (f d : ℕ) → walk (messageFrom es room n field at s) ≡ Accepted f d
-    → (f ≤ length s) × (d ≤ room)
+pub counts-small : (es : List Entry) (levels n field at : ℕ) (s : List ℕ) (f d : ℕ) → walk (messageFrom es levels n field at s) ≡ Accepted f d
+    → (f ≤ length s) × (d ≤ levels)
 unfolding walk
-counts-small es room n field at s f d e = go (messageFrom es room n field at s) refl e
+counts-small es levels n field at s f d e = go (messageFrom es levels n field at s) refl e
   where
-    go : (r : Reading) → messageFrom es room n field at s ≡ r → walk r ≡ Accepted f d → (f ≤ length s) × (d ≤ room)
+    go : (r : Reading) → messageFrom es levels n field at s ≡ r → walk r ≡ Accepted f d → (f ≤ length s) × (d ≤ levels)
     go (accepted cut) h w =
-        let g = accepted-good es room n field at s cut h in
+        let g = accepted-good es levels n field at s cut h in
         let p : fields cut ≡ f = cc in
         let q : depth cut ≡ d = cc in
         let k = fields-few es cut n (g .allowed) in
@@ -211,18 +211,18 @@ counts-small es room n field at s f d e = go (messageFrom es room n field at s) 
     go (refused number place) h w = let z : _≡_ {A = ℕ} 0 1 = cc in absurd (omega arith)
 
 -- A message that may be one deep or more is the fields of one message.
-pub room-open : (es : List Entry) (room n field at : ℕ) (s : List ℕ) → 1 ≤ room
-    → messageFrom es room n field at s ≡ fieldsFrom es (messageFrom es (room - 1)) n (suc (length s)) at s
+pub room-open : (es : List Entry) (levels n field at : ℕ) (s : List ℕ) → 1 ≤ levels
+    → messageFrom es levels n field at s ≡ fieldsFrom es (messageFrom es (levels - 1)) n (suc (length s)) at s
 unfolding messageFrom
 room-open es zero n field at s h = absurd (omega arith)
-room-open es (suc room) n field at s h = let k : suc room - 1 ≡ room = omega arith in rw k
+room-open es (suc levels) n field at s h = let k : suc levels - 1 ≡ levels = omega arith in rw k
 
--- A nested message's counts are small against its contents and the room.
-pub nested-small : (es : List Entry) (room n field at i k l : ℕ) (s : List ℕ) (f d : ℕ) (r : Walk) → i + k + l ≤ length s
-    → r ≡ walk (messageFrom es room n field at (take (i + k + l - (i + k)) (drop (i + k) s))) → r ≡ Accepted f d → (f ≤ l) × (d ≤ room)
-nested-small es room n field at i k l s f d r h w a =
+-- A nested message's counts are small against its contents and the levels.
+pub nested-small : (es : List Entry) (levels n field at i k l : ℕ) (s : List ℕ) (f d : ℕ) (r : Walk) → i + k + l ≤ length s
+    → r ≡ walk (messageFrom es levels n field at (take (i + k + l - (i + k)) (drop (i + k) s))) → r ≡ Accepted f d → (f ≤ l) × (d ≤ levels)
+nested-small es levels n field at i k l s f d r h w a =
     let b = take (i + k + l - (i + k)) (drop (i + k) s) in
-    let c = counts-small es room n field at b f d (sym w ∙ a) in
+    let c = counts-small es levels n field at b f d (sym w ∙ a) in
     let p = c .0 in
     let m : length b ≡ l =
     length-take-le (i + k + l - (i + k)) (drop (i + k) s) (simp length-drop (omega arith)) ∙ omega arith in

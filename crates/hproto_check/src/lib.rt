@@ -11,10 +11,10 @@ ghost use Rattle.hproto_message.specs.Reading.{messageFrom};
 ghost use Rattle.hproto_check.specs.Check.{check as check-of, refusal};
 ghost use Rattle.hproto_check.specs.Walks.{walk as walk-of};
 
-// What a walk through a message comes to.
-pub enum Walk {
-    Accepted { fields: u64, depth: u64 },
-    Refused { number: u64, place: u64 },
+// What a walk through a message comes to: the count of its fields and its depth, or a refusal's number and place.
+enum Walk {
+    Accepted(u64, u64),
+    Refused(u64, u64),
 }
 
 // The check's answer: a refusal number (0 where the message is accepted), the place of the fault, and where it is accepted the count of
@@ -32,26 +32,23 @@ fn larger(a: u64, b: u64) -> u64
     if a < b { b } else { a }
 }
 
-// A message of a number whose octets start at a place, in a field at another place. `room` is how many messages deep it may be, itself
+// A message of a number whose octets start at a place, in a field at another place. `levels` is how many messages deep it may be, itself
 // counted; a nested message has one less.
 fn nested(
     words: &[u64],
     count: usize,
     number: u64,
-    room: u64,
+    levels: u64,
     field: u64,
     at: u64,
     s: &[u8],
 ) -> Walk
     requires { ⌜ at + length (now s) ≤ 65536 ⌝ }
-    requires { ⌜ room ≤ 8 ⌝ }
-    ensures { λ r. ⌜ r ≡ walk-of (messageFrom (map entry (take count (now (words .entry)))) room number field at (now (s .entry))) ⌝ }
+    requires { ⌜ levels ≤ 8 ⌝ }
+    ensures { λ r. ⌜ r ≡ walk-of (messageFrom (map entry (take count (now (words .entry)))) levels number field at (now (s .entry))) ⌝ }
 {
-    if room == 0 {
-        return Walk::Refused {
-            number: 5,
-            place: field,
-        };
+    if levels == 0 {
+        return Walk::Refused(5, field);
     }
     let mut i: usize = 0;
     let mut fields: u64 = 0;
@@ -59,50 +56,28 @@ fn nested(
     loop {
         match hproto_field::step(words, count, number, &s[i..]) {
             Step::Done => {
-                return Walk::Accepted { fields, depth };
+                return Walk::Accepted(fields, depth);
             }
             Step::Fault(n) => {
-                return Walk::Refused {
-                    number: n,
-                    place: at + (i as u64),
-                };
+                return Walk::Refused(n, at + (i as u64));
             }
-            Step::Over { control, contents } => {
+            Step::Over(control, contents) => {
                 i = i + control + contents;
                 fields = fields + 1;
             }
-            Step::Into {
-                number: m,
-                control,
-                contents,
-            } => {
+            Step::Into(m, control, contents) => {
                 let a = i + control;
                 let e = a + contents;
-                match nested(
-                    words,
-                    count,
-                    m,
-                    room - 1,
-                    at + (i as u64),
-                    at + (a as u64),
-                    &s[a..e],
-                ) {
-                    Walk::Accepted {
-                        fields: f,
-                        depth: d,
-                    } => {
+                let here = at + (i as u64);
+                let inside = at + (a as u64);
+                match nested(words, count, m, levels - 1, here, inside, &s[a..e]) {
+                    Walk::Accepted(f, d) => {
                         i = e;
                         fields = fields + (1 + f);
                         depth = larger(depth, d + 1);
                     }
-                    Walk::Refused {
-                        number: n,
-                        place: p,
-                    } => {
-                        return Walk::Refused {
-                            number: n,
-                            place: p,
-                        };
+                    Walk::Refused(n, p) => {
+                        return Walk::Refused(n, p);
                     }
                 }
             }
@@ -137,12 +112,12 @@ pub fn check(t: Table, number: u64, message: &[u8]) -> Checked
     let words = t.words;
     let count = t.count;
     match nested(&words, count, number, 8, 0, 0, message) {
-        Walk::Accepted { fields, depth } => Checked {
+        Walk::Accepted(fields, depth) => Checked {
             refusal: 0,
             place: 0,
             fields,
             depth,
         },
-        Walk::Refused { number: n, place } => refused(n, place),
+        Walk::Refused(n, place) => refused(n, place),
     }
 }

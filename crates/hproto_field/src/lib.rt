@@ -25,10 +25,7 @@ fn number_field(size: usize, n: usize) -> Step
     ensures { λ r. ⌜ r ≡ cond (leb n 8) (Step.Over size n) (Step.Fault 6) ⌝ }
 {
     if n <= 8 {
-        Step::Over {
-            control: size,
-            contents: n,
-        }
+        Step::Over(size, n)
     } else {
         Step::Fault(6)
     }
@@ -39,10 +36,7 @@ fn text_field(size: usize, contents: &[u8]) -> Step
     ensures { λ r. ⌜ r ≡ cond (text (now (contents .entry))) (Step.Over size (length (now (contents .entry)))) (Step.Fault 7) ⌝ }
 {
     if octets_read::text(contents) {
-        Step::Over {
-            control: size,
-            contents: contents.len(),
-        }
+        Step::Over(size, contents.len())
     } else {
         Step::Fault(7)
     }
@@ -54,22 +48,12 @@ fn by_kind(kind: Meaning, size: usize, contents: &[u8]) -> Step
 {
     let n = contents.len();
     match kind {
-        Meaning::Raw => Step::Over {
-            control: size,
-            contents: n,
-        },
+        Meaning::Raw => Step::Over(size, n),
         Meaning::Uint => number_field(size, n),
         Meaning::Int => number_field(size, n),
-        Meaning::String => Step::Over {
-            control: size,
-            contents: n,
-        },
+        Meaning::String => Step::Over(size, n),
         Meaning::Text => text_field(size, contents),
-        Meaning::Message(m) => Step::Into {
-            number: m,
-            control: size,
-            contents: n,
-        },
+        Meaning::Message(m) => Step::Into(m, size, n),
     }
 }
 
@@ -117,8 +101,8 @@ pub fn field_at(words: &[u64], count: usize, number: u64, s: &[u8]) -> Field
         Control::Partial => nothing(),
         Control::Whole { tag, length, size } => {
             let start = size as usize;
-            let left = (s.len() - start) as u64;
-            if left < length {
+            let rest = (s.len() - start) as u64;
+            if rest < length {
                 return nothing();
             }
             let kind = hproto_find::find(words, count, number, tag);

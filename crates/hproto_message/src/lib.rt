@@ -6,13 +6,6 @@
 pub enum Step {
     Done,
     Fault(u64),
-    Over {
-        control: usize,
-        contents: usize,
-    },
-    Into {
-        number: u64,
-        control: usize,
-        contents: usize,
-    },
+    Over(usize, usize),
+    Into(u64, usize, usize),
 }

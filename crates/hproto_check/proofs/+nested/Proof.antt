@@ -30,11 +30,11 @@ abbrev nested-below : ℕ → In 2 nested-kinds.ps
 nested-below t = and 2 nested-kinds.ps (falls 2 nested-kinds.ps _<_ μ-nested t) nested.Pre
 
 abbrev nested-Inv-loop : nested-lts.InvT-loop
-nested-Inv-loop words count number room field at s i₀ fields₀ depth₀ i fields depth =
-    (1 ≤ room) × State (map entry (take count words)) (messageFrom (map entry (take count words)) (room - 1)) number at s i fields depth
+nested-Inv-loop words count number levels field at s i₀ fields₀ depth₀ i fields depth =
+    (1 ≤ levels) × State (map entry (take count words)) (messageFrom (map entry (take count words)) (levels - 1)) number at s i fields depth
 
 abbrev nested-μ-loop : nested-lts.MeasureT-loop
-nested-μ-loop words count number room field at s i₀ fields₀ depth₀ i fields depth = length s - i
+nested-μ-loop words count number levels field at s i₀ fields₀ depth₀ i fields depth = length s - i
 
 -- The places in the code that the facts below speak of.
 abbrev After-step : ℕ → Type 0
@@ -62,13 +62,13 @@ module _ (t : ℕ) (c : After-step t) where
   abbrev i : ℕ
   i = c .before .before .loop .i
 
-  abbrev state : State es (messageFrom es (args .room - 1)) (args .number) (args .at) octets i (c .before .before .loop .fields) (c .before .before .loop .depth)
+  abbrev state : State es (messageFrom es (args .levels - 1)) (args .number) (args .at) octets i (c .before .before .loop .fields) (c .before .before .loop .depth)
   state = c .before .before .loop .inv .1
 
-  abbrev room-left : 1 ≤ args .room
+  abbrev room-left : 1 ≤ args .levels
   room-left = c .before .before .loop .inv .0
 
-  abbrev bounds : (args .at + length octets ≤ 65536) × (args .room ≤ 8)
+  abbrev bounds : (args .at + length octets ≤ 65536) × (args .levels ≤ 8)
   bounds = c .before .before .before .before .before .before .pre .1
 
   -- What the step found at the octets that are left.
@@ -76,9 +76,9 @@ module _ (t : ℕ) (c : After-step t) where
   step-found = let h = state .inside in c .step .ensures ∙ rw (take-all (length octets - i) (drop i octets) (simp length-drop (omega arith)))
 
   -- What the whole message comes to, in terms of its fields.
-  opened : walks.walk (messageFrom es (args .room) (args .number) (args .field) (args .at) octets)
-      ≡ walks.walk (fieldsFrom es (messageFrom es (args .room - 1)) (args .number) (suc (length octets)) (args .at) octets)
-  opened = ap walks.walk (room-open es (args .room) (args .number) (args .field) (args .at) octets room-left)
+  opened : walks.walk (messageFrom es (args .levels) (args .number) (args .field) (args .at) octets)
+      ≡ walks.walk (fieldsFrom es (messageFrom es (args .levels - 1)) (args .number) (suc (length octets)) (args .at) octets)
+  opened = ap walks.walk (room-open es (args .levels) (args .number) (args .field) (args .at) octets room-left)
 
 -- The field that the loop goes over ends within the octets.
 over-ends : (t : ℕ) (c : Over-field t) → let b = c .before .before .before in let v = c .before .control .given .0 in
@@ -86,7 +86,7 @@ over-ends : (t : ℕ) (c : Over-field t) → let b = c .before .before .before i
 over-ends t c =
     let b = c .before .before .before in
     let v = c .before .control .given in
-    leaf-ends (es t b) (messageFrom (es t b) (args t b .room - 1)) (args t b .number) (args t b .at) (octets t b) (i t b)
+    leaf-ends (es t b) (messageFrom (es t b) (args t b .levels - 1)) (args t b .number) (args t b .at) (octets t b) (i t b)
     (b .before .before .loop .fields) (b .before .before .loop .depth) (state t b) (v .0 .0) (v .0 .1 .0) (sym (step-found t b) ∙ v .1)
 
 -- The field that holds a nested message ends within the octets.
@@ -95,18 +95,18 @@ in-ends : (t : ℕ) (c : In-field t) → let b = c .before .before .before in le
 in-ends t c =
     let b = c .before .before .before in
     let v = c .before .m .given in
-    nested-ends (es t b) (messageFrom (es t b) (args t b .room - 1)) (args t b .number) (args t b .at) (octets t b) (i t b)
+    nested-ends (es t b) (messageFrom (es t b) (args t b .levels - 1)) (args t b .number) (args t b .at) (octets t b) (i t b)
     (b .before .before .loop .fields) (b .before .before .loop .depth) (state t b) (v .0 .0) (v .0 .1 .0) (v .0 .1 .1 .0) (sym (step-found t b) ∙ v .1)
 
 -- The nested message's counts are small.
 inner-small : (t : ℕ) (c : After-inner t) → let d = c .before .before .before .before .before in let b = d .before .before .before in let w = c .before .f .given .0 in
-    (w .0 ≤ d .before .m .given .0 .1 .1 .0) × (w .1 .0 ≤ args t b .room - 1)
+    (w .0 ≤ d .before .m .given .0 .1 .1 .0) × (w .1 .0 ≤ args t b .levels - 1)
 inner-small t c =
     let d = c .before .before .before .before .before in
     let b = d .before .before .before in
     let v = d .before .m .given .0 in
     let w = c .before .f .given in
-    nested-small (es t b) (args t b .room - 1) (v .0) (args t b .at + i t b) (args t b .at + (i t b + v .1 .0)) (i t b) (v .1 .0) (v .1 .1 .0) (octets t b)
+    nested-small (es t b) (args t b .levels - 1) (v .0) (args t b .at + i t b) (args t b .at + (i t b + v .1 .0)) (i t b) (v .1 .0) (v .1 .1 .0) (octets t b)
     (w .0 .0) (w .0 .1 .0) (c .before .before .before .nested .result) (in-ends t d .1) (c .before .before .before .nested .ensures) (w .1)
 
 -- src/lib.rt:43:9
@@ -120,7 +120,7 @@ nested-loop-holds t c =
     let a = c .before .before .before .args in
     let e = map entry (take (a .count) (now (a .words))) in
     let h = c .if1 .left in
-    (omega arith, start e (messageFrom e (a .room - 1)) (a .number) (a .at) (now (a .s)))
+    (omega arith, start e (messageFrom e (a .levels - 1)) (a .number) (a .at) (now (a .s)))
 
 -- src/lib.rt:49:56
 nested-sub-step : (t : ℕ) → nested-lts.Need-sub-step (step-reads.Asked, step-reads.Learnt, nested-below t, nested.Post, larger-reads.Asked, larger-reads.Learnt) (nested-at t) nested.Post nested-Inv-loop nested-μ-loop
@@ -146,22 +146,22 @@ nested-enum-told t c = search needs
 nested-returns-2 : (t : ℕ) → nested-lts.Need-returns-2 (step-reads.Asked, step-reads.Learnt, nested-below t, nested.Post, larger-reads.Asked, larger-reads.Learnt) (nested-at t) nested.Post nested-Inv-loop nested-μ-loop
 nested-returns-2 t c =
     let b = c .before .before in
-    sym (opened t b ∙ at-end (es t b) (messageFrom (es t b) (args t b .room - 1)) (args t b .number) (args t b .at) (octets t b) (i t b) (b .before .before .loop .fields) (b .before .before .loop .depth) (state t b) (sym (step-found t b) ∙ c .enum-told .given .1))
+    sym (opened t b ∙ at-end (es t b) (messageFrom (es t b) (args t b .levels - 1)) (args t b .number) (args t b .at) (octets t b) (i t b) (b .before .before .loop .fields) (b .before .before .loop .depth) (state t b) (sym (step-found t b) ∙ c .enum-told .given .1))
 
 -- src/lib.rt:53:25
 nested-enum-known-n : (t : ℕ) → nested-lts.Need-enum-known-n (step-reads.Asked, step-reads.Learnt, nested-below t, nested.Post, larger-reads.Asked, larger-reads.Learnt) (nested-at t) nested.Post nested-Inv-loop nested-μ-loop
 nested-enum-known-n t c = search needs
 
 -- src/lib.rt:54:58
-nested-add-t30 : (t : ℕ) → nested-lts.Need-add-t30 (step-reads.Asked, step-reads.Learnt, nested-below t, nested.Post, larger-reads.Asked, larger-reads.Learnt) (nested-at t) nested.Post nested-Inv-loop nested-μ-loop
-nested-add-t30 t c = let b = c .before .before .before in let h = state t b .inside in let k = bounds t b .0 in omega arith
+nested-add-t32 : (t : ℕ) → nested-lts.Need-add-t32 (step-reads.Asked, step-reads.Learnt, nested-below t, nested.Post, larger-reads.Asked, larger-reads.Learnt) (nested-at t) nested.Post nested-Inv-loop nested-μ-loop
+nested-add-t32 t c = let b = c .before .before .before in let h = state t b .inside in let k = bounds t b .0 in omega arith
 
 -- src/lib.rt:54:17
 nested-returns-3 : (t : ℕ) → nested-lts.Need-returns-3 (step-reads.Asked, step-reads.Learnt, nested-below t, nested.Post, larger-reads.Asked, larger-reads.Learnt) (nested-at t) nested.Post nested-Inv-loop nested-μ-loop
 nested-returns-3 t c =
     let b = c .before .before .before in
     let v = c .before .n .given in
-    sym (opened t b ∙ at-fault (es t b) (messageFrom (es t b) (args t b .room - 1)) (args t b .number) (args t b .at) (octets t b) (i t b) (b .before .before .loop .fields) (b .before .before .loop .depth) (state t b) (v .0 .0) (sym (step-found t b) ∙ v .1))
+    sym (opened t b ∙ at-fault (es t b) (messageFrom (es t b) (args t b .levels - 1)) (args t b .number) (args t b .at) (octets t b) (i t b) (b .before .before .loop .fields) (b .before .before .loop .depth) (state t b) (v .0 .0) (sym (step-found t b) ∙ v .1))
 
 -- src/lib.rt:56:26
 nested-enum-known-control : (t : ℕ) → nested-lts.Need-enum-known-control (step-reads.Asked, step-reads.Learnt, nested-below t, nested.Post, larger-reads.Asked, larger-reads.Learnt) (nested-at t) nested.Post nested-Inv-loop nested-μ-loop
@@ -188,7 +188,7 @@ nested-loop-again : (t : ℕ) → nested-lts.Need-loop-again (step-reads.Asked, 
 nested-loop-again t c =
     let b = c .before .before .before in
     let v = c .before .control .given in
-    (room-left t b, over-leaf (es t b) (messageFrom (es t b) (args t b .room - 1)) (args t b .number) (args t b .at) (octets t b) (i t b) (b .before .before .loop .fields) (b .before .before .loop .depth) (state t b) (v .0 .0) (v .0 .1 .0) (sym (step-found t b) ∙ v .1))
+    (room-left t b, over-leaf (es t b) (messageFrom (es t b) (args t b .levels - 1)) (args t b .number) (args t b .at) (octets t b) (i t b) (b .before .before .loop .fields) (b .before .before .loop .depth) (state t b) (v .0 .0) (v .0 .1 .0) (sym (step-found t b) ∙ v .1))
 
 -- src/lib.rt:60:34
 nested-enum-known-m : (t : ℕ) → nested-lts.Need-enum-known-m (step-reads.Asked, step-reads.Learnt, nested-below t, nested.Post, larger-reads.Asked, larger-reads.Learnt) (nested-at t) nested.Post nested-Inv-loop nested-μ-loop
@@ -207,12 +207,12 @@ nested-sub-nested : (t : ℕ) → nested-lts.Need-sub-nested (step-reads.Asked, 
 nested-sub-nested t c = let b = c .before .before .before in let h = room-left t b in omega arith
 
 -- src/lib.rt:63:58
-nested-add-nested : (t : ℕ) → nested-lts.Need-add-nested (step-reads.Asked, step-reads.Learnt, nested-below t, nested.Post, larger-reads.Asked, larger-reads.Learnt) (nested-at t) nested.Post nested-Inv-loop nested-μ-loop
-nested-add-nested t c = let b = c .before .before .before in let h = in-ends t c .1 in let k = bounds t b .0 in omega arith
+nested-add-here : (t : ℕ) → nested-lts.Need-add-here (step-reads.Asked, step-reads.Learnt, nested-below t, nested.Post, larger-reads.Asked, larger-reads.Learnt) (nested-at t) nested.Post nested-Inv-loop nested-μ-loop
+nested-add-here t c = let b = c .before .before .before in let h = in-ends t c .1 in let k = bounds t b .0 in omega arith
 
 -- src/lib.rt:63:75
-nested-add-nested-2 : (t : ℕ) → nested-lts.Need-add-nested-2 (step-reads.Asked, step-reads.Learnt, nested-below t, nested.Post, larger-reads.Asked, larger-reads.Learnt) (nested-at t) nested.Post nested-Inv-loop nested-μ-loop
-nested-add-nested-2 t c = let b = c .before .before .before in let h = in-ends t c .1 in let k = bounds t b .0 in omega arith
+nested-add-inside : (t : ℕ) → nested-lts.Need-add-inside (step-reads.Asked, step-reads.Learnt, nested-below t, nested.Post, larger-reads.Asked, larger-reads.Learnt) (nested-at t) nested.Post nested-Inv-loop nested-μ-loop
+nested-add-inside t c = let b = c .before .before .before in let h = in-ends t c .1 in let k = bounds t b .0 in omega arith
 
 -- src/lib.rt:63:92
 nested-sub-nested-2 : (t : ℕ) → nested-lts.Need-sub-nested-2 (step-reads.Asked, step-reads.Learnt, nested-below t, nested.Post, larger-reads.Asked, larger-reads.Learnt) (nested-at t) nested.Post nested-Inv-loop nested-μ-loop
@@ -300,7 +300,7 @@ nested-loop-again-2 t c =
     let v = d .before .m .given in
     let w = n .before .f .given in (
       room-left t b,
-      nested-turn (es t b) (messageFrom (es t b) (args t b .room - 1)) (args t b .number) (args t b .at) (octets t b) (i t b) (b .before .before .loop .fields) (b .before .before .loop .depth) (state t b) (v .0 .0) (v .0 .1 .0) (v .0 .1 .1 .0) (w .0 .0) (w .0 .1 .0) (c .larger .result) (n .before .before .before .nested .result)
+      nested-turn (es t b) (messageFrom (es t b) (args t b .levels - 1)) (args t b .number) (args t b .at) (octets t b) (i t b) (b .before .before .loop .fields) (b .before .before .loop .depth) (state t b) (v .0 .0) (v .0 .1 .0) (v .0 .1 .1 .0) (w .0 .0) (w .0 .1 .0) (c .larger .result) (n .before .before .before .nested .result)
           (sym (step-found t b) ∙ v .1) (n .before .before .before .nested .ensures) (w .1) (inner-small t n .0) (c .larger .ensures),
     )
 
@@ -315,7 +315,7 @@ nested-returns-4 t c =
     let b = d .before .before .before in
     let v = d .before .m .given in
     let w = c .before .n2 .given in
-    sym (opened t b ∙ nested-refusal (es t b) (messageFrom (es t b) (args t b .room - 1)) (args t b .number) (args t b .at) (octets t b) (i t b) (b .before .before .loop .fields) (b .before .before .loop .depth) (state t b) (v .0 .0) (v .0 .1 .0) (v .0 .1 .1 .0) (w .0 .0) (w .0 .1 .0) (c .before .before .before .nested .result)
+    sym (opened t b ∙ nested-refusal (es t b) (messageFrom (es t b) (args t b .levels - 1)) (args t b .number) (args t b .at) (octets t b) (i t b) (b .before .before .loop .fields) (b .before .before .loop .depth) (state t b) (v .0 .0) (v .0 .1 .0) (v .0 .1 .1 .0) (w .0 .0) (w .0 .1 .0) (c .before .before .before .nested .result)
     (sym (step-found t b) ∙ v .1) (c .before .before .before .nested .ensures) (w .1))
 
 pub +nested-spec : {M : Type 1} → statement M
@@ -333,7 +333,7 @@ pub +nested-spec : {M : Type 1} → statement M
     (nested-enum-told t)
     (nested-returns-2 t)
     (nested-enum-known-n t)
-    (nested-add-t30 t)
+    (nested-add-t32 t)
     (nested-returns-3 t)
     (nested-enum-known-control t)
     (nested-add-i t)
@@ -344,9 +344,9 @@ pub +nested-spec : {M : Type 1} → statement M
     (nested-enum-known-m t)
     (nested-add-a t)
     (nested-add-e t)
+    (nested-add-here t)
+    (nested-add-inside t)
     (nested-sub-nested t)
-    (nested-add-nested t)
-    (nested-add-nested-2 t)
     (nested-sub-nested-2 t)
     (nested-part-nested-start t)
     (nested-part-nested-end t)

@@ -38,8 +38,8 @@ enum-known-tag : tie.Need-enum-known-tag
 enum-known-tag c = search needs
 
 -- src/lib.rt:120:25
-sub-left : tie.Need-sub-left
-sub-left c =
+sub-rest : tie.Need-sub-rest
+sub-rest c =
     let v = c .before .tag .given in
     size-inside [] 0 (now (c .before .before .before .before .before .before .args .s)) (v .0 .0) (v .0 .1 .0) (v .0 .1 .1 .0)
     (sym (c .before .before .before .control .ensures) ∙ v .1)
@@ -99,7 +99,7 @@ field-at-spec =
     enum-told-2
     nothing-requires-2
     enum-known-tag
-    sub-left
+    sub-rest
     nothing-requires-3
     returns
     find-requires
