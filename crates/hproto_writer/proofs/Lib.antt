@@ -1,0 +1,4 @@
+pub mod Levels
+pub mod Refusals
+pub mod Answers
+pub mod Added
