@@ -1,0 +1,165 @@
+-- The answer of a lookup, case by case.
+use Prim.Native.Nat.{ℕ, _+_, _-_, _^_, _≤_}
+use native.Mathlib.Omega.{arith}
+use mathlib.Core.Path.{_≡_, refl, sym, ap, _∙_}
+use mathlib.Core.Bool.{Bool, true, false, cond, not, _||_}
+use mathlib.Core.List.{List}
+use mathlib.Core.Option.{Option, none, some, Option·map}
+use lib.ListN.{length, take, drop, length-drop}
+use lib.Seq.{length-take-le}
+use lib.Dec.{ltb, eqb}
+use borrow.Author.Tests.{le-leb, eq-eqb, ne-eqb}
+use Rattle.octets.specs.Number.{unsigned}
+use Rattle.octets.specs.Signed.{signed}
+use Rattle.hproto_table.specs.Entry.{Entry, find, entries}
+use Rattle.hproto_table.specs.Valid.{valid}
+use Rattle.hproto_table.specs.declared.Meaning.{Meaning}
+use Rattle.hproto_table.specs.declared.Meaning.the-variants.{Raw, Uint, Int, String, Text, Message}
+use Rattle.hproto_table.specs.declared.Table.{Table}
+use Rattle.hproto_message.specs.Cut.{Cut, Contents, Good}
+use Rattle.hproto_message.specs.Tree.{value}
+use Rattle.hproto_message.specs.Reading.{Reading, accepted, refused, reading}
+use Rattle.hproto_message.proofs.Accepted.{accepted-good}
+use Rattle.hproto_message.proofs.Refusals.{refusal-positive}
+use Rattle.hproto_check.specs.Check as checks
+use Rattle.hproto_check.specs.Check.{check, counts}
+use Rattle.hproto_check.specs.declared.Checked.{Checked}
+use Rattle.hproto_lookup.specs.Lookup.{Item, Outer, outermost, itemTag, withTag, chosen, kindOf, uintOf, intOf, refusal, found, foundIn, answer}
+use Rattle.hproto_lookup.specs.Spots.{places, spotOf, nthSpot, lastSpot, chosenSpot, kindNumber, uintOr, intOr, uintIn, intIn, read}
+use Rattle.hproto_lookup.specs.declared.Occurrence.{Occurrence}
+use Rattle.hproto_lookup.specs.declared.Occurrence.the-variants.{Nth, Last}
+use Rattle.hproto_lookup.specs.declared.Spot.{Spot}
+use Rattle.hproto_lookup.specs.declared.Spot.the-variants.{Absent, At}
+use Rattle.hproto_lookup.proofs.Choosing.{Of, chosen-map, chosen-each, withTag-each}
+use Rattle.hproto_lookup.proofs.Outers.{itemOf, Shows, Held, each-held, placeOf, places-are}
+
+-- Contents that are allowed for a kind are answered with the kind's number and their value.
+read-leaf : (k : Meaning) (t start : ℕ) (b : List ℕ) → Contents k b
+    → read (kindNumber k) start b ≡ found (some (record { item = Item.leaf t (value k b); start = start; length = length b }))
+unfolding read kindNumber uintIn intIn uintOr intOr unsigned signed found kindOf uintOf intOf value Contents
+read-leaf Raw t start b h = refl
+read-leaf Uint t start b h = rw (le-leb (length b) 8 h)
+read-leaf Int t start b h = rw (le-leb (length b) 8 h)
+read-leaf String t start b h = refl
+read-leaf Text t start b h = refl
+read-leaf (Message m) t start b h = absurd h
+
+read-item : (es : List Entry) (room n : ℕ) (i : Item) (start : ℕ) (b : List ℕ) → Shows es room n b i
+    → read (kindNumber (find es n (itemTag i))) start b ≡ found (some (record { item = i; start = start; length = length b }))
+unfolding Shows itemTag read kindNumber uintIn intIn found kindOf uintOf intOf
+read-item es room n (Item.leaf t v) start b h = rw (h .0) (read-leaf (find es n t) t start b (h .1))
+read-item es room n (Item.nested t inside) start b h = rw (h .2)
+
+-- What was found is read from the octets at its place.
+read-outer : (es : List Entry) (room n : ℕ) (s : List ℕ) (o : Outer) (t : ℕ) → Held es room n s o → itemTag (o .item) ≡ t
+    → read (kindNumber (find es n t)) (o .start) (take (o .length) (drop (o .start) s)) ≡ found (some o)
+unfolding found
+read-outer es room n s o t h e =
+    let k = h .inside in
+    let l = length-take-le (o .length) (drop (o .start) s) (simp length-drop (omega arith)) in
+    let r = read-item es room n (o .item) (o .start) (take (o .length) (drop (o .start) s)) (h .shows) in
+    rw (← e) (r ∙ rw l)
+
+chosen-spot : (t : ℕ) (w : Occurrence) (s : List ℕ) → chosenSpot t w s ≡ spotOf (chosen w (places t s))
+unfolding chosenSpot nthSpot lastSpot chosen
+chosen-spot t (Nth k) s = refl
+chosen-spot t Last s = refl
+
+module _ (t : Table) (n : ℕ) (s : List ℕ) where
+  -- A message that the check does not refuse is accepted by the reading.
+  pub check-passed : check t n s .refusal ≡ 0 → (cut : Cut) × (reading (entries t) n s ≡ accepted cut)
+  unfolding check checks.refusal counts reading
+  check-passed e = long (ltb (2 ^ 16) (length s)) e
+    where
+      seen : (r : Reading) → reading (entries t) n s ≡ r → counts (entries t) n r .refusal ≡ 0
+          → (cut : Cut) × (reading (entries t) n s ≡ accepted cut)
+      seen (accepted cut) f e = (cut, f)
+      seen (refused number place) f e =
+          let h = refusal-positive (entries t) 8 n 0 0 s number place f in absurd (omega arith)
+
+      bad : (b : Bool) → cond b (checks.refusal 2 0) (counts (entries t) n (reading (entries t) n s)) .refusal ≡ 0
+          → (cut : Cut) × (reading (entries t) n s ≡ accepted cut)
+      bad true e = absurd (omega arith)
+      bad false e = seen (reading (entries t) n s) refl e
+
+      long : (b : Bool)
+          → cond b (checks.refusal 1 0) (cond (not (valid t) || ltb 15 n) (checks.refusal 2 0) (counts (entries t) n (reading (entries t) n s))) .refusal ≡ 0
+          → (cut : Cut) × (reading (entries t) n s ≡ accepted cut)
+      long true e = absurd (omega arith)
+      long false e = bad (not (valid t) || ltb 15 n) e
+
+  module _ (tag : ℕ) (which : Occurrence) where
+    pub refused-first : (c : Checked) → c ≡ check t n s → (c .refusal ≡ 0 → ⊥) → refusal (c .refusal) (c .place) ≡ answer t n s tag which
+    unfolding answer
+    refused-first c e ne =
+        let f : eqb (check t n s .refusal) 0 ≡ false = ap (λ (x : Checked). eqb (x .refusal) 0) (sym e) ∙ ne-eqb (c .refusal) 0 ne in
+        rw (f, ← e)
+
+    -- The outermost field that is wanted.
+    unfoldable pub wanted : Cut → Option Outer
+    wanted cut = chosen which (withTag itemOf tag (outermost (entries t) n 0 cut))
+
+    pub answered : check t n s .refusal ≡ 0 → (cut : Cut) → reading (entries t) n s ≡ accepted cut → answer t n s tag which ≡ found (wanted cut)
+    unfolding answer foundIn wanted
+    answered e cut f = rw (eq-eqb (check t n s .refusal) 0 e, f)
+
+    -- It stands in the message.
+    pub wanted-held : (cut : Cut) → Good (entries t) 8 n s cut
+        → Of (λ (o : Outer). Held (entries t) 7 n s o × (itemTag (o .item) ≡ tag)) (wanted cut)
+    unfolding wanted
+    wanted-held cut g =
+        chosen-each (λ (o : Outer). Held (entries t) 7 n s o × (itemTag (o .item) ≡ tag)) which (withTag itemOf tag (outermost (entries t) n 0 cut))
+        (withTag-each (Held (entries t) 7 n s) itemOf tag (outermost (entries t) n 0 cut)
+        (each-held (entries t) 7 n s cut 0 (sym (g .divides)) (g .allowed) (g .shallow)))
+
+    -- The walk finds its place.
+    spot-is : (cut : Cut) → Good (entries t) 8 n s cut → chosenSpot tag which s ≡ spotOf (Option·map placeOf (wanted cut))
+    unfolding wanted
+    spot-is cut g =
+        chosen-spot tag which s
+        ∙ rw (places-are (entries t) n tag 8 s cut g, chosen-map placeOf which (withTag itemOf tag (outermost (entries t) n 0 cut)))
+
+    module _ (e : check t n s .refusal ≡ 0) where
+      cut : Cut
+      cut = check-passed e .0
+
+      is-good : Good (entries t) 8 n s cut
+      unfolding reading cut
+      is-good = accepted-good (entries t) 8 n 0 0 s (check-passed e .0) (check-passed e .1)
+
+      is-answered : answer t n s tag which ≡ found (wanted cut)
+      unfolding cut
+      is-answered = answered e (check-passed e .0) (check-passed e .1)
+
+      pub absent : (p : Spot) → p ≡ chosenSpot tag which s → p ≡ Absent → refusal 18 0 ≡ answer t n s tag which
+      unfolding spotOf found
+      absent p f a = sym (is-answered ∙ go (wanted cut) (sym (spot-is cut is-good) ∙ sym f ∙ a))
+        where
+          go : (o : Option Outer) → spotOf (Option·map placeOf o) ≡ Absent → found o ≡ refusal 18 0
+          go none h = refl
+          go (some o) h = let z : _≡_ {A = ℕ} 0 1 = cc in absurd (omega arith)
+
+      -- The place of the field that is wanted, and what is read there.
+      pub record Present (start end : ℕ) : Type 0 where
+        pub ordered : start ≤ end
+        pub inside : end ≤ length s
+        pub answers : read (kindNumber (find (entries t) n tag)) start (take (end - start) (drop start s)) ≡ answer t n s tag which
+
+      pub present : (start end : ℕ) (p : Spot) → p ≡ chosenSpot tag which s → p ≡ At start end → Present start end
+      unfolding spotOf Of
+      present start end p f a = go (wanted cut) refl (wanted-held cut is-good) (sym (spot-is cut is-good) ∙ sym f ∙ a)
+        where
+          go : (o : Option Outer) → wanted cut ≡ o → Of (λ (o : Outer). Held (entries t) 7 n s o × (itemTag (o .item) ≡ tag)) o
+              → spotOf (Option·map placeOf o) ≡ At start end → Present start end
+          go none w h d = let z : _≡_ {A = ℕ} 0 1 = cc in absurd (omega arith)
+          go (some o) w h d =
+              let x : o .start ≡ start = cc in
+              let y : o .start + o .length ≡ end = cc in
+              let k = h .0 .inside in
+              let l : end - start ≡ o .length = omega arith in
+              let r = read-outer (entries t) 7 n s o tag (h .0) (h .1) in
+              record {
+                ordered = omega arith;
+                inside = omega arith;
+                answers = rw (l, ← x) (r ∙ sym (is-answered ∙ ap found w));
+              }

@@ -1,0 +1,5 @@
+pub mod Walking
+pub mod Choosing
+pub mod Outers
+pub mod Answers
+pub mod Trees

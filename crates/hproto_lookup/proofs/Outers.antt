@@ -1,0 +1,179 @@
+-- The outermost fields of a message with a good cut: where their contents stand, what these say, and that the walk by control parts
+-- finds them.
+use Prim.Native.Nat.{ℕ, zero, suc, _+_, _-_, _^_, _≤_, _<_}
+use native.Mathlib.Omega.{arith}
+use mathlib.Core.Path.{_≡_, refl, sym, ap, _∙_, subst}
+use mathlib.Core.Bool.{cond}
+use mathlib.Core.List.{List, _∷_, _++_, map, append-assoc}
+use lib.ListN.{length, take, drop, length-append, length-drop}
+use lib.Seq.{drop-drop}
+use lib.Dec.{eqb}
+use borrow.Author.Tests.{le-leb}
+use Rattle.octets.specs.Control.{control}
+use Rattle.octets.specs.declared.Control.the-variants.{Whole}
+use Rattle.octets.specs.Number.{Octets}
+use Rattle.octets.proofs.Number.{octets-before, octets-after}
+use Rattle.octets.proofs.ControlPart.{control-append, control-nil, control-size, control-bounds}
+use Rattle.hproto_table.specs.Entry.{Entry, find}
+use Rattle.hproto_table.specs.declared.Meaning.the-variants.{Message}
+use Rattle.hproto_message.specs.Cut as cuts
+use Rattle.hproto_message.specs.Cut.{Cut, joined, WholeField, Contents, Allowed, Good}
+use Rattle.hproto_message.specs.Tree.{tagOf, innerOf, value, tree}
+use Rattle.hproto_message.proofs.Steps.{in-three}
+use Rattle.hproto_lookup.specs.Lookup.{Item, items, Outer, outermost, itemTag, withTag}
+use Rattle.hproto_lookup.specs.Spots.{frontFrom, front, Place, afterPiece, placesFrom, places}
+use Rattle.hproto_lookup.specs.declared.Piece.the-variants.{Field}
+use Rattle.hproto_lookup.proofs.Choosing.{Each, map-withTag}
+
+-- The field of the tree that an outermost field is.
+abbrev pub itemOf : Outer → Item
+itemOf o = o .item
+
+-- The outermost fields of a cut are those of its tree, in the same order.
+pub items-are : (es : List Entry) (n at : ℕ) (cut : Cut) → map itemOf (outermost es n at cut) ≡ items (tree es n cut)
+unfolding outermost tree items
+items-are es n at Cut.end = refl
+items-are es n at (Cut.leaf c s rest) =
+    ap (λ (l : List Item). Item.leaf (tagOf (control c)) (value (find es n (tagOf (control c))) s) ∷ l)
+    (items-are es n (at + length c + length s) rest)
+items-are es n at (Cut.nested c inside rest) =
+    ap (λ (l : List Item). Item.nested (tagOf (control c)) (tree es (innerOf (find es n (tagOf (control c)))) inside) ∷ l)
+    (items-are es n (at + length c + length (joined inside)) rest)
+
+-- What octets say of a field of the tree whose contents they are. A field that is no message has the value that they have by the kind of
+-- its tag. A nested message has them as its octets: they are joined from a good cut under the inner number, and its tree is the field's.
+unfoldable pub Shows : List Entry → ℕ → ℕ → List ℕ → Item → Type 0
+Shows es room n b (Item.leaf t v) = (v ≡ value (find es n t) b) × Contents (find es n t) b
+Shows es room n b (Item.nested t inside) =
+    (m : ℕ) × (inner : Cut) × (find es n t ≡ Message m) × Good es room m b inner × (inside ≡ tree es m inner)
+
+-- The contents of an outermost field stand within the message, at its place.
+pub record Held (es : List Entry) (room n : ℕ) (s : List ℕ) (o : Outer) : Type 0 where
+  pub inside : o .start + o .length ≤ length s
+  pub shows : Shows es room n (take (o .length) (drop (o .start) s)) (o .item)
+
+module _ (c b r : List ℕ) (t : ℕ) (w : WholeField t c b) where
+  positive : 1 ≤ length c
+  positive = control-size c t (length b) (length c) (w .control-part) .0
+
+  tag-is : tagOf (control c) ≡ t
+  unfolding tagOf
+  tag-is = rw (w .control-part)
+
+  -- The contents of a field at a place, and the octets that follow it.
+  record Parts (s : List ℕ) (at : ℕ) : Type 0 where
+    pub contents : take (length b) (drop (at + length c) s) ≡ b
+    pub inside : at + length c + length b ≤ length s
+    pub rest : drop (at + length c + length b) s ≡ r
+
+  parts : (s : List ℕ) (at : ℕ) → drop at s ≡ c ++ b ++ r → Parts s at
+  parts s at e =
+      let p = in-three c b r in
+      let h : at + (length c + length b) ≡ at + length c + length b = omega arith in
+      let d : length s - at ≡ length (c ++ b ++ r) = sym (length-drop at s) ∙ ap length e in
+      let l : length (c ++ b ++ r) ≡ length c + length b + length r = simp length-append (omega arith) in
+      let k = positive in
+      record {
+        contents = rw (← drop-drop (length c) at s, e) (p .second);
+        inside = omega arith;
+        rest = rw (← h, ← drop-drop (length c + length b) at s, e) (p .third);
+      }
+
+  -- The walk finds the field.
+  front-is : front (c ++ b ++ r) ≡ Field t (length c) (length c + length b)
+  unfolding front frontFrom
+  front-is =
+      let e : control (c ++ b ++ r) ≡ Whole t (length b) (length c) =
+      rw (append-assoc c b r) (control-append c (b ++ r) t (length b) (length c) (w .control-part)) in
+      let l : length (c ++ b ++ r) ≡ length c + length b + length r = simp length-append (omega arith) in
+      let h : length b ≤ length (c ++ b ++ r) - length c = omega arith in
+      rw (e, le-leb (length b) (length (c ++ b ++ r) - length c) h)
+
+  pub walked : (tag fuel at : ℕ)
+      → placesFrom tag (suc fuel) at (c ++ b ++ r)
+      ≡ cond (eqb t tag)
+      (record { start = at + length c; end = at + length c + length b } ∷ placesFrom tag fuel (at + length c + length b) r)
+      (placesFrom tag fuel (at + length c + length b) r)
+  unfolding placesFrom afterPiece
+  walked tag fuel at =
+      let h : at + (length c + length b) ≡ at + length c + length b = omega arith in
+      rw (front-is, h, in-three c b r .third)
+
+module _ (es : List Entry) (room n : ℕ) (s : List ℕ) where
+  pub each-held : (cut : Cut) (at : ℕ) → drop at s ≡ joined cut → Allowed es n cut → cuts.depth cut ≤ suc room
+      → Each (Held es room n s) (outermost es n at cut)
+  unfolding Each outermost joined Allowed cuts.depth Shows innerOf
+  each-held Cut.end at e a d = tt
+  each-held (Cut.leaf c b rest) at e a d =
+      let f = a .0 in
+      let p = parts c b (joined rest) (f .tag) (f .whole) s at e in (
+        record { inside = p .inside; shows = rw (p .contents, tag-is c b (joined rest) (f .tag) (f .whole)) (refl, f .allowed) },
+        each-held rest (at + length c + length b) (p .rest) (a .1) d,
+      )
+  each-held (Cut.nested c inner rest) at e a d =
+      let f = a .0 .1 in
+      let m = a .0 .0 in
+      let p = parts c (joined inner) (joined rest) (f .tag) (f .whole) s at e in
+      let g : Good es room m (joined inner) inner = record { divides = refl; allowed = a .0 .2; shallow = omega arith } in (
+        record { inside = p .inside; shows = rw (p .contents, tag-is c (joined inner) (joined rest) (f .tag) (f .whole), f .allowed) (m, inner, refl, g, refl) },
+        each-held rest (at + length c + length (joined inner)) (p .rest) (a .1) (omega arith),
+      )
+
+-- Where the contents of an outermost field start and end.
+abbrev pub placeOf : Outer → Place
+placeOf o = record { start = o .start; end = o .start + o .length }
+
+module _ (es : List Entry) (n t : ℕ) where
+  -- The places of the outermost fields with a tag are those that the walk finds.
+  found-at : (cut : Cut) (fuel at : ℕ) → Allowed es n cut → length (joined cut) < fuel
+      → placesFrom t fuel at (joined cut) ≡ map placeOf (withTag itemOf t (outermost es n at cut))
+  unfolding placesFrom afterPiece front frontFrom outermost withTag joined Allowed itemTag
+  found-at Cut.end zero at a h = absurd (omega arith)
+  found-at Cut.end (suc fuel) at a h = rw control-nil
+  found-at (Cut.leaf c b rest) zero at a h = absurd (omega arith)
+  found-at (Cut.leaf c b rest) (suc fuel) at a h =
+      let f = a .0 in
+      let k = positive c b (joined rest) (f .tag) (f .whole) in
+      let l : length (c ++ b ++ joined rest) ≡ length c + length b + length (joined rest) = simp length-append (omega arith) in
+      let i = found-at rest fuel (at + length c + length b) (a .1) (omega arith) in
+      walked c b (joined rest) (f .tag) (f .whole) t fuel at ∙ rw (i, ← tag-is c b (joined rest) (f .tag) (f .whole))
+      (sym (map-withTag placeOf itemOf t (record { item = Item.leaf (tagOf (control c)) (value (find es n (tagOf (control c))) b); start = at + length c; length = length b })
+      (outermost es n (at + length c + length b) rest)))
+  found-at (Cut.nested c inner rest) zero at a h = absurd (omega arith)
+  found-at (Cut.nested c inner rest) (suc fuel) at a h =
+      let f = a .0 .1 in
+      let b = joined inner in
+      let k = positive c b (joined rest) (f .tag) (f .whole) in
+      let l : length (c ++ b ++ joined rest) ≡ length c + length b + length (joined rest) = simp length-append (omega arith) in
+      let i = found-at rest fuel (at + length c + length b) (a .1) (omega arith) in
+      walked c b (joined rest) (f .tag) (f .whole) t fuel at ∙ rw (i, ← tag-is c b (joined rest) (f .tag) (f .whole))
+      (sym (map-withTag placeOf itemOf t
+      (record { item = Item.nested (tagOf (control c)) (tree es (innerOf (find es n (tagOf (control c)))) inner); start = at + length c; length = length b })
+      (outermost es n (at + length c + length b) rest)))
+
+  pub places-are : (room : ℕ) (s : List ℕ) (cut : Cut) → Good es room n s cut → places t s ≡ map placeOf (withTag itemOf t (outermost es n 0 cut))
+  unfolding places
+  places-are room s cut g =
+      subst (λ (r : List ℕ). placesFrom t (suc (length r)) 0 r ≡ map placeOf (withTag itemOf t (outermost es n 0 cut))) (g .divides)
+      (found-at cut (suc (length (joined cut))) 0 (g .allowed) (omega arith))
+
+-- A tag has at most two octets.
+pub small-tags : (es : List Entry) (n : ℕ) (cut : Cut) (at : ℕ) → Allowed es n cut → Octets (joined cut)
+    → Each (λ (o : Outer). itemTag (o .item) < 256 ^ 2) (outermost es n at cut)
+unfolding Each outermost joined Allowed itemTag
+small-tags es n Cut.end at a o = tt
+small-tags es n (Cut.leaf c b rest) at a o =
+    let f = a .0 in
+    let q : Octets (c ++ b) = octets-before (c ++ b) (joined rest) o in
+    let k = control-bounds c (f .tag) (length b) (octets-before c b q) (f .whole .control-part) .0 in (
+      rw (tag-is c b (joined rest) (f .tag) (f .whole)) k,
+      small-tags es n rest (at + length c + length b) (a .1) (octets-after (c ++ b) (joined rest) o),
+    )
+small-tags es n (Cut.nested c inner rest) at a o =
+    let f = a .0 .1 in
+    let b = joined inner in
+    let q : Octets (c ++ b) = octets-before (c ++ b) (joined rest) o in
+    let k = control-bounds c (f .tag) (length b) (octets-before c b q) (f .whole .control-part) .0 in (
+      rw (tag-is c b (joined rest) (f .tag) (f .whole)) k,
+      small-tags es n rest (at + length c + length b) (a .1) (octets-after (c ++ b) (joined rest) o),
+    )

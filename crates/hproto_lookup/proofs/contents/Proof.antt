@@ -1,0 +1,25 @@
+use mir.Syntax.{w64}
+use mir.ValLaws.{toZ-ofZ}
+use Rattle.hproto_lookup.specs.Spots.{read}
+use borrow.Author.Needs.{needs}
+use Rattle.hproto_lookup.proofs.contents.Statement.{statement}
+use Rattle.hproto_lookup.proofs.contents.Tie as tie
+use Rattle.hproto_lookup.proofs.contents.Reads as reads
+use Rattle.hproto_lookup.proofs.contents.Lts as lts
+use Rattle.hproto_lookup.proofs.signed.Reads as signed-reads
+use Rattle.hproto_lookup.proofs.unsigned.Reads as unsigned-reads
+
+unsigned-requires : tie.Need-unsigned-requires
+unsigned-requires c κs = search needs
+
+signed-requires : tie.Need-signed-requires
+signed-requires c κs = search needs
+
+returns : tie.Need-returns
+unfolding read
+returns c =
+    let z = toZ-ofZ w64 (c .signed .result) (record { sfits = c .signed .ok }) in
+    rw (z, c .before .unsigned .ensures, c .signed .ensures)
+
+pub contents-spec : {M : Type 1} → statement M
+contents-spec = tie.close (tie.spec unsigned-requires signed-requires returns)

@@ -1,0 +1,17 @@
+use borrow.Author.Needs.{needs}
+use Rattle.hproto_lookup.specs.Lookup.{lookupLast}
+use Rattle.hproto_lookup.proofs.lookup_last.Statement.{statement}
+use Rattle.hproto_lookup.proofs.lookup_last.Tie as tie
+use Rattle.hproto_lookup.proofs.lookup_last.Reads as reads
+use Rattle.hproto_lookup.proofs.lookup_last.Lts as lts
+use Rattle.hproto_lookup.proofs.look.Reads as look-reads
+
+look-requires : tie.Need-look-requires
+look-requires c κs = search needs
+
+returns : tie.Need-returns
+unfolding lookupLast
+returns c = c .look .ensures
+
+pub lookup-last-spec : {M : Type 1} → statement M
+lookup-last-spec = tie.close (tie.spec look-requires returns)

@@ -1,0 +1,143 @@
+-- What a lookup answers: the k-th, or the last, of the outermost fields of an accepted message that have a tag.
+use Prim.Native.Nat.{ℕ, zero, suc, _+_}
+use mathlib.Core.Bool.{cond}
+use mathlib.Core.List.{List, [], _∷_}
+use mathlib.Core.Option.{Option, none, some}
+use lib.ListN as lists
+use lib.IntN.{ℤ, pos}
+use lib.Dec.{eqb}
+use Rattle.octets.specs.Control.{control}
+use Rattle.hproto_table.specs.Entry.{Entry, find, entries}
+use Rattle.hproto_table.specs.declared.Table.{Table}
+use Rattle.hproto_message.specs.Cut.{Cut, joined}
+use Rattle.hproto_message.specs.Tree.{Value, raw, uint, int, string, text, Tree, tagOf, innerOf, value, tree}
+use Rattle.hproto_message.specs.Reading.{Reading, accepted, refused, reading}
+use Rattle.hproto_check.specs.Check.{check}
+use Rattle.hproto_lookup.specs.declared.Occurrence.{Occurrence}
+use Rattle.hproto_lookup.specs.declared.Occurrence.the-variants.{Nth, Last}
+use Rattle.hproto_lookup.specs.declared.Found.{Found}
+
+-- One field of a tree, without the fields that follow it.
+pub data Item : Type 0 where
+  leaf : ℕ → Value → Item
+  nested : ℕ → Tree → Item
+
+-- The outermost fields of a tree, in order.
+unfoldable pub items : Tree → List Item
+items Tree.end = []
+items (Tree.leaf tag v rest) = leaf tag v ∷ items rest
+items (Tree.nested tag inside rest) = nested tag inside ∷ items rest
+
+-- A field, and where its contents stand in the message: their first place and how many octets they have.
+pub record Outer : Type 0 where
+  pub item : Item
+  pub start : ℕ
+  pub length : ℕ
+
+-- The outermost fields of a cut, in order, each as the tree has it. The first one's control part stands at the place `at`. The value of
+-- a nested message is the octets at its place.
+unfoldable pub outermost : List Entry → ℕ → ℕ → Cut → List Outer
+outermost es n at Cut.end = []
+outermost es n at (Cut.leaf c s rest) =
+    let tag = tagOf (control c) in
+    let k = lists.length c in
+    let l = lists.length s in
+    record { item = leaf tag (value (find es n tag) s); start = at + k; length = l } ∷ outermost es n (at + k + l) rest
+outermost es n at (Cut.nested c inside rest) =
+    let tag = tagOf (control c) in
+    let k = lists.length c in
+    let l = lists.length (joined inside) in
+    record { item = nested tag (tree es (innerOf (find es n tag)) inside); start = at + k; length = l } ∷ outermost es n (at + k + l) rest
+
+unfoldable pub itemTag : Item → ℕ
+itemTag (leaf t v) = t
+itemTag (nested t inside) = t
+
+-- Those of the fields that have a tag. `item` says which field of a tree an element stands for.
+unfoldable pub withTag : {A : Type 0} → (A → Item) → ℕ → List A → List A
+withTag item t [] = []
+withTag item t (x ∷ l) = cond (eqb (itemTag (item x)) t) (x ∷ withTag item t l) (withTag item t l)
+
+-- The k-th element, from 0.
+unfoldable pub kth : {A : Type 0} → ℕ → List A → Option A
+kth k [] = none
+kth zero (x ∷ l) = some x
+kth (suc k) (x ∷ l) = kth k l
+
+-- The last element, or `o` where there is none.
+unfoldable pub lastOr : {A : Type 0} → Option A → List A → Option A
+lastOr o [] = o
+lastOr o (x ∷ l) = lastOr (some x) l
+
+unfoldable pub chosen : {A : Type 0} → Occurrence → List A → Option A
+chosen (Nth k) l = kth k l
+chosen Last l = lastOr none l
+
+-- Document 01's numbers for the kinds; raw is 0.
+unfoldable pub kindOf : Item → ℕ
+kindOf (leaf t (raw s)) = 0
+kindOf (leaf t (uint v)) = 1
+kindOf (leaf t (int z)) = 2
+kindOf (leaf t (string s)) = 3
+kindOf (leaf t (text s)) = 4
+kindOf (nested t inside) = 5
+
+-- The number of a uint.
+unfoldable pub uintOf : Item → ℕ
+uintOf (leaf t (raw s)) = 0
+uintOf (leaf t (uint v)) = v
+uintOf (leaf t (int z)) = 0
+uintOf (leaf t (string s)) = 0
+uintOf (leaf t (text s)) = 0
+uintOf (nested t inside) = 0
+
+-- The number of an int.
+unfoldable pub intOf : Item → ℤ
+intOf (leaf t (raw s)) = pos 0
+intOf (leaf t (uint v)) = pos 0
+intOf (leaf t (int z)) = z
+intOf (leaf t (string s)) = pos 0
+intOf (leaf t (text s)) = pos 0
+intOf (nested t inside) = pos 0
+
+unfoldable pub refusal : ℕ → ℕ → Found
+refusal number place =
+    record { refusal = number; place = place; kind = 0; number = 0; signed = pos 0; start = 0; length = 0 }
+
+-- A field that was found, or 18.
+unfoldable pub found : Option Outer → Found
+found none = refusal 18 0
+found (some o) =
+    record {
+      refusal = 0;
+      place = 0;
+      kind = kindOf (o .item);
+      number = uintOf (o .item);
+      signed = intOf (o .item);
+      start = o .start;
+      length = o .length;
+    }
+
+-- What is answered for a message that was read.
+unfoldable pub foundIn : List Entry → ℕ → ℕ → Occurrence → Reading → Found
+foundIn es n t which (accepted cut) = found (chosen which (withTag (λ (o : Outer). o .item) t (outermost es n 0 cut)))
+foundIn es n t which (refused number place) = refusal number place
+
+-- The check's refusal, or what is found.
+unfoldable pub answer : Table → ℕ → List ℕ → ℕ → Occurrence → Found
+answer t n s tag which =
+    let c = check t n s in
+    cond (eqb (c .refusal) 0) (foundIn (entries t) n tag which (reading (entries t) n s)) (refusal (c .refusal) (c .place))
+
+-- The k-th of the outermost fields with a tag.
+unfoldable pub lookup : Table → ℕ → List ℕ → ℕ → ℕ → Found
+lookup t n s tag k = answer t n s tag (Nth k)
+
+-- The last of them.
+unfoldable pub lookupLast : Table → ℕ → List ℕ → ℕ → Found
+lookupLast t n s tag = answer t n s tag Last
+
+-- The k-th, or the last, of a tree's outermost fields with a tag. proofs/Trees.antt shows that this is the field that is answered, and
+-- that 18 is answered exactly where there is none.
+unfoldable pub occurrence : Tree → ℕ → Occurrence → Option Item
+occurrence whole t which = chosen which (withTag (λ (i : Item). i) t (items whole))

@@ -1,0 +1,225 @@
+// Lookup: the k-th or the last of the outermost fields of a message that have a tag.
+use hproto_table::Meaning;
+use hproto_table::Table;
+use octets::Control;
+use octets::Signed;
+use octets::Unsigned;
+ghost use mathlib.Core.Path.{_≡_};
+ghost use lib.ListN.{length, take, drop};
+ghost use Rattle.hproto_lookup.specs.Lookup.{refusal, answer, lookup as lookup-of, lookupLast};
+ghost use Rattle.hproto_lookup.specs.Spots.{front as front-of, nthSpot, lastSpot, chosenSpot, kindNumber, uintIn, intIn, read};
+
+// Which of the fields with a tag is wanted.
+enum Occurrence {
+    Nth(u64),
+    Last,
+}
+
+// The answer: a refusal number (0 where a field was found) and the place of the fault; of the field found its kind, the number of a uint,
+// the signed number of an int, and where its contents stand in the lent buffer.
+pub struct Found {
+    pub refusal: u64,
+    pub place: u64,
+    pub kind: u64,
+    pub number: u64,
+    pub signed: i64,
+    pub start: u64,
+    pub length: u64,
+}
+
+// A whole field at the front of octets: its tag, and where its contents start and end.
+enum Piece {
+    Nothing,
+    Field { tag: u64, start: usize, end: usize },
+}
+
+// Where the contents of a field start and end, if there is such a field.
+enum Spot {
+    Absent,
+    At { start: usize, end: usize },
+}
+
+fn refused(number: u64, place: u64) -> Found
+    ensures { λ r. ⌜ r ≡ refusal number place ⌝ }
+{
+    Found {
+        refusal: number,
+        place,
+        kind: 0,
+        number: 0,
+        signed: 0,
+        start: 0,
+        length: 0,
+    }
+}
+
+// What a tag means is not asked here: where a field ends does not depend on it, and the table would be searched for every field that is
+// passed.
+fn front(s: &[u8]) -> Piece
+    ensures { λ r. ⌜ r ≡ front-of (now (s .entry)) ⌝ }
+{
+    match octets_read::control(s) {
+        Control::Absent => Piece::Nothing,
+        Control::Partial => Piece::Nothing,
+        Control::Whole { tag, length, size } => {
+            let start = size as usize;
+            let left = (s.len() - start) as u64;
+            if left < length {
+                return Piece::Nothing;
+            }
+            let end = start + (length as usize);
+            Piece::Field { tag, start, end }
+        }
+    }
+}
+
+// The k-th field with a tag. Each field is passed as a whole, so none inside a nested message is looked at.
+fn nth(s: &[u8], tag: u64, k: u64) -> Spot
+    ensures { λ r. ⌜ r ≡ nthSpot tag k (now (s .entry)) ⌝ }
+{
+    let mut i: usize = 0;
+    let mut left = k;
+    loop {
+        match front(&s[i..]) {
+            Piece::Nothing => {
+                return Spot::Absent;
+            }
+            Piece::Field { tag: t, start, end } => {
+                let a = i + start;
+                i = i + end;
+                if t == tag {
+                    if left == 0 {
+                        return Spot::At { start: a, end: i };
+                    }
+                    left = left - 1;
+                }
+            }
+        }
+    }
+}
+
+// The last field with a tag.
+fn last(s: &[u8], tag: u64) -> Spot
+    ensures { λ r. ⌜ r ≡ lastSpot tag (now (s .entry)) ⌝ }
+{
+    let mut i: usize = 0;
+    let mut best = Spot::Absent;
+    loop {
+        match front(&s[i..]) {
+            Piece::Nothing => {
+                return best;
+            }
+            Piece::Field {
+                tag: seen,
+                start: a,
+                end: e,
+            } => {
+                let first = i + a;
+                i = i + e;
+                if seen == tag {
+                    best = Spot::At {
+                        start: first,
+                        end: i,
+                    };
+                }
+            }
+        }
+    }
+}
+
+fn pick(s: &[u8], tag: u64, which: Occurrence) -> Spot
+    ensures { λ r. ⌜ r ≡ chosenSpot tag which (now (s .entry)) ⌝ }
+{
+    match which {
+        Occurrence::Nth(k) => nth(s, tag, k),
+        Occurrence::Last => last(s, tag),
+    }
+}
+
+fn kind_number(kind: Meaning) -> u64
+    ensures { λ r. ⌜ r ≡ kindNumber kind ⌝ }
+{
+    match kind {
+        Meaning::Raw => 0,
+        Meaning::Uint => 1,
+        Meaning::Int => 2,
+        Meaning::String => 3,
+        Meaning::Text => 4,
+        Meaning::Message(_) => 5,
+    }
+}
+
+// The number of a uint, 0 for any other kind.
+fn unsigned(kind: u64, s: &[u8]) -> u64
+    ensures { λ r. ⌜ r ≡ uintIn kind (now (s .entry)) ⌝ }
+{
+    if kind != 1 {
+        return 0;
+    }
+    match octets_read::uint(s) {
+        Unsigned::Value(v) => v,
+        Unsigned::Long => 0,
+    }
+}
+
+// The signed number of an int, 0 for any other kind.
+fn signed(kind: u64, s: &[u8]) -> i64
+    ensures { λ r. ⌜ r ≡ intIn kind (now (s .entry)) ⌝ }
+{
+    if kind != 2 {
+        return 0;
+    }
+    match octets_read::int(s) {
+        Signed::Value(v) => v,
+        Signed::Long => 0,
+    }
+}
+
+// What contents that start at a place say as a field of a kind.
+fn contents(kind: u64, start: u64, s: &[u8]) -> Found
+    ensures { λ r. ⌜ r ≡ read kind start (now (s .entry)) ⌝ }
+{
+    let number = unsigned(kind, s);
+    let signed = signed(kind, s);
+    Found {
+        refusal: 0,
+        place: 0,
+        kind,
+        number,
+        signed,
+        start,
+        length: s.len() as u64,
+    }
+}
+
+// The whole message is checked before any field is looked for, so a fault after the wanted field is refused too.
+fn look(t: Table, number: u64, message: &[u8], tag: u64, which: Occurrence) -> Found
+    ensures { λ r. ⌜ r ≡ answer t number (now (message .entry)) tag which ⌝ }
+{
+    let c = hproto_check::check(t, number, message);
+    if c.refusal != 0 {
+        return refused(c.refusal, c.place);
+    }
+    match pick(message, tag, which) {
+        Spot::Absent => refused(18, 0),
+        Spot::At { start, end } => {
+            let words = t.words;
+            let kind = hproto_find::find(&words, t.count, number, tag);
+            contents(kind_number(kind), start as u64, &message[start..end])
+        }
+    }
+}
+
+// The k-th, from 0, of the outermost fields with a tag.
+pub fn lookup(t: Table, number: u64, message: &[u8], tag: u64, k: u64) -> Found
+    ensures { λ r. ⌜ r ≡ lookup-of t number (now (message .entry)) tag k ⌝ }
+{
+    look(t, number, message, tag, Occurrence::Nth(k))
+}
+
+// The last of the outermost fields with a tag.
+pub fn lookup_last(t: Table, number: u64, message: &[u8], tag: u64) -> Found
+    ensures { λ r. ⌜ r ≡ lookupLast t number (now (message .entry)) tag ⌝ }
+{
+    look(t, number, message, tag, Occurrence::Last)
+}

@@ -1,0 +1,4 @@
+pub mod Slices
+pub mod Numbers
+pub mod Marks
+pub mod Names

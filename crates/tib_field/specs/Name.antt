@@ -1,0 +1,34 @@
+-- The name of a field. Document 01: name size 0 is no name; else the last octet is zero and no other is.
+use Prim.Native.Nat.{ℕ, zero, suc}
+use mathlib.Core.Path.{_≡_}
+use mathlib.Core.Bool.{Bool, true, false, cond}
+use mathlib.Core.List.{List, [], _∷_, _++_}
+use lib.ListN.{length, take, drop}
+use lib.Dec.{eqb, ltb}
+use Rattle.tib_field.specs.declared.Front.{Front}
+use Rattle.tib_field.specs.declared.Front.the-variants.{End, Fault, Name as Sized}
+
+-- No octet is zero.
+unfoldable pub NoZero : List ℕ → Type 0
+NoZero [] = Unit {0}
+NoZero (x ∷ s) = (x ≡ 0 → ⊥) × NoZero s
+
+-- Octets that are a name.
+pub data Name : List ℕ → Type 0 where
+  none : Name []
+  closed : (s : List ℕ) → NoZero s → Name (s ++ (0 ∷ []))
+
+-- Whether the first zero of octets is their last octet.
+unfoldable pub closes : List ℕ → Bool
+closes [] = false
+closes (x ∷ s) = cond (eqb x 0) (eqb (length s) 0) (closes s)
+
+-- Whether octets are a name, computed.
+unfoldable pub named : List ℕ → Bool
+named [] = true
+named (x ∷ s) = closes (x ∷ s)
+
+-- The size of a name and the name at the front of octets: a missing octet is refused before a bad one.
+unfoldable pub nameFront : List ℕ → Front
+nameFront [] = End
+nameFront (n ∷ s) = cond (ltb (length s) n) (Fault 3) (cond (named (take n s)) (Sized n) (Fault 15))

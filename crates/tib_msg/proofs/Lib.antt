@@ -1,0 +1,5 @@
+pub mod Headers
+pub mod Turns
+pub mod Kths
+pub mod Shows
+pub mod Results

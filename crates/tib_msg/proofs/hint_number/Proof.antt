@@ -1,0 +1,59 @@
+-- `tib_msg::hint_number` meets its contract.
+use mathlib.Core.Path.{_∙_}
+use Rattle.tib_msg.proofs.Shows.{number-none, number-array, number-partial, number-value}
+use borrow.Author.Needs.{needs}
+use Rattle.tib_msg.proofs.hint_number.Statement.{statement}
+use Rattle.tib_msg.proofs.hint_number.Tie as tie
+
+returns : tie.Need-returns
+returns c = number-none (c .before .before .args .k) (c .before .before .args .s .now) (c .if1 .taken)
+
+shared-slice-read-wide : tie.Need-shared-slice-read-wide
+shared-slice-read-wide c = search needs
+
+wide-requires : tie.Need-wide-requires
+wide-requires c κs = search needs
+
+returns-2 : tie.Need-returns-2
+returns-2 c = c .wide .ensures ∙ number-array (c .before .before .before .before .before .args .k) (c .before .before .before .before .before .args .s .now) (c .before .before .if2 .taken)
+
+shared-slice-read-wide-2 : tie.Need-shared-slice-read-wide-2
+shared-slice-read-wide-2 c = search needs
+
+wide-requires-2 : tie.Need-wide-requires-2
+wide-requires-2 c κs = search needs
+
+returns-3 : tie.Need-returns-3
+returns-3 c = c .wide2 .ensures ∙ number-partial (c .before .before .before .before .before .before .args .k) (c .before .before .before .before .before .before .args .s .now) (c .before .before .before .if2 .left) (c .before .before .if3 .taken)
+
+sub-number : tie.Need-sub-number
+sub-number c = search needs
+
+part-number-start : tie.Need-part-number-start
+part-number-start c = search needs
+
+part-number-end : tie.Need-part-number-end
+part-number-end c = search needs
+
+number-requires : tie.Need-number-requires
+number-requires c κs = search needs
+
+returns-4 : tie.Need-returns-4
+returns-4 c = c .number .ensures ∙ number-value (c .before .before .before .before .before .before .args .k) (c .before .before .before .before .before .before .args .s .now) (c .before .before .before .if2 .left) (c .before .before .if3 .left) (c .before .before .before .before .before .before .pre)
+
+pub hint-number-spec : {M : Type 1} → statement M
+hint-number-spec =
+    tie.close
+    (tie.spec
+    returns
+    shared-slice-read-wide
+    wide-requires
+    returns-2
+    shared-slice-read-wide-2
+    wide-requires-2
+    returns-3
+    sub-number
+    part-number-start
+    part-number-end
+    number-requires
+    returns-4)

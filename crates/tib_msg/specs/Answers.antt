@@ -1,0 +1,61 @@
+-- What the readers of TibMsg answer, by a message's reading.
+use Prim.Native.Nat.{ℕ, zero, suc, _+_}
+use mathlib.Core.Bool.{Bool, cond, _||_}
+use mathlib.Core.List.{List, [], _∷_}
+use lib.ListN.{length, getD, drop}
+use lib.Dec.{eqb}
+use Rattle.octets.specs.Number.{number}
+use Rattle.tib_real.specs.FromOctets.{realOf}
+use Rattle.tib_real.specs.declared.types.Real.{Real}
+use Rattle.tib_field.specs.Refused.{refusedCheck, noReal, refusedField}
+use Rattle.tib_field.specs.declared.Checked.{Checked}
+use Rattle.tib_field.specs.declared.Field.{Field}
+use Rattle.tib_msg_field.specs.Layout.{kind, hinted, Parts, octets}
+use Rattle.tib_msg_field.specs.Reading.{Reading, accepted, refused, reading}
+
+-- A refusal, or the count of fields. No field's data are read as a message, so the depth is 1.
+unfoldable pub counts : Reading → Checked
+counts (accepted fs) = record { refusal = 0; place = 0; fields = length fs; depth = 1 }
+counts (refused number place) = refusedCheck number place
+
+unfoldable pub check : List ℕ → Checked
+check s = counts (reading s)
+
+-- The number of a hint: an array's element size and a partial's offset stand in the second octet, any other number after it.
+unfoldable pub hintNumber : ℕ → List ℕ → ℕ
+hintNumber kind hint = cond (eqb kind 8 || eqb kind 9) (getD hint 1 0) (number (drop 2 hint))
+
+-- The real of a field of type 7, made of its data and its hint; any other field answers one of zeros.
+unfoldable pub realShown : ℕ → List ℕ → ℕ → Bool → Real
+realShown kind contents hint present = cond (eqb kind 7) (realOf contents hint present) noReal
+
+-- A field that begins at a place. The octet before the name is its size, and the octet after it the type.
+unfoldable pub shown : ℕ → Parts → Field
+shown at f =
+    record {
+      refusal = 0;
+      place = 0;
+      «name_place» = at + 1;
+      «name_length» = length (f .name);
+      kind = kind (f .octet);
+      «data_place» = at + 2 + length (f .name) + length (f .size);
+      «data_length» = length (f .contents);
+      hinted = hinted (f .octet);
+      «hint_kind» = getD (f .hint) 0 0;
+      hint = hintNumber (kind (f .octet)) (f .hint);
+      real = realShown (kind (f .octet)) (f .contents) (hintNumber (kind (f .octet)) (f .hint)) (hinted (f .octet));
+    }
+
+-- The k-th, from 0, of fields that begin at a place; 18 where there is none.
+unfoldable pub kthShown : ℕ → ℕ → List Parts → Field
+kthShown k at [] = refusedField 18 0
+kthShown zero at (f ∷ fs) = shown at f
+kthShown (suc k) at (f ∷ fs) = kthShown k (at + length (octets f)) fs
+
+unfoldable pub fieldOf : ℕ → Reading → Field
+fieldOf k (accepted fs) = kthShown k 9 fs
+fieldOf k (refused number place) = refusedField number place
+
+-- The k-th field of a message.
+unfoldable pub field : List ℕ → ℕ → Field
+field s k = fieldOf k (reading s)

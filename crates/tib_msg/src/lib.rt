@@ -1,0 +1,192 @@
+// Reading TibMsg messages: the check of a whole message, and its k-th field.
+use tib_field::Checked;
+use tib_field::Field;
+use tib_msg_field::Sizes;
+use tib_msg_field::Step;
+use tib_real::types::Real;
+ghost use mathlib.Core.Path.{_≡_};
+ghost use Prim.Native.Nat.{suc, _+_, _≤_, _<_, _^_};
+ghost use lib.ListN.{length, getD, drop};
+ghost use Rattle.tib_msg_field.specs.Reading.{total, partsAt, fieldsFrom, reading};
+ghost use Rattle.tib_msg.specs.Answers.{check as check-of, hintNumber, realShown, shown as shown-of, field as field-of};
+ghost use Rattle.tib_msg.specs.Found.{walkOf, kthOf, IsAccepted};
+
+// What a message comes to: the count of its fields, or a refusal.
+pub enum Walk {
+    Accepted(u64),
+    Refused { number: u64, place: u64 },
+}
+
+// A field of a message by its place, or that there is none.
+pub enum Kth {
+    At { place: usize, sizes: Sizes },
+    Absent,
+}
+
+// The place after a field of these sizes.
+fn past(at: usize, z: Sizes) -> usize
+    requires { ⌜ at + total z < 2 ^ 64 ⌝ }
+    ensures { λ r. ⌜ r ≡ at + total z ⌝ }
+{
+    at + 2 + z.name + z.width + z.contents + z.hint
+}
+
+// The fields of a message after a header that is good.
+fn walk_fields(s: &[u8]) -> Walk
+    requires { ⌜ 9 ≤ length (now s) ⌝ }
+    ensures { λ r. ⌜ r ≡ walkOf (fieldsFrom (suc (length (now (s .entry)))) 9 (drop 9 (now (s .entry)))) ⌝ }
+{
+    let mut i: usize = 9;
+    let mut fields: u64 = 0;
+    loop {
+        match tib_msg_field::next_field(&s[i..]) {
+            Step::Done => return Walk::Accepted(fields),
+            Step::Fault(k) => {
+                return Walk::Refused {
+                    number: k,
+                    place: i as u64,
+                };
+            }
+            Step::Over(z) => {
+                i = past(i, z);
+                fields += 1;
+            }
+        }
+    }
+}
+
+fn refuse(number: u64) -> Walk
+    ensures { λ r. ⌜ r ≡ Walk.Refused number 0 ⌝ }
+{
+    Walk::Refused { number, place: 0 }
+}
+
+fn read(message: &[u8]) -> Walk
+    ensures { λ r. ⌜ r ≡ walkOf (reading (now (message .entry))) ⌝ }
+{
+    let n = message.len();
+    if 65536 < n {
+        return refuse(1);
+    }
+    if n < 9 {
+        return refuse(3);
+    }
+    if !tib_field::begins(message, b"\xce\x13\xaa\x1f\x01") {
+        return refuse(13);
+    }
+    let size = tib_field::number(&message[5..9]);
+    if size != (n - 9) as u64 {
+        return refuse(14);
+    }
+    walk_fields(message)
+}
+
+pub fn check(message: &[u8]) -> Checked
+    ensures { λ r. ⌜ r ≡ check-of (now (message .entry)) ⌝ }
+{
+    match read(message) {
+        Walk::Accepted(fields) => Checked {
+            refusal: 0,
+            place: 0,
+            fields,
+            depth: 1,
+        },
+        Walk::Refused { number, place } => tib_field::refused_check(number, place),
+    }
+}
+
+// The place and the sizes of the k-th field of a message that is accepted.
+fn find(s: &[u8], k: u64) -> Kth
+    requires { ⌜ IsAccepted (now s) ⌝ }
+    ensures { λ r. ⌜ r ≡ kthOf k (reading (now (s .entry))) ⌝ }
+{
+    let mut i: usize = 9;
+    let mut left = k;
+    loop {
+        match tib_msg_field::next_field(&s[i..]) {
+            Step::Done => return Kth::Absent,
+            Step::Fault(_) => return Kth::Absent,
+            Step::Over(z) => {
+                if left == 0 {
+                    return Kth::At { place: i, sizes: z };
+                }
+                i = past(i, z);
+                left -= 1;
+            }
+        }
+    }
+}
+
+fn first(s: &[u8]) -> u64
+    ensures { λ r. ⌜ r ≡ getD (now (s .entry)) 0 0 ⌝ }
+{
+    if s.len() == 0 {
+        return 0;
+    }
+    tib_field::wide(s[0])
+}
+
+// The number of a hint, by the field's type and the hint's octets.
+fn hint_number(k: u64, s: &[u8]) -> u64
+    requires { ⌜ length (now s) ≤ 10 ⌝ }
+    ensures { λ r. ⌜ r ≡ hintNumber k (now (s .entry)) ⌝ }
+{
+    if s.len() < 2 {
+        return 0;
+    }
+    if k == 8 {
+        return tib_field::wide(s[1]);
+    }
+    if k == 9 {
+        return tib_field::wide(s[1]);
+    }
+    tib_field::number(&s[2..])
+}
+
+fn real_shown(k: u64, s: &[u8], hint: u64, present: bool) -> Real
+    ensures { λ r. ⌜ r ≡ realShown k (now (s .entry)) hint present ⌝ }
+{
+    if k == 7 {
+        tib_real::real(s, hint, present)
+    } else {
+        tib_field::no_real()
+    }
+}
+
+// The answer for a field of these sizes at a place.
+fn shown(message: &[u8], at: usize, z: Sizes) -> Field
+    requires { ⌜ (at + total z ≤ length (now message)) × (z .hint ≤ 10) ⌝ }
+    ensures { λ r. ⌜ r ≡ shown-of at (partsAt (drop at (now (message .entry))) z) ⌝ }
+{
+    let k = tib_msg_field::kind(z.octet);
+    let start = at + 2 + z.name + z.width;
+    let hint = start + z.contents;
+    let end = hint + z.hint;
+    let present = tib_msg_field::hinted(z.octet);
+    let number = hint_number(k, &message[hint..end]);
+    Field {
+        refusal: 0,
+        place: 0,
+        name_place: (at + 1) as u64,
+        name_length: z.name as u64,
+        kind: k,
+        data_place: start as u64,
+        data_length: z.contents as u64,
+        hinted: present,
+        hint_kind: first(&message[hint..end]),
+        hint: number,
+        real: real_shown(k, &message[start..hint], number, present),
+    }
+}
+
+pub fn field(message: &[u8], k: u64) -> Field
+    ensures { λ r. ⌜ r ≡ field-of (now (message .entry)) k ⌝ }
+{
+    match read(message) {
+        Walk::Refused { number, place } => tib_field::refused_field(number, place),
+        Walk::Accepted(_) => match find(message, k) {
+            Kth::At { place, sizes } => shown(message, place, sizes),
+            Kth::Absent => tib_field::refused_field(18, 0),
+        },
+    }
+}

@@ -1,0 +1,110 @@
+-- What the reading finds at the front of octets, test by test.
+use Prim.Native.Nat.{ℕ, zero, suc, _+_, _-_, _/_, _%_, _≤_, _<_}
+use native.Mathlib.Omega.{arith}
+use mathlib.Core.Path.{_≡_, refl, sym, ap, _∙_}
+use mathlib.Core.Bool.{Bool, true, false, cond}
+use mathlib.Core.List.{List, [], _∷_}
+use lib.ListN.{length, getD, take, drop, length-take}
+use lib.Seq.{length-take-le}
+use lib.Dec.{eqb, ltb}
+use borrow.Author.Tests.{lt-ltb, le-ltb}
+use Rattle.octets.specs.Number.{number, unsigned}
+use Rattle.tib_field.specs.Octets.{orZero}
+use Rattle.tib_field.specs.Name.{nameFront}
+use Rattle.tib_field.specs.declared.Front.{Front}
+use Rattle.tib_field.specs.declared.Front.the-variants.{End, Fault as NameFault, Name as Sized}
+use Rattle.tib_field.proofs.Slices.{tail-part, front-part}
+use Rattle.tib_field.proofs.Numbers.{few-octets}
+use Rattle.tib_msg_field.specs.declared.Step.{Step}
+use Rattle.tib_msg_field.specs.declared.Step.the-variants.{Done, Fault, Over}
+use Rattle.tib_msg_field.specs.declared.HintPart.{HintPart}
+use Rattle.tib_msg_field.specs.declared.HintPart.the-variants.{Fault as HintFault, Size}
+use Rattle.tib_msg_field.specs.Layout.{kind, sizeWidth, sizeAllowed}
+use Rattle.tib_msg_field.specs.Reading.{typeAllowed, arrayHint, partialHint, valueHint, hintFront, hintAt, withHint, fromData, fromSize, fromType, afterName, nextField}
+
+pub hint-cut : (k size : ℕ) (s : List ℕ) → length s < 2 → HintFault 3 ≡ hintFront k size s
+unfolding hintFront
+hint-cut k size [] h = refl
+hint-cut k size (t ∷ []) h = refl
+hint-cut k size (t ∷ n ∷ s) h = absurd (omega arith)
+
+pub hint-two : (k size : ℕ) (s : List ℕ) (t n : ℕ) → 2 ≤ length s → t ≡ getD s 0 0 → n ≡ getD s 1 0
+    → cond (eqb k 8) (arrayHint size t n) (cond (eqb k 9) (partialHint t) (valueHint t n (length s - 2))) ≡ hintFront k size s
+unfolding hintFront
+hint-two k size [] t n h p q = absurd (omega arith)
+hint-two k size (a ∷ []) t n h p q = absurd (omega arith)
+hint-two k size (a ∷ b ∷ s) t n h p q = let e : suc (suc (length s)) - 2 ≡ length s = omega arith in rw (p, q, e)
+
+module _ (n c w l : ℕ) (s : List ℕ) where
+  pub data-cut : length s < l → Fault 4 ≡ fromData n c w l s
+  unfolding fromData
+  data-cut h = rw (lt-ltb (length s) l h)
+
+  pub data-whole : l ≤ length s → (p : HintPart) → p ≡ hintAt c l (take (length s - l) (drop l s)) → withHint n c w l p ≡ fromData n c w l s
+  unfolding fromData
+  data-whole h p e = rw (le-ltb (length s) l h, e, tail-part s l)
+
+pub size-few : (c : ℕ) → sizeWidth c ≤ 8
+unfolding sizeWidth
+size-few c = go (eqb (c / 128 % 2) 1)
+  where
+    go : (t : Bool) → cond t 4 1 ≤ 8
+    go true = omega arith
+    go false = omega arith
+
+module _ (n c w : ℕ) (s : List ℕ) (e : w ≡ sizeWidth c) where
+  pub size-cut : length s < w → Fault 3 ≡ fromSize n c (sizeWidth c) s
+  unfolding fromSize
+  size-cut h = rw (← e, lt-ltb (length s) w h)
+
+  module _ (h : w ≤ length s) (l : ℕ) (r : l ≡ orZero (unsigned (take (w - 0) (drop 0 s)))) where
+    size-read : l ≡ number (take w s)
+    size-read =
+        let a = length-take-le w s h in
+        let b = size-few c in
+        r ∙ rw (front-part s w) (few-octets (take w s) (omega arith))
+
+    pub size-bad : (k : ℕ) → k ≡ kind c → sizeAllowed k l ≡ false → Fault 16 ≡ fromSize n c (sizeWidth c) s
+    unfolding fromSize
+    size-bad k f g = rw (← e, le-ltb (length s) w h, ← size-read, ← f, g)
+
+    pub size-good : (k : ℕ) → k ≡ kind c → sizeAllowed k l ≡ true
+        → fromData n c w l (take (length s - w) (drop w s)) ≡ fromSize n c (sizeWidth c) s
+    unfolding fromSize
+    size-good k f g = rw (← e, le-ltb (length s) w h, ← size-read, ← f, g, tail-part s w)
+
+pub type-cut : (n : ℕ) (s : List ℕ) → length s ≡ 0 → Fault 3 ≡ fromType n s
+unfolding fromType
+type-cut n [] h = refl
+type-cut n (c ∷ s) h = absurd (omega arith)
+
+type-some : (n : ℕ) (s : List ℕ) → (length s ≡ 0 → ⊥)
+    → cond (typeAllowed (getD s 0 0)) (fromSize n (getD s 0 0) (sizeWidth (getD s 0 0)) (drop 1 s)) (Fault 16) ≡ fromType n s
+unfolding fromType
+type-some n [] h = absurd (h refl)
+type-some n (c ∷ s) h = refl
+
+module _ (n : ℕ) (s : List ℕ) (h : length s ≡ 0 → ⊥) where
+  pub type-bad : typeAllowed (getD s 0 0) ≡ false → Fault 16 ≡ fromType n s
+  type-bad e = rw e at (type-some n s h)
+
+  pub type-good : typeAllowed (getD s 0 0) ≡ true
+      → fromSize n (getD s 0 0) (sizeWidth (getD s 0 0)) (take (length s - 1) (drop 1 s)) ≡ fromType n s
+  type-good e = rw (tail-part s 1) (rw e at (type-some n s h))
+
+module _ (s : List ℕ) where
+  pub at-end : nameFront s ≡ End → Done ≡ nextField s
+  unfolding nextField afterName
+  at-end e = rw e
+
+  pub bad-name : (k : ℕ) → nameFront s ≡ NameFault k → Fault k ≡ nextField s
+  unfolding nextField afterName
+  bad-name k e = rw e
+
+  pub good-name : (n : ℕ) → nameFront s ≡ Sized n → fromType n (take (length s - (1 + n)) (drop (1 + n) s)) ≡ nextField s
+  unfolding nextField afterName
+  good-name n e = rw (e, tail-part s (1 + n))
+
+-- What a reader that was handed the octets from i on found.
+pub seen : (s : List ℕ) (i : ℕ) (r p : Step) → r ≡ nextField (take (length s - i) (drop i s)) → r ≡ p → nextField (drop i s) ≡ p
+seen s i r p e f = ap nextField (sym (tail-part s i)) ∙ sym e ∙ f

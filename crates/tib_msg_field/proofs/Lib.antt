@@ -1,0 +1,4 @@
+pub mod Hints
+pub mod Steps
+pub mod Accepted
+pub mod Fronts

@@ -1,0 +1,205 @@
+-- One step of the reading takes exactly one field that the layout allows.
+use Prim.Native.Nat.{ℕ, zero, suc, _+_, _-_, _≤_, _<_}
+use native.Mathlib.Omega.{arith}
+use mathlib.Core.Path.{_≡_, refl, sym, ap, ap₂, _∙_, subst}
+use mathlib.Core.Bool.{Bool, true, false, cond}
+use mathlib.Core.List.{List, [], _∷_, _++_, append-assoc}
+use lib.ListN.{length, getD, take, drop, length-append, take-append-drop}
+use lib.Seq.{take-at, drop-at, length-take-le}
+use lib.Dec.{T, ltb}
+use borrow.Author.Tests.{ltb-false, le-ltb}
+use Rattle.octets.specs.Number.{number}
+use Rattle.tib_field.specs.Name.{Name, nameFront}
+use Rattle.tib_field.specs.declared.Front.{Front}
+use Rattle.tib_field.specs.declared.Front.the-variants.{End, Fault as NameFault, Name as Sized}
+use Rattle.tib_field.proofs.Names.{front-end, front-found, front-of-name}
+use Rattle.tib_msg_field.specs.declared.Sizes.{Sizes}
+use Rattle.tib_msg_field.specs.declared.Step.{Step}
+use Rattle.tib_msg_field.specs.declared.Step.the-variants.{Done, Fault, Over}
+use Rattle.tib_msg_field.specs.declared.HintPart.{HintPart}
+use Rattle.tib_msg_field.specs.declared.HintPart.the-variants.{Fault as HintFault, Size}
+use Rattle.tib_msg_field.specs.Layout.{kind, hinted, sizeWidth, sizeAllowed, Parts, octets, Allowed}
+use Rattle.tib_msg_field.specs.Reading.{typeAllowed, hintAt, withHint, fromData, fromSize, fromType, afterName, nextField, sizes, total, partsAt}
+use Rattle.tib_msg_field.proofs.Hints.{is-true, true-is, good-type, hint-found, hint-of, type-of}
+
+-- A field and the octets after it, part by part.
+pub flat : (f : Parts) (rest : List ℕ)
+    → octets f ++ rest ≡ length (f .name) ∷ (f .name ++ (f .octet ∷ (f .size ++ (f .contents ++ (f .hint ++ rest)))))
+unfolding octets
+flat f rest = simp append-assoc
+
+-- An allowed field of these sizes at the front of octets.
+pub record Found (s : List ℕ) (z : Sizes) : Type 0 where
+  pub field : Parts
+  pub rest : List ℕ
+  pub divides : s ≡ octets field ++ rest
+  pub sized : sizes field ≡ z
+  pub allowed : Allowed field
+
+passes : (t : Bool) (p : Step) (k : ℕ) (z : Sizes) → cond t p (Fault k) ≡ Over z → (t ≡ true) × (p ≡ Over z)
+passes true p k z e = (refl, e)
+passes false p k z e = let y : _≡_ {A = ℕ} 0 1 = cc in absurd (omega arith)
+
+fails : (t : Bool) (p : Step) (k : ℕ) (z : Sizes) → cond t (Fault k) p ≡ Over z → (t ≡ false) × (p ≡ Over z)
+fails true p k z e = let y : _≡_ {A = ℕ} 0 1 = cc in absurd (omega arith)
+fails false p k z e = (refl, e)
+
+-- A step over a field had a hint of some size.
+over-hint : (n c w l : ℕ) (p : HintPart) (z : Sizes) → withHint n c w l p ≡ Over z
+    → (h : ℕ) × (p ≡ Size h) × (record { name = n; octet = c; width = w; contents = l; hint = h } ≡ z)
+unfolding withHint
+over-hint n c w l (HintFault k) z e = let y : _≡_ {A = ℕ} 0 1 = cc in absurd (omega arith)
+over-hint n c w l (Size h) z e = (h, refl, cc)
+
+module _ (name : List ℕ) (good : Name name) (z : Sizes) where
+  type-found : (s : List ℕ) → fromType (length name) s ≡ Over z → Found (length name ∷ (name ++ s)) z
+  unfolding fromType fromSize fromData octets sizes
+  type-found [] e = let y : _≡_ {A = ℕ} 0 1 = cc in absurd (omega arith)
+  type-found (c ∷ s) e =
+      let w = sizeWidth c in
+      let l = number (take w s) in
+      let p = passes (typeAllowed c) (fromSize (length name) c w s) 16 z e in
+      let q = fails (ltb (length s) w) _ 3 z (p .1) in
+      let r = passes (sizeAllowed (kind c) l) (fromData (length name) c w l (drop w s)) 16 z (q .1) in
+      let t = fails (ltb (length (drop w s)) l) _ 4 z (r .1) in
+      let g = good-type c (p .0) in
+      let h = over-hint (length name) c w l (hintAt c l (drop l (drop w s))) z (t .1) in
+      let f = hint-found c l (drop l (drop w s)) (h .0) g (h .1) in
+      let a : length (take w s) ≡ w = length-take-le w s (ltb-false (length s) w (q .0)) in
+      let b : length (take l (drop w s)) ≡ l = length-take-le l (drop w s) (ltb-false (length (drop w s)) l (t .0)) in
+      let d : take w s ++ (take l (drop w s) ++ (f .hint ++ f .rest)) ≡ s
+      = rw (← f .divides, take-append-drop l (drop w s)) (take-append-drop w s) in
+      record {
+        field = record { name = name; octet = c; size = take w s; contents = take l (drop w s); hint = f .hint };
+        rest = f .rest;
+        divides = sym (simp append-assoc (ap (λ (r : List ℕ). length name ∷ (name ++ (c ∷ r))) d));
+        sized = rw (a, b, f .sized) (h .2);
+        allowed =
+            record {
+              name = good;
+              clear = g .clear;
+              known = g .known;
+              width = a;
+              size = sym b;
+              contents = rw b (is-true (sizeAllowed (kind c) l) (r .0));
+              hint = rw b (f .allowed);
+            };
+      }
+
+pub step-found : (s : List ℕ) (z : Sizes) → nextField s ≡ Over z → Found s z
+unfolding nextField afterName
+step-found s z e = go (nameFront s) refl e
+  where
+    go : (k : Front) → nameFront s ≡ k → afterName s k ≡ Over z → Found s z
+    go End f g = let y : _≡_ {A = ℕ} 0 1 = cc in absurd (omega arith)
+    go (NameFault k) f g = let y : _≡_ {A = ℕ} 0 1 = cc in absurd (omega arith)
+    go (Sized n) f g =
+        let r = front-found s n f in
+        let k : 1 + n ≡ suc n = omega arith in
+        let d : drop (1 + n) s ≡ r .rest = rw k (ap (drop (suc n)) (r .divides)) ∙ drop-at (r .name) (r .rest) n (r .sized) in
+        let h : fromType n (r .rest) ≡ Over z = rw d at g in
+        subst (λ (x : List ℕ). Found x z) (sym (r .divides))
+        (rw (r .sized) at (type-found (r .name) (r .good) z (r .rest) (rw (r .sized) h)))
+
+-- An allowed field at the front of octets is what the step finds.
+pub step-of-field : (f : Parts) (rest : List ℕ) → Allowed f → nextField (octets f ++ rest) ≡ Over (sizes f)
+unfolding nextField afterName fromType fromSize fromData withHint octets sizes
+step-of-field f rest a =
+    let n = length (f .name) in
+    let k : 1 + n ≡ suc n = omega arith in
+    let s = f .size ++ (f .contents ++ (f .hint ++ rest)) in
+    let t = f .contents ++ (f .hint ++ rest) in
+    let p = length-append (f .size) t in
+    let q = length-append (f .contents) (f .hint ++ rest) in
+    rw (
+      flat f rest,
+      front-of-name (f .name) (f .octet ∷ s) (a .name),
+      k,
+      drop-at (f .name) (f .octet ∷ s) n refl,
+      type-of (f .octet) (length (f .contents)) (f .hint) (a .clear) (a .known) (a .hint),
+      ← a .width,
+      le-ltb (length s) (length (f .size)) (omega arith),
+      take-at (f .size) t (length (f .size)) refl,
+      drop-at (f .size) t (length (f .size)) refl,
+      a .size,
+      true-is (sizeAllowed (kind (f .octet)) (length (f .contents))) (a .contents),
+      le-ltb (length t) (length (f .contents)) (omega arith),
+      drop-at (f .contents) (f .hint ++ rest) (length (f .contents)) refl,
+      hint-of (f .octet) (length (f .contents)) (f .hint) rest (a .hint),
+    )
+
+pub step-of-end : nextField [] ≡ Done
+unfolding nextField afterName nameFront
+step-of-end = refl
+
+NotDone : Step → Type 0
+NotDone Done = ⊥
+NotDone (Fault k) = Unit {0}
+NotDone (Over z) = Unit {0}
+
+either : (t : Bool) (p q : Step) → NotDone p → NotDone q → NotDone (cond t p q)
+either true p q a b = a
+either false p q a b = b
+
+hint-not-done : (n c w l : ℕ) (p : HintPart) → NotDone (withHint n c w l p)
+unfolding withHint NotDone
+hint-not-done n c w l (HintFault k) = tt
+hint-not-done n c w l (Size h) = tt
+
+data-not-done : (n c w l : ℕ) (s : List ℕ) → NotDone (fromData n c w l s)
+unfolding fromData NotDone
+data-not-done n c w l s =
+    either (ltb (length s) l) (Fault 4) (withHint n c w l (hintAt c l (drop l s))) tt (hint-not-done n c w l (hintAt c l (drop l s)))
+
+size-not-done : (n c w : ℕ) (s : List ℕ) → NotDone (fromSize n c w s)
+unfolding fromSize NotDone
+size-not-done n c w s =
+    let l = number (take w s) in
+    let p = fromData n c w l (drop w s) in
+    let t = sizeAllowed (kind c) l in
+    either (ltb (length s) w) (Fault 3) (cond t p (Fault 16)) tt (either t p (Fault 16) (data-not-done n c w l (drop w s)) tt)
+
+type-not-done : (n : ℕ) (s : List ℕ) → NotDone (fromType n s)
+unfolding fromType NotDone
+type-not-done n [] = tt
+type-not-done n (c ∷ s) =
+    either (typeAllowed c) (fromSize n c (sizeWidth c) s) (Fault 16) (size-not-done n c (sizeWidth c) s) tt
+
+-- Only where no octet is left does the reading end.
+pub step-done : (s : List ℕ) → nextField s ≡ Done → s ≡ []
+unfolding nextField afterName NotDone
+step-done s e = go (nameFront s) refl e
+  where
+    go : (k : Front) → nameFront s ≡ k → afterName s k ≡ Done → s ≡ []
+    go End f g = front-end s f
+    go (NameFault k) f g = let y : _≡_ {A = ℕ} 0 1 = cc in absurd (omega arith)
+    go (Sized m) f g = absurd (subst NotDone g (type-not-done m (drop (1 + m) s)))
+
+pub length-octets : (f : Parts) → length (octets f) ≡ total (sizes f)
+unfolding octets total sizes
+length-octets f = simp length-append (omega arith)
+
+pub parts-of-field : (f : Parts) (rest : List ℕ) → partsAt (octets f ++ rest) (sizes f) ≡ f
+unfolding partsAt octets sizes
+parts-of-field f rest =
+    let n = length (f .name) in
+    let w = length (f .size) in
+    let j : 1 + n ≡ suc n = omega arith in
+    let k : 1 + w ≡ suc w = omega arith in
+    let u = f .contents ++ (f .hint ++ rest) in
+    let s = f .octet ∷ (f .size ++ u) in
+    rw (
+      flat f rest,
+      j,
+      k,
+      drop-at (f .name) s n refl,
+      take-at (f .name) s n refl,
+      take-at (f .size) u w refl,
+      drop-at (f .size) u w refl,
+      take-at (f .contents) (f .hint ++ rest) (length (f .contents)) refl,
+      drop-at (f .contents) (f .hint ++ rest) (length (f .contents)) refl,
+      take-at (f .hint) rest (length (f .hint)) refl,
+    )
+
+pub rest-of-field : (f : Parts) (rest : List ℕ) → drop (total (sizes f)) (octets f ++ rest) ≡ rest
+rest-of-field f rest = drop-at (octets f) rest (total (sizes f)) (length-octets f)

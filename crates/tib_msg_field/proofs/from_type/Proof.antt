@@ -1,0 +1,49 @@
+-- `tib_msg_field::from_type` meets its contract.
+use mathlib.Core.Path.{sym, _∙_}
+use Rattle.tib_msg_field.proofs.Fronts.{type-cut, type-bad, type-good}
+use borrow.Author.Needs.{needs}
+use Rattle.tib_msg_field.proofs.from_type.Statement.{statement}
+use Rattle.tib_msg_field.proofs.from_type.Tie as tie
+
+returns : tie.Need-returns
+returns c = type-cut (c .before .before .args .n) (c .before .before .args .s .now) (c .if1 .taken)
+
+shared-slice-read-c : tie.Need-shared-slice-read-c
+shared-slice-read-c c = search needs
+
+type-allowed-requires : tie.Need-type-allowed-requires
+type-allowed-requires c κs = search needs
+
+sub-from-size : tie.Need-sub-from-size
+sub-from-size c = search needs
+
+part-from-size-start : tie.Need-part-from-size-start
+part-from-size-start c = search needs
+
+part-from-size-end : tie.Need-part-from-size-end
+part-from-size-end c = search needs
+
+from-size-requires : tie.Need-from-size-requires
+from-size-requires c κs = search needs
+
+returns-2 : tie.Need-returns-2
+returns-2 c =
+    c .from-size .ensures
+    ∙ type-good (c .before .before .before .before .before .before .before .args .n) (c .before .before .before .before .before .before .before .args .s .now) (c .before .before .before .before .before .if1 .left) (sym (c .before .before .before .type-allowed .ensures) ∙ c .before .before .if2 .taken)
+
+returns-3 : tie.Need-returns-3
+returns-3 c = type-bad (c .before .before .before .before .before .args .n) (c .before .before .before .before .before .args .s .now) (c .before .before .before .if1 .left) (sym (c .before .type-allowed .ensures) ∙ c .if2 .left)
+
+pub from-type-spec : {M : Type 1} → statement M
+from-type-spec =
+    tie.close
+    (tie.spec
+    returns
+    shared-slice-read-c
+    type-allowed-requires
+    sub-from-size
+    part-from-size-start
+    part-from-size-end
+    from-size-requires
+    returns-2
+    returns-3)

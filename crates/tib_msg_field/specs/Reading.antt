@@ -1,0 +1,132 @@
+-- Reading a TibMsg message: its division into fields, or the first refusal with its place. In each part of a field a missing octet is
+-- refused before a bad one.
+use Prim.Native.Nat.{ℕ, zero, suc, _+_, _-_, _/_, _%_, _^_}
+use mathlib.Core.Bool.{Bool, true, false, cond, _&&_, _||_, not}
+use mathlib.Core.List.{List, [], _∷_, _++_}
+use lib.ListN.{length, take, drop}
+use lib.Dec.{eqb, leb, ltb}
+use Rattle.octets.specs.Number.{number}
+use Rattle.tib_field.specs.Octets.{begins}
+use Rattle.tib_field.specs.Name.{nameFront}
+use Rattle.tib_field.specs.declared.Front.{Front}
+use Rattle.tib_field.specs.declared.Front.the-variants.{End, Fault as NameFault, Name}
+use Rattle.tib_msg_field.specs.declared.Sizes.{Sizes}
+use Rattle.tib_msg_field.specs.declared.Step.{Step}
+use Rattle.tib_msg_field.specs.declared.Step.the-variants.{Done, Fault, Over}
+use Rattle.tib_msg_field.specs.declared.HintPart.{HintPart}
+use Rattle.tib_msg_field.specs.declared.HintPart.the-variants.{Fault as HintFault, Size}
+use Rattle.tib_msg_field.specs.Layout.{kind, hinted, sizeWidth, isWidth, sizeAllowed, Parts, magic}
+
+-- A type octet: two bits clear, a type that there is, and a hint for an array or a partial.
+unfoldable pub typeAllowed : ℕ → Bool
+typeAllowed c = eqb (c / 16 % 4) 0 && (leb (kind c) 10 && (hinted c || not (eqb (kind c) 8 || eqb (kind c) 9)))
+
+-- The hint of an array of this many octets, by its first two octets, the elements' type and size.
+unfoldable pub arrayHint : ℕ → ℕ → ℕ → HintPart
+arrayHint size t n = cond ((leb 4 t && leb t 7) && (isWidth n && eqb (size % n) 0)) (Size 2) (HintFault 16)
+
+-- The hint of a partial, by its first octet.
+unfoldable pub partialHint : ℕ → HintPart
+partialHint t = cond (eqb t 6) (Size 2) (HintFault 16)
+
+-- Any other hint, by its first two octets, its type and size, and how many octets follow these.
+unfoldable pub valueHint : ℕ → ℕ → ℕ → HintPart
+valueHint t n left = cond ((leb 5 t && leb t 6) && isWidth n) (cond (ltb left n) (HintFault 3) (Size (2 + n))) (HintFault 16)
+
+-- The hint at the front of octets, by the field's type and the size of its data.
+unfoldable pub hintFront : ℕ → ℕ → List ℕ → HintPart
+hintFront kind size [] = HintFault 3
+hintFront kind size (t ∷ []) = HintFault 3
+hintFront kind size (t ∷ n ∷ s) =
+    cond (eqb kind 8) (arrayHint size t n) (cond (eqb kind 9) (partialHint t) (valueHint t n (length s)))
+
+-- The hint after the data, where the type octet says that there is one.
+unfoldable pub hintAt : ℕ → ℕ → List ℕ → HintPart
+hintAt c size s = cond (hinted c) (hintFront (kind c) size s) (Size 0)
+
+-- The field of which all but the hint is read.
+unfoldable pub withHint : ℕ → ℕ → ℕ → ℕ → HintPart → Step
+withHint n c w l (HintFault k) = Fault k
+withHint n c w l (Size h) = Over (record { name = n; octet = c; width = w; contents = l; hint = h })
+
+-- The field from its data on, which are announced to be l octets.
+unfoldable pub fromData : ℕ → ℕ → ℕ → ℕ → List ℕ → Step
+fromData n c w l s = cond (ltb (length s) l) (Fault 4) (withHint n c w l (hintAt c l (drop l s)))
+
+-- The field from its size on, which takes w octets.
+unfoldable pub fromSize : ℕ → ℕ → ℕ → List ℕ → Step
+fromSize n c w s =
+    cond (ltb (length s) w) (Fault 3)
+    (cond (sizeAllowed (kind c) (number (take w s))) (fromData n c w (number (take w s)) (drop w s)) (Fault 16))
+
+-- The field from its type on, after a name of n octets.
+unfoldable pub fromType : ℕ → List ℕ → Step
+fromType n [] = Fault 3
+fromType n (c ∷ s) = cond (typeAllowed c) (fromSize n c (sizeWidth c) s) (Fault 16)
+
+unfoldable pub afterName : List ℕ → Front → Step
+afterName s End = Done
+afterName s (NameFault k) = Fault k
+afterName s (Name n) = fromType n (drop (1 + n) s)
+
+-- What stands at the front of octets: their end, a fault, or a field.
+unfoldable pub nextField : List ℕ → Step
+nextField s = afterName s (nameFront s)
+
+-- The sizes of a field's parts.
+unfoldable pub sizes : Parts → Sizes
+sizes f =
+    record {
+      name = length (f .name);
+      octet = f .octet;
+      width = length (f .size);
+      contents = length (f .contents);
+      hint = length (f .hint);
+    }
+
+-- How many octets a field takes: two more than these parts, for the name's size and the type.
+unfoldable pub total : Sizes → ℕ
+total z = 2 + z .name + z .width + z .contents + z .hint
+
+-- The parts of the field at the front of octets, taken off one after the other.
+unfoldable pub partsAt : List ℕ → Sizes → Parts
+partsAt s z =
+    let afterName = drop (1 + z .name) s in
+    let afterSize = drop (1 + z .width) afterName in
+    let afterData = drop (z .contents) afterSize in
+    record {
+      name = take (z .name) (drop 1 s);
+      octet = z .octet;
+      size = take (z .width) (drop 1 afterName);
+      contents = take (z .contents) afterSize;
+      hint = take (z .hint) afterData;
+    }
+
+pub data Reading : Type 0 where
+  accepted : List Parts → Reading
+  refused : ℕ → ℕ → Reading
+
+-- A reading with fields put before its own.
+unfoldable pub onFields : List Parts → Reading → Reading
+onFields fs (accepted gs) = accepted (fs ++ gs)
+onFields fs (refused number place) = refused number place
+
+-- What a step at the front of octets, at a place, comes to, where `next` reads the fields that follow.
+unfoldable pub afterStep : (ℕ → List ℕ → Reading) → ℕ → List ℕ → Step → Reading
+afterStep next at s Done = accepted []
+afterStep next at s (Fault number) = refused number at
+afterStep next at s (Over z) = onFields (partsAt s z ∷ []) (next (at + total z) (drop (total z) s))
+
+-- The fields from a place on. `left` bounds the fields that are still looked at.
+unfoldable pub fieldsFrom : ℕ → ℕ → List ℕ → Reading
+fieldsFrom zero at s = refused 3 at
+fieldsFrom (suc left) at s = afterStep (fieldsFrom left) at s (nextField s)
+
+-- The whole message. A field takes an octet or more, so one look more than there are octets is enough.
+unfoldable pub reading : List ℕ → Reading
+reading s =
+    cond (ltb (2 ^ 16) (length s)) (refused 1 0)
+    (cond (ltb (length s) 9) (refused 3 0)
+    (cond (not (begins magic s)) (refused 13 0)
+    (cond (not (eqb (number (take 4 (drop 5 s))) (length s - 9))) (refused 14 0)
+    (fieldsFrom (suc (length s)) 9 (drop 9 s)))))

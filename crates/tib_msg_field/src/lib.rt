@@ -1,0 +1,247 @@
+// One step through a TibMsg message: the field at the front of octets. This crate also has the definitions of a message and of its
+// reading, and the laws between them.
+use tib_field::Front;
+ghost use mathlib.Core.Path.{_≡_};
+ghost use Prim.Native.Nat.{_/_, _%_};
+ghost use lib.Dec.{eqb};
+ghost use Rattle.tib_msg_field.specs.Layout.{kind as kind-of, hinted as hinted-of, sizeWidth, isWidth, sizeAllowed};
+ghost use Rattle.tib_msg_field.specs.Reading.{typeAllowed, arrayHint, partialHint, valueHint, hintFront, hintAt, fromData, fromSize, fromType, nextField};
+
+// The sizes of the parts of a field, and its type octet.
+pub struct Sizes {
+    pub name: usize,
+    pub octet: u8,
+    pub width: usize,
+    pub contents: usize,
+    pub hint: usize,
+}
+
+// What stands where a field may begin: the end of the message, a field that is refused with a number, or a field.
+pub enum Step {
+    Done,
+    Fault(u64),
+    Over(Sizes),
+}
+
+// The hint of a field: it is refused with a number, or takes this many octets.
+pub enum HintPart {
+    Fault(u64),
+    Size(usize),
+}
+
+pub fn kind(c: u8) -> u64
+    ensures { λ r. ⌜ r ≡ kind-of c ⌝ }
+{
+    tib_field::wide(c & 15)
+}
+
+pub fn hinted(c: u8) -> bool
+    ensures { λ r. ⌜ r ≡ hinted-of c ⌝ }
+{
+    (c >> 6) & 1 == 1
+}
+
+fn clear(c: u8) -> bool
+    ensures { λ r. ⌜ r ≡ eqb (c / 16 % 4) 0 ⌝ }
+{
+    (c >> 4) & 3 == 0
+}
+
+fn size_width(c: u8) -> usize
+    ensures { λ r. ⌜ r ≡ sizeWidth c ⌝ }
+{
+    if (c >> 7) & 1 == 1 { 4 } else { 1 }
+}
+
+fn is_width(n: u64) -> bool
+    ensures { λ r. ⌜ r ≡ isWidth n ⌝ }
+{
+    if n == 1 {
+        return true;
+    }
+    if n == 2 {
+        return true;
+    }
+    if n == 4 {
+        return true;
+    }
+    n == 8
+}
+
+// An array or a partial cannot do without a hint.
+fn type_allowed(c: u8) -> bool
+    ensures { λ r. ⌜ r ≡ typeAllowed c ⌝ }
+{
+    if !clear(c) {
+        return false;
+    }
+    let k = kind(c);
+    if 10 < k {
+        return false;
+    }
+    if hinted(c) {
+        return true;
+    }
+    if k == 8 {
+        return false;
+    }
+    k != 9
+}
+
+fn size_allowed(k: u64, n: u64) -> bool
+    ensures { λ r. ⌜ r ≡ sizeAllowed k n ⌝ }
+{
+    if k == 5 {
+        return is_width(n);
+    }
+    if k == 6 {
+        return is_width(n);
+    }
+    if k == 7 {
+        if n == 4 {
+            return true;
+        }
+        return n == 8;
+    }
+    true
+}
+
+fn array_hint(size: u64, t: u64, n: u64) -> HintPart
+    ensures { λ r. ⌜ r ≡ arrayHint size t n ⌝ }
+{
+    if t < 4 {
+        return HintPart::Fault(16);
+    }
+    if 7 < t {
+        return HintPart::Fault(16);
+    }
+    if !is_width(n) {
+        return HintPart::Fault(16);
+    }
+    if size % n != 0 {
+        return HintPart::Fault(16);
+    }
+    HintPart::Size(2)
+}
+
+fn partial_hint(t: u64) -> HintPart
+    ensures { λ r. ⌜ r ≡ partialHint t ⌝ }
+{
+    if t == 6 {
+        HintPart::Size(2)
+    } else {
+        HintPart::Fault(16)
+    }
+}
+
+// The octets of the value are counted only once the two before them are good.
+fn value_hint(t: u64, n: u64, left: usize) -> HintPart
+    ensures { λ r. ⌜ r ≡ valueHint t n left ⌝ }
+{
+    if t < 5 {
+        return HintPart::Fault(16);
+    }
+    if 6 < t {
+        return HintPart::Fault(16);
+    }
+    if !is_width(n) {
+        return HintPart::Fault(16);
+    }
+    if (left as u64) < n {
+        return HintPart::Fault(3);
+    }
+    HintPart::Size(2 + (n as usize))
+}
+
+// The hint at the front of octets, by the field's type and the size of its data.
+fn hint_front(k: u64, size: u64, s: &[u8]) -> HintPart
+    ensures { λ r. ⌜ r ≡ hintFront k size (now (s .entry)) ⌝ }
+{
+    if s.len() < 2 {
+        return HintPart::Fault(3);
+    }
+    let t = tib_field::wide(s[0]);
+    let n = tib_field::wide(s[1]);
+    if k == 8 {
+        return array_hint(size, t, n);
+    }
+    if k == 9 {
+        return partial_hint(t);
+    }
+    value_hint(t, n, s.len() - 2)
+}
+
+fn hint_at(c: u8, size: u64, s: &[u8]) -> HintPart
+    ensures { λ r. ⌜ r ≡ hintAt c size (now (s .entry)) ⌝ }
+{
+    if hinted(c) {
+        hint_front(kind(c), size, s)
+    } else {
+        HintPart::Size(0)
+    }
+}
+
+// The field from its data on, which are announced to be l octets.
+fn from_data(n: usize, c: u8, w: usize, l: u64, s: &[u8]) -> Step
+    ensures { λ r. ⌜ r ≡ fromData n c w l (now (s .entry)) ⌝ }
+{
+    if (s.len() as u64) < l {
+        return Step::Fault(4);
+    }
+    let d = l as usize;
+    match hint_at(c, l, &s[d..]) {
+        HintPart::Fault(k) => Step::Fault(k),
+        HintPart::Size(h) => Step::Over(Sizes {
+            name: n,
+            octet: c,
+            width: w,
+            contents: d,
+            hint: h,
+        }),
+    }
+}
+
+// The field from its size on, which takes one octet or four.
+fn from_size(n: usize, c: u8, s: &[u8]) -> Step
+    ensures { λ r. ⌜ r ≡ fromSize n c (sizeWidth c) (now (s .entry)) ⌝ }
+{
+    let w = size_width(c);
+    if s.len() < w {
+        return Step::Fault(3);
+    }
+    let l = tib_field::number(&s[0..w]);
+    if size_allowed(kind(c), l) {
+        from_data(n, c, w, l, &s[w..])
+    } else {
+        Step::Fault(16)
+    }
+}
+
+// The field from its type on, after a name of n octets.
+fn from_type(n: usize, s: &[u8]) -> Step
+    ensures { λ r. ⌜ r ≡ fromType n (now (s .entry)) ⌝ }
+{
+    if s.len() == 0 {
+        return Step::Fault(3);
+    }
+    let c = s[0];
+    if type_allowed(c) {
+        from_size(n, c, &s[1..])
+    } else {
+        Step::Fault(16)
+    }
+}
+
+// What stands at the front of octets.
+pub fn next_field(s: &[u8]) -> Step
+    ensures { λ r. ⌜ r ≡ nextField (now (s .entry)) ⌝ }
+{
+    match tib_field::name_front(s) {
+        Front::End => Step::Done,
+        Front::Fault(k) => Step::Fault(k),
+        Front::Name(n) => {
+            let start = 1 + n;
+            from_type(n, &s[start..])
+        }
+    }
+}

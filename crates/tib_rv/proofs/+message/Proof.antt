@@ -1,0 +1,428 @@
+-- `tib_rv::message` meets its contract: at each turn the counts so far, with those of the fields that are left, are the message's. The
+-- room for nested messages falls with each call of itself.
+use Prim.Native.Nat.{ℕ, suc, _+_, _-_, _≤_, _<_}
+use native.Mathlib.Omega.{arith}
+use borrow.Author.Needs.{needs}
+use mathlib.Core.Path.{_≡_, sym, _∙_}
+use mathlib.Core.List.{List}
+use lib.ListN.{length, take, drop, length-take}
+use Rattle.tib_rv_field.specs.declared.Sizes.{Sizes}
+use Rattle.tib_rv_field.specs.declared.Step.{Step}
+use Rattle.tib_rv_field.specs.declared.Step.the-variants.{Over, Into}
+use Rattle.tib_rv_field.specs.Reading.{nextField, total, fieldsFrom, headerFault, messageFrom}
+use Rattle.tib_rv.specs.Found.{walkOf}
+use Rattle.tib_rv_field.proofs.Fronts.{seen}
+use Rattle.tib_rv_field.proofs.Accepted.{header-good}
+use Rattle.tib_rv.proofs.Turns.{State, start, at-end, at-fault, over-leaf, over-nested, refused-nested, over-room, into-room, lead-within, counts-small, header-open, header-bad, no-room}
+use borrow.Fn.Kinds.{In}
+use borrow.Fn.PlainCycle.{Measures, is, falls, and}
+use Rattle.tib_rv.proofs.message.Reads as message
+use Rattle.tib_rv.proofs.message.Kinds as message-kinds
+use Rattle.tib_rv.proofs.+message.Lts-message as message-lts
+use Rattle.tib_rv.proofs.data_at.Reads as data-at-reads
+use Rattle.tib_rv.proofs.header_fault.Reads as header-fault-reads
+use Rattle.tib_rv.proofs.larger.Reads as larger-reads
+use Rattle.tib_rv_field.proofs.next_field.Reads as next-field-reads
+use Rattle.tib_rv.proofs.past.Reads as past-reads
+use Rattle.tib_rv.proofs.refused.Reads as refused-reads
+use Rattle.tib_rv.proofs.+message.{statement}
+use Rattle.tib_rv.proofs.+message.Tie.{close}
+
+abbrev μ-message : Measures 1 message-kinds.ps ℕ
+μ-message κs a = a .1 .0
+
+abbrev message-at : ℕ → In 1 message-kinds.ps
+message-at t = and 1 message-kinds.ps (is 1 message-kinds.ps μ-message t) message.Pre
+
+abbrev message-below : ℕ → In 1 message-kinds.ps
+message-below t = and 1 message-kinds.ps (falls 1 message-kinds.ps _<_ μ-message t) message.Pre
+
+-- What the functions that are called ask and ensure.
+abbrev claims : ℕ → message-lts.Claims
+claims t = (
+  refused-reads.Asked,
+  refused-reads.Learnt,
+  header-fault-reads.Asked,
+  header-fault-reads.Learnt,
+  next-field-reads.Asked,
+  next-field-reads.Learnt,
+  past-reads.Asked,
+  past-reads.Learnt,
+  data-at-reads.Asked,
+  data-at-reads.Learnt,
+  message-below t,
+  message.Post,
+  larger-reads.Asked,
+  larger-reads.Learnt,
+)
+
+abbrev message-Inv-loop : message-lts.InvT-loop
+message-Inv-loop s room field at fault i₀ fields₀ depth₀ i fields depth =
+    (1 ≤ room) × (headerFault s ≡ 0) × State (messageFrom (room - 1)) at s i fields depth
+
+abbrev message-μ-loop : message-lts.MeasureT-loop
+message-μ-loop s room field at fault i₀ fields₀ depth₀ i fields depth = length s - i
+
+-- The places in the code that the facts below speak of.
+abbrev After-next : ℕ → Type 0
+After-next t = message-lts.After-next-field (claims t) (message-at t) message.Post message-Inv-loop message-μ-loop
+
+abbrev After-ends : ℕ → Type 0
+After-ends t = message-lts.After-past2 (claims t) (message-at t) message.Post message-Inv-loop message-μ-loop
+
+abbrev After-inner : ℕ → Type 0
+After-inner t = message-lts.After-known-told5 (claims t) (message-at t) message.Post message-Inv-loop message-μ-loop
+
+module _ (t : ℕ) (c : After-next t) where
+  abbrev args : message-lts.Args (claims t) (message-at t) message.Post message-Inv-loop message-μ-loop (c .before .before .before .before .before .before .before .κs)
+  args = c .before .before .before .before .before .before .before .args
+
+  abbrev octets : List ℕ
+  octets = args .s .now
+
+  abbrev i : ℕ
+  i = c .before .before .loop .i
+
+  abbrev fields : ℕ
+  fields = c .before .before .loop .fields
+
+  abbrev depth : ℕ
+  depth = c .before .before .loop .depth
+
+  abbrev state : State (messageFrom (args .room - 1)) (args .at) octets i fields depth
+  state = c .before .before .loop .inv .2
+
+  abbrev room-left : 1 ≤ args .room
+  room-left = c .before .before .loop .inv .0
+
+  abbrev bounds : (args .at + length octets ≤ 65536) × (args .room ≤ 8)
+  bounds = c .before .before .before .before .before .before .before .pre .1
+
+  -- What the step found at the octets that are left.
+  step-is : (p : Step) → c .next-field .result ≡ p → nextField (drop i octets) ≡ p
+  step-is p e = seen octets i (c .next-field .result) p (c .next-field .ensures) e
+
+  -- What the whole message comes to, in terms of its fields.
+  opened : walkOf (fieldsFrom (messageFrom (args .room - 1)) (suc (length octets)) (args .at + 8) (drop 8 octets))
+      ≡ walkOf (messageFrom (args .room) (args .field) (args .at) octets)
+  opened = let h = room-left in header-open (args .room) (args .field) (args .at) octets (λ e. omega arith) (c .before .before .loop .inv .1)
+
+  over-ends : (z : Sizes) → c .next-field .result ≡ Over z → (i < i + total z) × (i + total z ≤ length octets)
+  over-ends z e = over-room (messageFrom (args .room - 1)) (args .at) octets i fields depth state z (step-is (Over z) e)
+
+  into-ends : (z : Sizes) → c .next-field .result ≡ Into z → (i < i + total z) × (i + total z ≤ length octets)
+  into-ends z e = into-room (messageFrom (args .room - 1)) (args .at) octets i fields depth state z (step-is (Into z) e)
+
+-- Where a nested message starts and ends.
+module _ (t : ℕ) (c : After-ends t) where
+  abbrev next : After-next t
+  next = c .before .before .before .before .before
+
+  abbrev z : Sizes
+  z = c .before .before .before .z2 .given .0 .0
+
+  abbrev into : next .next-field .result ≡ Into z
+  into = c .before .before .before .z2 .given .1
+
+  abbrev from : ℕ
+  from = c .before .data-at .result
+
+  abbrev end : ℕ
+  end = c .past2 .result
+
+  part : (i t next < from) × (from ≤ end) × (end ≤ length (octets t next))
+  part =
+      let h = into-ends t next z into in
+      let a = lead-within z in
+      let p = h .0 in
+      let q = h .1 in
+      let x = a .0 in
+      let y = a .1 in
+      let u = c .before .data-at .ensures in
+      let v = c .past2 .ensures in
+      (omega arith, omega arith, omega arith)
+
+  abbrev held : List ℕ
+  held = take (end - from) (drop from (octets t next))
+
+-- The nested message's counts are small.
+inner-small : (t : ℕ) (c : After-inner t) → let d = c .before .before .before .before .before in let w = c .before .f .given .0 in
+    (w .0 ≤ end t d - from t d) × (w .1 .0 ≤ args t (next t d) .room - 1)
+inner-small t c =
+    let d = c .before .before .before .before .before in
+    let b = next t d in
+    let w = c .before .f .given in
+    let m = c .before .before .before .message in
+    let k = counts-small (args t b .room - 1) (args t b .at + i t b) (args t b .at + from t d) (held t d) (w .0 .0) (w .0 .1 .0) (sym (m .ensures) ∙ w .1) in
+    let l = length-take (end t d - from t d) (drop (from t d) (octets t b)) in
+    let p = k .0 in
+    (omega arith, k .1)
+
+message-refused-requires : (t : ℕ) → message-lts.Need-refused-requires (claims t) (message-at t) message.Post message-Inv-loop message-μ-loop
+message-refused-requires t c κs = search needs
+
+message-returns : (t : ℕ) → message-lts.Need-returns (claims t) (message-at t) message.Post message-Inv-loop message-μ-loop
+message-returns t c = c .refused .ensures ∙ no-room (c .before .before .before .args .room) (c .before .before .before .args .field) (c .before .before .before .args .at) (c .before .before .before .args .s .now) (c .before .if1 .taken)
+
+message-header-fault-requires : (t : ℕ) → message-lts.Need-header-fault-requires (claims t) (message-at t) message.Post message-Inv-loop message-μ-loop
+message-header-fault-requires t c κs = search needs
+
+message-refused-requires-2 : (t : ℕ) → message-lts.Need-refused-requires-2 (claims t) (message-at t) message.Post message-Inv-loop message-μ-loop
+message-refused-requires-2 t c κs = search needs
+
+message-returns-2 : (t : ℕ) → message-lts.Need-returns-2 (claims t) (message-at t) message.Post message-Inv-loop message-μ-loop
+message-returns-2 t c = c .refused2 .ensures ∙ header-bad (c .before .before .before .before .before .args .room) (c .before .before .before .before .before .args .field) (c .before .before .before .before .before .args .at) (c .before .before .before .before .before .args .s .now) (c .before .before .header-fault .result) (c .before .before .before .if1 .left) (c .before .before .header-fault .ensures) (c .before .if2 .taken)
+
+message-loop-holds : (t : ℕ) → message-lts.Need-loop-holds (claims t) (message-at t) message.Post message-Inv-loop message-μ-loop
+message-loop-holds t c =
+    let h = c .before .before .if1 .left in
+    let e = sym (c .before .header-fault .ensures) ∙ c .if2 .left in
+    let a = c .before .before .before .before .args in
+    (omega arith, e, start (messageFrom (a .room - 1)) (a .at) (a .s .now) (header-good (a .s .now) e .whole))
+
+message-sub-next-field : (t : ℕ) → message-lts.Need-sub-next-field (claims t) (message-at t) message.Post message-Inv-loop message-μ-loop
+message-sub-next-field t c = let h = c .loop .inv .2 .inside in omega arith
+
+message-part-next-field-start : (t : ℕ) → message-lts.Need-part-next-field-start (claims t) (message-at t) message.Post message-Inv-loop message-μ-loop
+message-part-next-field-start t c = let h = c .loop .inv .2 .inside in omega arith
+
+message-part-next-field-end : (t : ℕ) → message-lts.Need-part-next-field-end (claims t) (message-at t) message.Post message-Inv-loop message-μ-loop
+message-part-next-field-end t c = let h = c .loop .inv .2 .inside in omega arith
+
+message-next-field-requires : (t : ℕ) → message-lts.Need-next-field-requires (claims t) (message-at t) message.Post message-Inv-loop message-μ-loop
+message-next-field-requires t c κs = search needs
+
+message-enum-told : (t : ℕ) → message-lts.Need-enum-told (claims t) (message-at t) message.Post message-Inv-loop message-μ-loop
+message-enum-told t c = search needs
+
+message-returns-3 : (t : ℕ) → message-lts.Need-returns-3 (claims t) (message-at t) message.Post message-Inv-loop message-μ-loop
+message-returns-3 t c =
+    let b = c .before .before in
+    at-end (messageFrom (args t b .room - 1)) (args t b .at) (octets t b) (i t b) (fields t b) (depth t b) (state t b) (step-is t b _ (c .enum-told .given .1)) ∙ opened t b
+
+message-enum-known-k : (t : ℕ) → message-lts.Need-enum-known-k (claims t) (message-at t) message.Post message-Inv-loop message-μ-loop
+message-enum-known-k t c = search needs
+
+message-add-refused : (t : ℕ) → message-lts.Need-add-refused (claims t) (message-at t) message.Post message-Inv-loop message-μ-loop
+message-add-refused t c =
+    let b = c .before .before .before in
+    let h = state t b .inside in
+    let k = bounds t b .0 in
+    omega arith
+
+message-refused-requires-3 : (t : ℕ) → message-lts.Need-refused-requires-3 (claims t) (message-at t) message.Post message-Inv-loop message-μ-loop
+message-refused-requires-3 t c κs = search needs
+
+message-returns-4 : (t : ℕ) → message-lts.Need-returns-4 (claims t) (message-at t) message.Post message-Inv-loop message-μ-loop
+message-returns-4 t c =
+    let b = c .before .before .before .before in
+    c .refused3 .ensures ∙ at-fault (messageFrom (args t b .room - 1)) (args t b .at) (octets t b) (i t b) (fields t b) (depth t b) (state t b) (c .before .before .k .given .0 .0) (step-is t b _ (c .before .before .k .given .1)) ∙ opened t b
+
+message-enum-known-z : (t : ℕ) → message-lts.Need-enum-known-z (claims t) (message-at t) message.Post message-Inv-loop message-μ-loop
+message-enum-known-z t c = search needs
+
+message-past-requires : (t : ℕ) → message-lts.Need-past-requires (claims t) (message-at t) message.Post message-Inv-loop message-μ-loop
+message-past-requires t c κs =
+    let b = c .before .before .before in
+    let h = over-ends t b _ (c .before .z .given .1) .1 in
+    let k = bounds t b .0 in
+    omega arith
+
+message-add-fields : (t : ℕ) → message-lts.Need-add-fields (claims t) (message-at t) message.Post message-Inv-loop message-μ-loop
+message-add-fields t c =
+    let b = c .before .before .before .before in
+    let h = state t b .inside in
+    let f = state t b .few in
+    let k = bounds t b .0 in
+    omega arith
+
+message-loop-less : (t : ℕ) → message-lts.Need-loop-less (claims t) (message-at t) message.Post message-Inv-loop message-μ-loop
+message-loop-less t c =
+    let b = c .before .before .before .before in
+    let h = over-ends t b _ (c .before .before .z .given .1) in
+    let p = h .0 in
+    let q = h .1 in
+    let e = c .past .ensures in
+    omega arith
+
+message-loop-again : (t : ℕ) → message-lts.Need-loop-again (claims t) (message-at t) message.Post message-Inv-loop message-μ-loop
+message-loop-again t c =
+    let b = c .before .before .before .before in
+    (room-left t b, b .before .before .loop .inv .1, over-leaf (messageFrom (args t b .room - 1)) (args t b .at) (octets t b) (i t b) (fields t b) (depth t b) (state t b) _ _ (step-is t b _ (c .before .before .z .given .1)) (c .past .ensures))
+
+message-enum-known-z-2 : (t : ℕ) → message-lts.Need-enum-known-z-2 (claims t) (message-at t) message.Post message-Inv-loop message-μ-loop
+message-enum-known-z-2 t c = search needs
+
+message-data-at-requires : (t : ℕ) → message-lts.Need-data-at-requires (claims t) (message-at t) message.Post message-Inv-loop message-μ-loop
+message-data-at-requires t c κs =
+    let b = c .before .before .before in
+    let h = into-ends t b _ (c .before .z2 .given .1) .1 in
+    let k = bounds t b .0 in
+    omega arith
+
+message-past-requires-2 : (t : ℕ) → message-lts.Need-past-requires-2 (claims t) (message-at t) message.Post message-Inv-loop message-μ-loop
+message-past-requires-2 t c κs =
+    let b = c .before .before .before .before in
+    let h = into-ends t b _ (c .before .before .z2 .given .1) .1 in
+    let k = bounds t b .0 in
+    omega arith
+
+message-sub-message : (t : ℕ) → message-lts.Need-sub-message (claims t) (message-at t) message.Post message-Inv-loop message-μ-loop
+message-sub-message t c = let h = part t c .1 in omega arith
+
+message-part-message-start : (t : ℕ) → message-lts.Need-part-message-start (claims t) (message-at t) message.Post message-Inv-loop message-μ-loop
+message-part-message-start t c = let h = part t c .1 in omega arith
+
+message-part-message-end : (t : ℕ) → message-lts.Need-part-message-end (claims t) (message-at t) message.Post message-Inv-loop message-μ-loop
+message-part-message-end t c = let h = part t c .2 in omega arith
+
+message-sub-message-2 : (t : ℕ) → message-lts.Need-sub-message-2 (claims t) (message-at t) message.Post message-Inv-loop message-μ-loop
+message-sub-message-2 t c = let h = room-left t (next t (c .before)) in omega arith
+
+message-add-message : (t : ℕ) → message-lts.Need-add-message (claims t) (message-at t) message.Post message-Inv-loop message-μ-loop
+message-add-message t c =
+    let b = next t (c .before) in
+    let h = state t b .inside in
+    let k = bounds t b .0 in
+    omega arith
+
+message-add-message-2 : (t : ℕ) → message-lts.Need-add-message-2 (claims t) (message-at t) message.Post message-Inv-loop message-μ-loop
+message-add-message-2 t c =
+    let b = next t (c .before) in
+    let h = part t (c .before) .1 in
+    let g = part t (c .before) .2 in
+    let k = bounds t b .0 in
+    omega arith
+
+message-message-requires : (t : ℕ) → message-lts.Need-message-requires (claims t) (message-at t) message.Post message-Inv-loop message-μ-loop
+message-message-requires t c κs =
+    let d = c .before in
+    let b = next t d in
+    let h = part t d .1 in
+    let g = part t d .2 in
+    let k = bounds t b .0 in
+    let l = bounds t b .1 in
+    let r = room-left t b in
+    let p = b .before .before .before .before .before .before .before .pre .0 in
+    let m = length-take (end t d - from t d) (drop (from t d) (octets t b)) in
+    (omega arith, (omega arith, omega arith))
+
+message-enum-known-number : (t : ℕ) → message-lts.Need-enum-known-number (claims t) (message-at t) message.Post message-Inv-loop message-μ-loop
+message-enum-known-number t c = search needs
+
+message-refused-requires-4 : (t : ℕ) → message-lts.Need-refused-requires-4 (claims t) (message-at t) message.Post message-Inv-loop message-μ-loop
+message-refused-requires-4 t c κs = search needs
+
+message-returns-5 : (t : ℕ) → message-lts.Need-returns-5 (claims t) (message-at t) message.Post message-Inv-loop message-μ-loop
+message-returns-5 t c =
+    let d = c .before .before .before .before .before .before in
+    let b = next t d in
+    let w = c .before .before .number .given in
+    let m = c .before .before .before .before .message in
+    c .refused4 .ensures
+    ∙ refused-nested (messageFrom (args t b .room - 1)) (args t b .at) (octets t b) (i t b) (fields t b) (depth t b) (state t b) (z t d) (from t d) (end t d) (m .result) (w .0 .0) (w .0 .1 .0) (step-is t b _ (into t d)) (d .before .data-at .ensures) (d .past2 .ensures)
+    (m .ensures) (w .1)
+    ∙ opened t b
+
+message-enum-known-f : (t : ℕ) → message-lts.Need-enum-known-f (claims t) (message-at t) message.Post message-Inv-loop message-μ-loop
+message-enum-known-f t c = search needs
+
+message-add-fields-2 : (t : ℕ) → message-lts.Need-add-fields-2 (claims t) (message-at t) message.Post message-Inv-loop message-μ-loop
+message-add-fields-2 t c =
+    let d = c .before .before .before .before .before in
+    let b = next t d in
+    let h = inner-small t c .0 in
+    let g = part t d .2 in
+    let k = bounds t b .0 in
+    omega arith
+
+message-add-fields-3 : (t : ℕ) → message-lts.Need-add-fields-3 (claims t) (message-at t) message.Post message-Inv-loop message-μ-loop
+message-add-fields-3 t c =
+    let d = c .before .before .before .before .before in
+    let b = next t d in
+    let h = inner-small t c .0 in
+    let p = part t d .0 in
+    let g = part t d .2 in
+    let f = state t b .few in
+    let k = bounds t b .0 in
+    omega arith
+
+message-add-larger : (t : ℕ) → message-lts.Need-add-larger (claims t) (message-at t) message.Post message-Inv-loop message-μ-loop
+message-add-larger t c =
+    let d = c .before .before .before .before .before in
+    let b = next t d in
+    let h = inner-small t c .1 in
+    let k = bounds t b .1 in
+    omega arith
+
+message-larger-requires : (t : ℕ) → message-lts.Need-larger-requires (claims t) (message-at t) message.Post message-Inv-loop message-μ-loop
+message-larger-requires t c κs = search needs
+
+message-loop-less-2 : (t : ℕ) → message-lts.Need-loop-less-2 (claims t) (message-at t) message.Post message-Inv-loop message-μ-loop
+message-loop-less-2 t c =
+    let d = c .before .before .before .before .before .before in
+    let h = part t d .0 in
+    let k = part t d .1 in
+    let l = part t d .2 in
+    omega arith
+
+message-loop-again-2 : (t : ℕ) → message-lts.Need-loop-again-2 (claims t) (message-at t) message.Post message-Inv-loop message-μ-loop
+message-loop-again-2 t c =
+    let n = c .before in
+    let d = c .before .before .before .before .before .before in
+    let b = next t d in
+    let w = n .before .f .given in
+    let m = n .before .before .before .message in (
+      room-left t b,
+      b .before .before .loop .inv .1,
+      over-nested (messageFrom (args t b .room - 1)) (args t b .at) (octets t b) (i t b) (fields t b) (depth t b) (state t b) (z t d) (from t d) (end t d) (m .result) (w .0 .0) (w .0 .1 .0) (c .larger .result) (step-is t b _ (into t d)) (d .before .data-at .ensures)
+          (d .past2 .ensures) (m .ensures) (w .1) (inner-small t n .0) (c .larger .ensures),
+    )
+
+pub +message-spec : {M : Type 1} → statement M
++message-spec = close μ-message λ t. message-lts.spec (claims t)
+    (message-at t)
+    message.Post
+    message-Inv-loop
+    message-μ-loop
+    (message-refused-requires t)
+    (message-returns t)
+    (message-header-fault-requires t)
+    (message-refused-requires-2 t)
+    (message-returns-2 t)
+    (message-loop-holds t)
+    (message-sub-next-field t)
+    (message-part-next-field-start t)
+    (message-part-next-field-end t)
+    (message-next-field-requires t)
+    (message-enum-told t)
+    (message-returns-3 t)
+    (message-enum-known-k t)
+    (message-add-refused t)
+    (message-refused-requires-3 t)
+    (message-returns-4 t)
+    (message-enum-known-z t)
+    (message-past-requires t)
+    (message-add-fields t)
+    (message-loop-less t)
+    (message-loop-again t)
+    (message-enum-known-z-2 t)
+    (message-data-at-requires t)
+    (message-past-requires-2 t)
+    (message-sub-message t)
+    (message-part-message-start t)
+    (message-part-message-end t)
+    (message-sub-message-2 t)
+    (message-add-message t)
+    (message-add-message-2 t)
+    (message-message-requires t)
+    (message-enum-known-number t)
+    (message-refused-requires-4 t)
+    (message-returns-5 t)
+    (message-enum-known-f t)
+    (message-add-fields-2 t)
+    (message-add-fields-3 t)
+    (message-add-larger t)
+    (message-larger-requires t)
+    (message-loop-less-2 t)
+    (message-loop-again-2 t)

@@ -1,0 +1,62 @@
+-- What the readers of TibrvMsg answer, by a message's reading.
+use Prim.Native.Nat.{ℕ, zero, suc, _+_}
+use mathlib.Core.Bool.{false}
+use mathlib.Core.List.{List, [], _∷_}
+use lib.ListN.{length}
+use Rattle.tib_field.specs.Refused.{refusedCheck, noReal, refusedField}
+use Rattle.tib_field.specs.declared.Checked.{Checked}
+use Rattle.tib_field.specs.declared.Field.{Field}
+use Rattle.tib_rv_field.specs.Layout.{Parts, octets, holder, Fields, end, leaf, nested, message, depth}
+use Rattle.tib_rv_field.specs.Reading.{Reading, accepted, refused, reading}
+
+-- The count of fields, at all depths.
+unfoldable pub count : Fields → ℕ
+count end = 0
+count (leaf f rest) = 1 + count rest
+count (nested name size inside rest) = 1 + count inside + count rest
+
+-- A refusal, or the counts of the division.
+unfoldable pub counts : Reading → Checked
+counts (accepted fs) = record { refusal = 0; place = 0; fields = count fs; depth = depth fs }
+counts (refused number place) = refusedCheck number place
+
+unfoldable pub check : List ℕ → Checked
+check s = counts (reading s)
+
+-- The outermost fields. The data of one that holds a message are the whole message.
+unfoldable pub outermost : Fields → List Parts
+outermost end = []
+outermost (leaf f rest) = f ∷ outermost rest
+outermost (nested name size inside rest) = holder name (message size inside) ∷ outermost rest
+
+-- A field that begins at a place. The octet before the name is its size, and the octet after it the type. No field has a hint, and the
+-- octets of a real are handed out as they stand.
+unfoldable pub shown : ℕ → Parts → Field
+shown at f =
+    record {
+      refusal = 0;
+      place = 0;
+      «name_place» = at + 1;
+      «name_length» = length (f .name);
+      kind = f .octet;
+      «data_place» = at + 2 + length (f .name) + length (f .size);
+      «data_length» = length (f .contents);
+      hinted = false;
+      «hint_kind» = 0;
+      hint = 0;
+      real = noReal;
+    }
+
+-- The k-th, from 0, of fields that begin at a place; 18 where there is none.
+unfoldable pub kthShown : ℕ → ℕ → List Parts → Field
+kthShown k at [] = refusedField 18 0
+kthShown zero at (f ∷ fs) = shown at f
+kthShown (suc k) at (f ∷ fs) = kthShown k (at + length (octets f)) fs
+
+unfoldable pub fieldOf : ℕ → Reading → Field
+fieldOf k (accepted fs) = kthShown k 8 (outermost fs)
+fieldOf k (refused number place) = refusedField number place
+
+-- The k-th outermost field of a message.
+unfoldable pub field : List ℕ → ℕ → Field
+field s k = fieldOf k (reading s)

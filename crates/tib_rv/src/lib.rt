@@ -1,0 +1,207 @@
+// Reading TibrvMsg messages: the check of a whole message, and its k-th field.
+use tib_field::Checked;
+use tib_field::Field;
+use tib_rv_field::Sizes;
+use tib_rv_field::Step;
+ghost use mathlib.Core.Path.{_≡_};
+ghost use Prim.Native.Nat.{_+_, _≤_, _<_, _^_, max};
+ghost use lib.ListN.{length};
+ghost use Rattle.tib_rv_field.specs.Reading.{nextField, lead as lead-of, total, headerFault, messageFrom, reading};
+ghost use Rattle.tib_rv.specs.Answers.{check as check-of, field as field-of};
+ghost use Rattle.tib_rv.specs.Found.{walkOf, outerOf, kthOf, shownSizes, IsAccepted};
+
+// What a message comes to: the count of its fields at all depths and its depth, or a refusal.
+pub enum Walk {
+    Accepted { fields: u64, depth: u64 },
+    Refused { number: u64, place: u64 },
+}
+
+// A field of either kind, or that there is none.
+pub enum Outer {
+    Nothing,
+    Field(Sizes),
+}
+
+// A field of a message by its place, or that there is none.
+pub enum Kth {
+    At { place: usize, sizes: Sizes },
+    Absent,
+}
+
+// The refusal of a header, 0 where it is good.
+fn header_fault(s: &[u8]) -> u64
+    ensures { λ r. ⌜ r ≡ headerFault (now (s .entry)) ⌝ }
+{
+    if s.len() < 8 {
+        return 3;
+    }
+    if !tib_field::begins(&s[4..], b"\x99\x55\xee\xaa") {
+        return 13;
+    }
+    if tib_field::number(&s[0..4]) != s.len() as u64 {
+        return 14;
+    }
+    0
+}
+
+// The place of the data of a field of these sizes, and the place after it.
+fn data_at(at: usize, z: Sizes) -> usize
+    requires { ⌜ at + total z < 2 ^ 64 ⌝ }
+    ensures { λ r. ⌜ r ≡ at + lead-of z ⌝ }
+{
+    at + 2 + z.name + z.width
+}
+
+fn past(at: usize, z: Sizes) -> usize
+    requires { ⌜ at + total z < 2 ^ 64 ⌝ }
+    ensures { λ r. ⌜ r ≡ at + total z ⌝ }
+{
+    data_at(at, z) + z.contents
+}
+
+fn larger(a: u64, b: u64) -> u64
+    ensures { λ r. ⌜ r ≡ max a b ⌝ }
+{
+    if a < b { b } else { a }
+}
+
+fn refused(number: u64, place: u64) -> Walk
+    ensures { λ r. ⌜ r ≡ Walk.Refused number place ⌝ }
+{
+    Walk::Refused { number, place }
+}
+
+// A message whose header starts at a place, in a field at another place. `room` is how many messages deep it may be, itself counted; a
+// nested message has one less.
+fn message(s: &[u8], room: u64, field: u64, at: u64) -> Walk
+    requires { ⌜ at + length (now s) ≤ 65536 ⌝ }
+    requires { ⌜ room ≤ 8 ⌝ }
+    ensures { λ r. ⌜ r ≡ walkOf (messageFrom room field at (now (s .entry))) ⌝ }
+{
+    if room == 0 {
+        return refused(5, field);
+    }
+    let fault = header_fault(s);
+    if fault != 0 {
+        return refused(fault, at);
+    }
+    let mut i: usize = 8;
+    let mut fields: u64 = 0;
+    let mut depth: u64 = 1;
+    loop {
+        match tib_rv_field::next_field(&s[i..]) {
+            Step::Done => return Walk::Accepted { fields, depth },
+            Step::Fault(k) => return refused(k, at + (i as u64)),
+            Step::Over(z) => {
+                i = past(i, z);
+                fields = fields + 1;
+            }
+            Step::Into(z) => {
+                let a = data_at(i, z);
+                let e = past(i, z);
+                match message(&s[a..e], room - 1, at + (i as u64), at + (a as u64)) {
+                    Walk::Refused { number, place } => return refused(number, place),
+                    Walk::Accepted {
+                        fields: f,
+                        depth: d,
+                    } => {
+                        i = e;
+                        fields = fields + (1 + f);
+                        depth = larger(depth, d + 1);
+                    }
+                }
+            }
+        }
+    }
+}
+
+fn read(s: &[u8]) -> Walk
+    ensures { λ r. ⌜ r ≡ walkOf (reading (now (s .entry))) ⌝ }
+{
+    if 65536 < s.len() {
+        return refused(1, 0);
+    }
+    message(s, 8, 0, 0)
+}
+
+pub fn check(message: &[u8]) -> Checked
+    ensures { λ r. ⌜ r ≡ check-of (now (message .entry)) ⌝ }
+{
+    match read(message) {
+        Walk::Accepted { fields, depth } => Checked {
+            refusal: 0,
+            place: 0,
+            fields,
+            depth,
+        },
+        Walk::Refused { number, place } => tib_field::refused_check(number, place),
+    }
+}
+
+// The field at the front of octets, whether it holds a message or not.
+fn next_outer(s: &[u8]) -> Outer
+    ensures { λ r. ⌜ r ≡ outerOf (nextField (now (s .entry))) ⌝ }
+{
+    match tib_rv_field::next_field(s) {
+        Step::Done => Outer::Nothing,
+        Step::Fault(_) => Outer::Nothing,
+        Step::Over(z) => Outer::Field(z),
+        Step::Into(z) => Outer::Field(z),
+    }
+}
+
+// The place and the sizes of the k-th outermost field of a message that is accepted.
+fn find(s: &[u8], k: u64) -> Kth
+    requires { ⌜ IsAccepted (now s) ⌝ }
+    ensures { λ r. ⌜ r ≡ kthOf k (reading (now (s .entry))) ⌝ }
+{
+    let mut i: usize = 8;
+    let mut left = k;
+    loop {
+        match next_outer(&s[i..]) {
+            Outer::Nothing => return Kth::Absent,
+            Outer::Field(z) => {
+                if left == 0 {
+                    return Kth::At { place: i, sizes: z };
+                }
+                i = past(i, z);
+                left -= 1;
+            }
+        }
+    }
+}
+
+// The answer for a field of these sizes at a place.
+fn shown(at: usize, z: Sizes) -> Field
+    requires { ⌜ at + total z < 2 ^ 64 ⌝ }
+    ensures { λ r. ⌜ r ≡ shownSizes at z ⌝ }
+{
+    Field {
+        refusal: 0,
+        place: 0,
+        name_place: (at + 1) as u64,
+        name_length: z.name as u64,
+        kind: tib_field::wide(z.octet),
+        data_place: data_at(at, z) as u64,
+        data_length: z.contents as u64,
+        hinted: false,
+        hint_kind: 0,
+        hint: 0,
+        real: tib_field::no_real(),
+    }
+}
+
+pub fn field(message: &[u8], k: u64) -> Field
+    ensures { λ r. ⌜ r ≡ field-of (now (message .entry)) k ⌝ }
+{
+    match read(message) {
+        Walk::Refused { number, place } => tib_field::refused_field(number, place),
+        Walk::Accepted {
+            fields: _,
+            depth: _,
+        } => match find(message, k) {
+            Kth::At { place, sizes } => shown(place, sizes),
+            Kth::Absent => tib_field::refused_field(18, 0),
+        },
+    }
+}

@@ -1,0 +1,4 @@
+pub mod Counts
+pub mod Steps
+pub mod Accepted
+pub mod Fronts

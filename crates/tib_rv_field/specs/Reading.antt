@@ -1,0 +1,142 @@
+-- Reading a TibrvMsg message: its division into fields, or the first refusal with its place. In each part of a field a missing octet is
+-- refused before a bad one.
+use Prim.Native.Nat.{ℕ, zero, suc, _+_, _-_, _^_}
+use mathlib.Core.Bool.{Bool, true, false, cond, _&&_, _||_, not}
+use mathlib.Core.List.{List, [], _∷_, _++_}
+use lib.ListN.{length, take, drop}
+use lib.Dec.{eqb, leb, ltb}
+use Rattle.octets.specs.Number.{number}
+use Rattle.tib_field.specs.Octets.{begins}
+use Rattle.tib_field.specs.Name.{nameFront}
+use Rattle.tib_field.specs.declared.Front.{Front}
+use Rattle.tib_field.specs.declared.Front.the-variants.{End, Fault as NameFault, Name}
+use Rattle.tib_rv_field.specs.declared.Sizes.{Sizes}
+use Rattle.tib_rv_field.specs.declared.Step.{Step}
+use Rattle.tib_rv_field.specs.declared.Step.the-variants.{Done, Fault, Over, Into}
+use Rattle.tib_rv_field.specs.Layout.{Parts, magic, Fields, end, leaf, nested}
+
+-- How many octets of a size follow its first octet.
+unfoldable pub following : ℕ → ℕ
+following m = cond (eqb m 0x79) 2 (cond (eqb m 0x7a) 4 0)
+
+-- How many octets of a size it counts itself: its first octet alone, or those that follow it.
+unfoldable pub own : ℕ → ℕ
+own m = cond (ltb m 0x79) 1 (following m)
+
+-- What a size says, by its first octet and the octets after that.
+unfoldable pub counted : ℕ → List ℕ → ℕ
+counted m s = cond (ltb m 0x79) m (number (take (following m) s))
+
+-- A count is no smaller than what it counts of the size, and type 1 uses `7a`.
+unfoldable pub countAllowed : ℕ → ℕ → ℕ → Bool
+countAllowed c m k = leb (own m) k && (not (eqb c 1) || eqb m 0x7a)
+
+-- A field whose octets are all there, by the size of its name, its type, its size's first octet and its count. The message that a field
+-- of type 1 holds starts at the size octets, and the count is its length.
+unfoldable pub found : ℕ → ℕ → ℕ → ℕ → Step
+found n c m k =
+    cond (eqb c 1) (Into (record { name = n; octet = c; width = 1; contents = k }))
+    (Over (record { name = n; octet = c; width = 1 + following m; contents = k - own m }))
+
+-- The field from its data on, where there are `left` octets.
+unfoldable pub fromCount : ℕ → ℕ → ℕ → ℕ → ℕ → Step
+fromCount n c m k left = cond (countAllowed c m k) (cond (ltb left (k - own m)) (Fault 4) (found n c m k)) (Fault 16)
+
+-- The field from its size on.
+unfoldable pub fromSize : ℕ → ℕ → List ℕ → Step
+fromSize n c [] = Fault 3
+fromSize n c (m ∷ s) =
+    cond (ltb 0x7a m) (Fault 16)
+    (cond (ltb (length s) (following m)) (Fault 3)
+    (fromCount n c m (counted m s) (length s - following m)))
+
+-- The field from its type on, after a name of n octets. Every type octet is read.
+unfoldable pub fromType : ℕ → List ℕ → Step
+fromType n [] = Fault 3
+fromType n (c ∷ s) = fromSize n c s
+
+unfoldable pub afterName : List ℕ → Front → Step
+afterName s End = Done
+afterName s (NameFault k) = Fault k
+afterName s (Name n) = fromType n (drop (1 + n) s)
+
+-- What stands at the front of octets: their end, a fault, a field, or a field that holds a message.
+unfoldable pub nextField : List ℕ → Step
+nextField s = afterName s (nameFront s)
+
+-- The sizes of a field's parts.
+unfoldable pub sizes : Parts → Sizes
+sizes f = record { name = length (f .name); octet = f .octet; width = length (f .size); contents = length (f .contents) }
+
+-- How many octets a field has before its data: two more than these parts, for the name's size and the type.
+unfoldable pub lead : Sizes → ℕ
+lead z = 2 + z .name + z .width
+
+unfoldable pub total : Sizes → ℕ
+total z = lead z + z .contents
+
+-- The parts of the field at the front of octets, taken off one after the other.
+unfoldable pub partsAt : List ℕ → Sizes → Parts
+partsAt s z =
+    let afterName = drop (1 + z .name) s in
+    record {
+      name = take (z .name) (drop 1 s);
+      octet = z .octet;
+      size = take (z .width) (drop 1 afterName);
+      contents = take (z .contents) (drop (1 + z .width) afterName);
+    }
+
+pub data Reading : Type 0 where
+  accepted : Fields → Reading
+  refused : ℕ → ℕ → Reading
+
+-- A reading's fields with something put before them.
+unfoldable pub onFields : (Fields → Fields) → Reading → Reading
+onFields f (accepted fields) = accepted (f fields)
+onFields f (refused number place) = refused number place
+
+-- A nested message is read before the fields that follow it.
+unfoldable pub inOrder : (Fields → Fields → Fields) → Reading → Reading → Reading
+inOrder f (accepted inside) rest = onFields (f inside) rest
+inOrder f (refused number place) rest = refused number place
+
+-- How a nested message is read: the place of its field, the place of its header, and its octets.
+abbrev pub Inner : Type 0
+Inner = ℕ → ℕ → List ℕ → Reading
+
+-- The division of a field that holds a message, by its parts and the division of the message.
+unfoldable pub nestedOf : Parts → Fields → Fields → Fields
+nestedOf f inside rest = nested (f .name) (take 4 (f .contents)) inside rest
+
+-- What a step at the front of octets, at a place, comes to, where `next` reads the fields that follow.
+unfoldable pub afterStep : Inner → (ℕ → List ℕ → Reading) → ℕ → List ℕ → Step → Reading
+afterStep inner next at s Done = accepted end
+afterStep inner next at s (Fault number) = refused number at
+afterStep inner next at s (Over z) = onFields (leaf (partsAt s z)) (next (at + total z) (drop (total z) s))
+afterStep inner next at s (Into z) =
+    inOrder (nestedOf (partsAt s z)) (inner at (at + lead z) (partsAt s z .contents)) (next (at + total z) (drop (total z) s))
+
+-- The fields of one message, from a place on. `left` bounds the fields that are still looked at.
+unfoldable pub fieldsFrom : Inner → ℕ → ℕ → List ℕ → Reading
+fieldsFrom inner zero at s = refused 3 at
+fieldsFrom inner (suc left) at s = afterStep inner (fieldsFrom inner left) at s (nextField s)
+
+-- The refusal of a header, 0 where it is good: cut, another magic number, another size than the message has. The size of a nested message
+-- is what gave its octets, so 14 is the outermost message's alone.
+unfoldable pub headerFault : List ℕ → ℕ
+headerFault s =
+    cond (ltb (length s) 8) 3
+    (cond (not (begins magic (drop 4 s))) 13
+    (cond (not (eqb (number (take 4 s)) (length s))) 14
+    0))
+
+-- A message, at most `room` messages deep. It is refused with 5 at the field that holds it where it is too deep. A field takes an octet or
+-- more, so one look more than there are octets is enough.
+unfoldable pub messageFrom : ℕ → Inner
+messageFrom zero field at s = refused 5 field
+messageFrom (suc room) field at s =
+    cond (eqb (headerFault s) 0) (fieldsFrom (messageFrom room) (suc (length s)) (at + 8) (drop 8 s)) (refused (headerFault s) at)
+
+-- The outermost message: its division, or the first refusal.
+unfoldable pub reading : List ℕ → Reading
+reading s = cond (ltb (2 ^ 16) (length s)) (refused 1 0) (messageFrom 8 0 0 s)

@@ -1,0 +1,149 @@
+// One step through a TibrvMsg message: the field at the front of octets. This crate also has the definitions of a message and of its
+// reading, and the laws between them.
+use tib_field::Front;
+ghost use mathlib.Core.Path.{_≡_};
+ghost use mathlib.Core.Bool.{cond};
+ghost use Prim.Native.Nat.{_≤_};
+ghost use lib.Dec.{ltb};
+ghost use Rattle.octets.specs.Number.{unsigned};
+ghost use Rattle.tib_field.specs.Octets.{orZero};
+ghost use Rattle.tib_rv_field.specs.Reading.{following as following-of, own as own-of, countAllowed, found as found-of, fromCount, fromSize, fromType, nextField};
+
+// The sizes of the parts of a field, and its type octet. Of a field that holds a message the width is 1, for the marker alone, and the
+// contents are the message.
+pub struct Sizes {
+    pub name: usize,
+    pub octet: u8,
+    pub width: usize,
+    pub contents: usize,
+}
+
+// What stands where a field may begin: the end of the message, a field that is refused with a number, a field, or a field that holds a
+// message.
+pub enum Step {
+    Done,
+    Fault(u64),
+    Over(Sizes),
+    Into(Sizes),
+}
+
+// How many octets of a size follow its first octet.
+fn following(m: u64) -> usize
+    ensures { λ r. ⌜ r ≡ following-of m ⌝ }
+    ensures { λ r. ⌜ r ≤ 4 ⌝ }
+{
+    if m == 0x79 {
+        return 2;
+    }
+    if m == 0x7a {
+        return 4;
+    }
+    0
+}
+
+// How many octets of a size it counts itself.
+fn own(m: u64) -> u64
+    ensures { λ r. ⌜ r ≡ own-of m ⌝ }
+{
+    if 0x79 <= m {
+        return following(m) as u64;
+    }
+    1
+}
+
+// What a size says, by its first octet and the octets that belong to it after that.
+fn counted(m: u64, s: &[u8]) -> u64
+    ensures { λ r. ⌜ r ≡ cond (ltb m 0x79) m (orZero (unsigned (now (s .entry)))) ⌝ }
+{
+    if m < 0x79 { m } else { tib_field::number(s) }
+}
+
+fn count_allowed(c: u8, m: u64, k: u64) -> bool
+    ensures { λ r. ⌜ r ≡ countAllowed c m k ⌝ }
+{
+    if k < own(m) {
+        return false;
+    }
+    if c == 1 {
+        return m == 0x7a;
+    }
+    true
+}
+
+// A field whose octets are all there. Where it holds a message, that starts at the size octets and the count is its length.
+fn found(n: usize, c: u8, m: u64, k: u64) -> Step
+    requires { ⌜ own-of m ≤ k ⌝ }
+    ensures { λ r. ⌜ r ≡ found-of n c m k ⌝ }
+{
+    if c == 1 {
+        return Step::Into(Sizes {
+            name: n,
+            octet: c,
+            width: 1,
+            contents: k as usize,
+        });
+    }
+    Step::Over(Sizes {
+        name: n,
+        octet: c,
+        width: 1 + following(m),
+        contents: (k - own(m)) as usize,
+    })
+}
+
+// The field from its data on, where there are `left` octets.
+fn from_count(n: usize, c: u8, m: u64, k: u64, left: usize) -> Step
+    ensures { λ r. ⌜ r ≡ fromCount n c m k left ⌝ }
+{
+    if !count_allowed(c, m, k) {
+        return Step::Fault(16);
+    }
+    if (left as u64) < k - own(m) {
+        return Step::Fault(4);
+    }
+    found(n, c, m, k)
+}
+
+// The field from its size on.
+fn from_size(n: usize, c: u8, s: &[u8]) -> Step
+    ensures { λ r. ⌜ r ≡ fromSize n c (now (s .entry)) ⌝ }
+{
+    if s.len() == 0 {
+        return Step::Fault(3);
+    }
+    let m = tib_field::wide(s[0]);
+    if 0x7a < m {
+        return Step::Fault(16);
+    }
+    let w = following(m);
+    if s.len() - 1 < w {
+        return Step::Fault(3);
+    }
+    let end = 1 + w;
+    let k = counted(m, &s[1..end]);
+    from_count(n, c, m, k, s.len() - end)
+}
+
+// The field from its type on, after a name of n octets.
+fn from_type(n: usize, s: &[u8]) -> Step
+    ensures { λ r. ⌜ r ≡ fromType n (now (s .entry)) ⌝ }
+{
+    if s.len() == 0 {
+        return Step::Fault(3);
+    }
+    from_size(n, s[0], &s[1..])
+}
+
+// What stands at the front of octets.
+pub fn next_field(s: &[u8]) -> Step
+    ensures { λ r. ⌜ r ≡ nextField (now (s .entry)) ⌝ }
+{
+    match tib_field::name_front(s) {
+        Front::End => Step::Done,
+        Front::Fault(k) => Step::Fault(k),
+        Front::Name(n) => {
+            let start = 1 + n;
+            from_type(n, &s[start..])
+        }
+    }
+}
