@@ -12,7 +12,7 @@ ghost use Rattle.hproto_table.specs.Entry.{entry};
 ghost use Rattle.hproto_message.specs.Reading.{step as step-of, stepByKind};
 ghost use Rattle.hproto_field.specs.Fronts.{front as front-of, nothing as nothing-of};
 
-// The tag, the kind and the sizes of the control part and of the contents of a whole field; zeros where there is none.
+// The tag, the kind and the sizes of the control part and of the contents of a whole field; raw and zeros where there is none.
 pub struct Field {
     pub tag: u64,
     pub kind: Meaning,

@@ -28,7 +28,7 @@ fn least(a: usize, b: usize) -> usize
 }
 
 // What a tag means under the first words of a table. A word above its lowest 16 bits is the message number and the tag, so one
-// comparison looks at both. A larger number or tag stands in no word.
+// comparison looks at both. A number or a tag too large for its bits stands in no word.
 pub fn find(words: &[u64], count: usize, number: u64, tag: u64) -> Meaning
     ensures { λ r. ⌜ r ≡ find-of (map entry (take count (now (words .entry)))) number tag ⌝ }
 {

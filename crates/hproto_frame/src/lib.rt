@@ -89,7 +89,8 @@ fn size(x: u8, s: &[u8]) -> u64
     }
 }
 
-// A size of eight octets can be so large that no place can be added to it, so it is compared with what is left.
+// The message part of the frame at the front of a buffer. A size of eight octets can be so large that no place can be added to it, so
+// it is compared with the octets behind the prefix.
 pub fn frame_read(buffer: &[u8]) -> FrameRead
     ensures { λ r. ⌜ r ≡ frameRead (now (buffer .entry)) ⌝ }
 {
@@ -156,6 +157,7 @@ fn shortest_prefix(size: u64) -> Lead
     }
 }
 
+// Puts a frame of a message at the front of a buffer.
 pub fn frame_write(message: &[u8], out: &mut [u8]) -> FrameWritten
     ensures { λ r. ⌜ r ≡ frameWritten (now (message .entry)) (length (now (out .entry))) ⌝ }
     ensures { λ _. ⌜ now (out .exit) ≡ frameStored (now (message .entry)) (now (out .entry)) ⌝ }

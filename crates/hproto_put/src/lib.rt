@@ -18,7 +18,8 @@ fn has_room(len: usize, at: usize, n: usize) -> bool
     n <= len - at
 }
 
-// The last `width` octets of v, from the last to the first; k of them are stored. Above its eight octets a number has zeros.
+// Stores the last `width` octets of v, the most significant first. The loop goes from the last one back; k of them are stored. Above
+// its eight octets a number has zeros.
 pub fn put_number(out: &mut [u8], at: usize, width: u64, v: u64)
     ensures { λ _. ⌜ now (out .exit) ≡ stored (now (out .entry)) at (octetsOf width v) ⌝ }
 {
@@ -56,6 +57,7 @@ pub fn put_control(out: &mut [u8], at: usize, tag: u16, length: u64)
     }
 }
 
+// Stores octets as they are.
 pub fn put_octets(out: &mut [u8], at: usize, s: &[u8])
     ensures { λ _. ⌜ now (out .exit) ≡ stored (now (out .entry)) at (now (s .entry)) ⌝ }
 {
@@ -68,7 +70,8 @@ pub fn put_octets(out: &mut [u8], at: usize, s: &[u8])
     }
 }
 
-// The last octet moves first, so that each is read before another is stored in its place; k of them are moved.
+// Stores n octets of the buffer again, further up. The last one moves first, so that each is read before another takes its place; k
+// of them are moved.
 pub fn move_up(out: &mut [u8], at: usize, n: usize, by: usize)
     ensures { λ _. ⌜ now (out .exit) ≡ moved (now (out .entry)) at n by ⌝ }
 {

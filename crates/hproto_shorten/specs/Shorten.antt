@@ -16,7 +16,7 @@ use Rattle.hproto_shorten.specs.declared.Shortened.{Shortened}
 unfoldable pub refusal : ℕ → ℕ → Shortened
 refusal number place = record { refusal = number; place = place; length = 0 }
 
--- The shortest octets that read the same as a message, where it is accepted.
+-- The shortest octets that read the same as a message, where it is accepted; nothing for a message that is not.
 unfoldable pub shortForm : Table → ℕ → List ℕ → List ℕ
 shortForm t n s = shortestOf (entries t) n (reading (entries t) n s)
 

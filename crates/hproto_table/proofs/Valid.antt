@@ -212,6 +212,6 @@ module _ (t : Table) where
       rw (← left, ← zeros-are rest (and-right (a && b && c) d v)) (take-append-drop n (t .words)) in
       (recordsFor used, records-octets used, load-records used range (omega arith) apart ∙ rw (len, filled) refl)
 
-  -- Of a table value with 64 words: it is valid exactly when the loader can give it.
+  -- A table value is valid exactly when the loader can give it. Every table value of the code has 64 words, so that premise limits nothing.
   pub valid-exactly : length (t .words) ≡ 64 → (valid t ≡ true) ↔ Loadable t
   valid-exactly size = (valid-loadable size, loadable-valid)

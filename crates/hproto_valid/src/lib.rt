@@ -71,6 +71,7 @@ fn unused(words: &[u64], n: usize) -> bool
     bits == 0
 }
 
+// Whether the loader can give a table value.
 pub fn valid(t: Table) -> bool
     ensures { λ r. ⌜ r ≡ valid-of t ⌝ }
 {

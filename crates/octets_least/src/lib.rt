@@ -41,6 +41,7 @@ fn width(v: u64) -> u64
     8
 }
 
+// The least octets of an unsigned number.
 pub fn uint_least(v: u64) -> Least
     ensures { λ r. ⌜ r ≡ uintLeast v ⌝ }
 {
@@ -79,6 +80,7 @@ fn least_below(k: u64) -> Least
     }
 }
 
+// The least octets of a signed number.
 pub fn int_least(z: i64) -> Least
     ensures { λ r. ⌜ r ≡ intLeast z ⌝ }
 {
@@ -154,6 +156,7 @@ fn length_lead(length: u64) -> Lead
     }
 }
 
+// The least control part of a tag and a length.
 pub fn control_least(tag: u16, length: u64) -> LeastControl
     ensures { λ r. ⌜ r ≡ controlLeast tag length ⌝ }
 {

@@ -36,6 +36,7 @@ fn big_endian(s: &[u8]) -> u64
     v
 }
 
+// The unsigned number that octets hold, or that they are more than eight.
 pub fn uint(s: &[u8]) -> Unsigned
     ensures { λ r. ⌜ r ≡ unsigned (now (s .entry)) ⌝ }
 {
@@ -63,7 +64,8 @@ fn sign_bit(n: usize) -> u64
     1u64 << (8 * n - 1)
 }
 
-// With the sign set, no magnitude stands for the lowest number: there is no minus zero.
+// The signed number that octets hold, or that they are more than eight. With the sign set, a magnitude of 0 stands for the lowest
+// number: there is no minus zero.
 pub fn int(s: &[u8]) -> Signed
     ensures { λ r. ⌜ r ≡ signed (now (s .entry)) ⌝ }
 {
@@ -126,7 +128,7 @@ fn plain_front(s: &[u8]) -> usize
     i
 }
 
-// `left` octets of the group that was begun are still to come.
+// Whether octets are text. `left` octets of the group that was begun are still to come.
 pub fn text(s: &[u8]) -> bool
     ensures { λ r. ⌜ r ≡ text-of (now (s .entry)) ⌝ }
 {
@@ -220,7 +222,7 @@ fn after_leads(t: u64, l: u64, s: &[u8]) -> Control
     }
 }
 
-// Most control parts are one octet, so that case is tested first.
+// The control part at the front of octets. Most are one octet, so that case is tested first.
 pub fn control(s: &[u8]) -> Control
     ensures { λ r. ⌜ r ≡ control-of (now (s .entry)) ⌝ }
 {

@@ -1,4 +1,4 @@
--- The name of a field. Document 01: name size 0 is no name; else the last octet is zero and no other is.
+-- The name of a field: no octets, or octets of which the last is zero and all others are not.
 use Prim.Native.Nat.{ℕ, zero, suc}
 use mathlib.Core.Path.{_≡_}
 use mathlib.Core.Bool.{Bool, true, false, cond}
