@@ -1,0 +1,154 @@
+// The octet listings of the document on hproto, each under a table that fits its text.
+use crate::run;
+
+// The tags 0 to 2 as int.
+fn coordinates(label: &[u8], m: &[u8]) {
+    run::message(
+        label,
+        b"\x01\x00\x05\x00\x00\x00\x02\x00\x01\x00\x05\x00\x00\x01\x02\x00\x01\x00\x05\x00\x00\x02\x02\x00",
+        0,
+        m,
+    );
+}
+
+// The tags 0 and 1 as string, 2 as uint.
+fn as_person(label: &[u8], m: &[u8]) {
+    run::message(
+        label,
+        b"\x01\x00\x05\x00\x00\x00\x03\x00\x01\x00\x05\x00\x00\x01\x03\x00\x01\x00\x05\x00\x00\x02\x01\x00",
+        0,
+        m,
+    );
+}
+
+// The tags 8 and 23 as text, 4567 as uint.
+fn as_person2(label: &[u8], m: &[u8]) {
+    run::message(
+        label,
+        b"\x01\x00\x05\x00\x00\x08\x04\x00\x01\x00\x05\x00\x00\x23\x04\x00\x01\x00\x05\x00\x45\x67\x01\x00",
+        0,
+        m,
+    );
+}
+
+// The tag 9 as uint.
+fn color(label: &[u8], m: &[u8]) {
+    run::message(label, b"\x01\x00\x05\x00\x00\x09\x01\x00", 0, m);
+}
+
+fn uints() {
+    run::uint(b"3", b"\xc1\x03");
+    run::uint(b"0x123", b"\xc2\x01\x23");
+    run::uint(b"0 naive", b"\xc1\x00");
+    run::uint(b"0", b"\xc0");
+    run::string(b"Hello", b"\xc5\x48\x65\x6c\x6c\x6f");
+}
+
+fn ints() {
+    run::int(b"-0x1234567", b"\xc4\x81\x23\x45\x67");
+    run::int(b"-0xaaaa", b"\xc3\x80\xaa\xaa");
+    run::int(b"-0x80", b"\xc1\x80");
+    run::int(b"-0x80 longer", b"\xc2\x80\x80");
+    run::int(b"-1", b"\xc1\x81");
+}
+
+fn tag_forms() {
+    run::uint(b"5", b"\xc1\x05");
+    run::uint(b"5, tag on one", b"\xe1\x0c\x05");
+    run::uint(b"5, tag on two", b"\xf1\x00\x0c\x05");
+}
+
+fn length_forms() {
+    run::uint(b"6", b"\xc1\x06");
+    run::uint(b"6, length on one", b"\xcc\x01\x06");
+    run::uint(b"6, length on two", b"\xcd\x00\x01\x06");
+    run::uint(b"6, length on four", b"\xce\x00\x00\x00\x01\x06");
+    run::uint(
+        b"6, length on eight",
+        b"\xcf\x00\x00\x00\x00\x00\x00\x00\x01\x06",
+    );
+}
+
+fn both_forms() {
+    run::message(
+        b"Hello, world",
+        b"\x01\x00\x05\x00\x12\x34\x03\x00",
+        0,
+        b"\xfc\x12\x34\x0c\x48\x65\x6c\x6c\x6f\x2c\x20\x77\x6f\x72\x6c\x64",
+    );
+}
+
+fn vectors() {
+    coordinates(b"vector", b"\x01\x82\x13\x11\x38\x54\x21\x90");
+    coordinates(b"coord3d", b"\x01\x4a\x10\x21\x8b");
+    coordinates(b"coord3d, 74 on two", b"\x02\x00\x4a\x10\x21\x8b");
+}
+
+fn person() {
+    as_person(b"born", b"\x22\x07\xc6");
+    as_person(b"last name", b"\x13\x44\x6f\x65");
+    as_person(b"last name, born", b"\x13\x44\x6f\x65\x22\x07\xc6");
+    as_person(b"first name", b"\x04\x4a\x6f\x68\x6e");
+    as_person(
+        b"person",
+        b"\x04\x4a\x6f\x68\x6e\x13\x44\x6f\x65\x22\x07\xc6",
+    );
+}
+
+fn fields() {
+    run::message(
+        b"repeated",
+        b"\x01\x00\x05\x00\x00\x01\x01\x00\x01\x00\x05\x00\x00\x02\x01\x00\x01\x00\x05\x00\x00\x03\x01\x00",
+        0,
+        b"\x11\x11\x21\x22\x31\x33\x21\x44\x11\x55\x21\x66",
+    );
+    run::message(b"married", b"\x01\x00\x05\x00\x00\x02\x05\x01", 0, b"\x20");
+    color(b"black", b"\x90");
+    color(b"black padded", b"\x93\x00\x00\x00");
+}
+
+// The long number is too long for a uint. As a string it is taken.
+fn person2() {
+    as_person2(b"first name", b"\x88\x47\xc3\xbc\x6e\x74\x68\x65\x72");
+    as_person2(
+        b"last name",
+        b"\xea\x23\x42\x72\x75\x6e\x74\x68\x61\x6c\x65\x72",
+    );
+    as_person2(
+        b"prime",
+        b"\xfc\x45\x67\x0e\x07\xff\xff\xff\xff\xff\xff\xff\xff\xff\xff\xff\xff\xff",
+    );
+    as_person2(
+        b"person2",
+        b"\x88\x47\xc3\xbc\x6e\x74\x68\x65\x72\xea\x23\x42\x72\x75\x6e\x74\x68\x61\x6c\x65\x72\xfc\x45\x67\x0e\x07\xff\xff\xff\xff\xff\xff\xff\xff\xff\xff\xff\xff\xff",
+    );
+    run::message(
+        b"person2, prime as string",
+        b"\x01\x00\x05\x00\x00\x08\x04\x00\x01\x00\x05\x00\x00\x23\x04\x00\x01\x00\x05\x00\x45\x67\x03\x00",
+        0,
+        b"\x88\x47\xc3\xbc\x6e\x74\x68\x65\x72\xea\x23\x42\x72\x75\x6e\x74\x68\x61\x6c\x65\x72\xfc\x45\x67\x0e\x07\xff\xff\xff\xff\xff\xff\xff\xff\xff\xff\xff\xff\xff",
+    );
+}
+
+// The track, and an artist with zeros behind its text, each of which is a field of its own.
+fn song() {
+    run::message(
+        b"song",
+        b"\x01\x00\x05\x00\x00\x03\x01\x00\x01\x00\x05\x00\x00\x05\x05\x01\x01\x00\x05\x01\x00\x06\x03\x00",
+        0,
+        b"\x31\x07\x5c\x20\x63\x41\x42\x43\x00\x00\x00\x00\x00\x00\x00\x00\x00\x00\x00\x00\x00\x00\x00\x00\x00\x00\x00\x00\x00\x00\x00\x00\x00\x00\x00\x00",
+    );
+}
+
+pub fn all() {
+    uints();
+    ints();
+    tag_forms();
+    length_forms();
+    both_forms();
+    vectors();
+    person();
+    fields();
+    person2();
+    song();
+}
