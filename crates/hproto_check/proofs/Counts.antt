@@ -17,7 +17,7 @@ use Rattle.hproto_message.specs.Tree.{tree, tagOf, innerOf}
 use Rattle.hproto_message.specs.Reading.{Reading, accepted, refused, reading, messageFrom}
 use Rattle.hproto_message.proofs.Shortened.{tree-depth}
 use Rattle.hproto_check.specs.Walks.{fields, walk}
-use Rattle.hproto_check.specs.Check.{refusal, counts, check}
+use Rattle.hproto_check.specs.Check.{refusal, counts, check, checkUnder}
 use Rattle.hproto_check.specs.declared.Walk.{Walk}
 use Rattle.hproto_check.specs.declared.Walk.the-variants.{Accepted, Refused}
 use Rattle.hproto_check.specs.declared.Checked.{Checked}
@@ -51,21 +51,35 @@ module _ (t : Table) (n : ℕ) (s : List ℕ) where
   unfolding check
   bad-table h v = rw (le-ltb (2 ^ 16) (length s) h, v)
 
-  pub bad-number : length s ≤ 65536 → valid t ≡ true → 15 < n → refusal 2 0 ≡ check t n s
-  unfolding check
-  bad-number h v k = rw (le-ltb (2 ^ 16) (length s) h, v, lt-ltb 15 n k)
+  -- A table that the loader can give answers as its entries do.
+  pub under-valid : length s ≤ 65536 → valid t ≡ true → checkUnder (entries t) n s ≡ check t n s
+  unfolding check checkUnder
+  under-valid h v = rw (le-ltb (2 ^ 16) (length s) h, v)
 
-  module _ (h : length s ≤ 65536) (v : valid t ≡ true) (k : n ≤ 15) where
-    pub read-through : check t n s ≡ counts (entries t) n (reading (entries t) n s)
-    unfolding check
-    read-through = rw (le-ltb (2 ^ 16) (length s) h, v, le-ltb 15 n k)
+module _ (es : List Entry) (n : ℕ) (s : List ℕ) where
+  pub too-long-under : 65536 < length s → refusal 1 0 ≡ checkUnder es n s
+  unfolding checkUnder
+  too-long-under h = rw (lt-ltb (2 ^ 16) (length s) h)
 
-    pub all-accepted : (f d : ℕ) (w : Walk) → w ≡ walk (messageFrom (entries t) 8 n 0 0 s) → w ≡ Accepted f d
-        → record { refusal = 0; place = 0; fields = f; depth = d } ≡ check t n s
+  pub bad-number : length s ≤ 65536 → 15 < n → refusal 2 0 ≡ checkUnder es n s
+  unfolding checkUnder
+  bad-number h k = rw (le-ltb (2 ^ 16) (length s) h, lt-ltb 15 n k)
+
+  module _ (h : length s ≤ 65536) (k : n ≤ 15) where
+    pub read-under : checkUnder es n s ≡ counts es n (reading es n s)
+    unfolding checkUnder
+    read-under = rw (le-ltb (2 ^ 16) (length s) h, le-ltb 15 n k)
+
+    pub all-accepted : (f d : ℕ) (w : Walk) → w ≡ walk (messageFrom es 8 n 0 0 s) → w ≡ Accepted f d
+        → record { refusal = 0; place = 0; fields = f; depth = d } ≡ checkUnder es n s
     unfolding reading
-    all-accepted f d w e a = sym (read-through ∙ counts-accepted (entries t) n (messageFrom (entries t) 8 n 0 0 s) f d (sym e ∙ a))
+    all-accepted f d w e a = sym (read-under ∙ counts-accepted es n (messageFrom es 8 n 0 0 s) f d (sym e ∙ a))
 
-    pub one-refused : (number place : ℕ) (w : Walk) → w ≡ walk (messageFrom (entries t) 8 n 0 0 s) → w ≡ Refused number place
-        → refusal number place ≡ check t n s
+    pub one-refused : (number place : ℕ) (w : Walk) → w ≡ walk (messageFrom es 8 n 0 0 s) → w ≡ Refused number place
+        → refusal number place ≡ checkUnder es n s
     unfolding reading
-    one-refused number place w e a = sym (read-through ∙ counts-refused (entries t) n (messageFrom (entries t) 8 n 0 0 s) number place (sym e ∙ a))
+    one-refused number place w e a = sym (read-under ∙ counts-refused es n (messageFrom es 8 n 0 0 s) number place (sym e ∙ a))
+
+module _ (t : Table) (n : ℕ) (s : List ℕ) (h : length s ≤ 65536) (v : valid t ≡ true) (k : n ≤ 15) where
+  pub read-through : check t n s ≡ counts (entries t) n (reading (entries t) n s)
+  read-through = sym (under-valid t n s h v) ∙ read-under (entries t) n s h k

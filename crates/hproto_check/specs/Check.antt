@@ -25,3 +25,11 @@ check t n s =
     cond (ltb (2 ^ 16) (length s)) (refusal 1 0)
     (cond (not (valid t) || ltb 15 n) (refusal 2 0)
     (counts (entries t) n (reading (entries t) n s)))
+
+-- The same under a list of entries, whatever they are. proofs/Counts.antt shows that the check under a table that the loader can give
+-- answers this of its entries.
+unfoldable pub checkUnder : List Entry → ℕ → List ℕ → Checked
+checkUnder es n s =
+    cond (ltb (2 ^ 16) (length s)) (refusal 1 0)
+    (cond (ltb 15 n) (refusal 2 0)
+    (counts es n (reading es n s)))

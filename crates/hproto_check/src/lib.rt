@@ -8,7 +8,7 @@ ghost use Prim.Native.Nat.{_+_, _≤_, max};
 ghost use lib.ListN.{length, take};
 ghost use Rattle.hproto_table.specs.Entry.{entry};
 ghost use Rattle.hproto_message.specs.Reading.{messageFrom};
-ghost use Rattle.hproto_check.specs.Check.{check as check-of, refusal};
+ghost use Rattle.hproto_check.specs.Check.{check as check-of, checkUnder, refusal};
 ghost use Rattle.hproto_check.specs.Walks.{walk as walk-of};
 
 // What a walk through a message comes to: the count of its fields and its depth, or a refusal's number and place.
@@ -96,22 +96,18 @@ fn refused(number: u64, place: u64) -> Checked
     }
 }
 
-// The check of a message of a number under a table.
-pub fn check(t: Table, number: u64, message: &[u8]) -> Checked
-    ensures { λ r. ⌜ r ≡ check-of t number (now (message .entry)) ⌝ }
+// The check under the first words of a table, whatever they are. A caller that has just loaded the table, or tested it, need not have
+// it tested again.
+pub fn check_under(words: &[u64], count: usize, number: u64, message: &[u8]) -> Checked
+    ensures { λ r. ⌜ r ≡ checkUnder (map entry (take count (now (words .entry)))) number (now (message .entry)) ⌝ }
 {
     if 65536 < message.len() {
         return refused(1, 0);
     }
-    if !hproto_valid::valid(t) {
-        return refused(2, 0);
-    }
     if 15 < number {
         return refused(2, 0);
     }
-    let words = t.words;
-    let count = t.count;
-    match nested(&words, count, number, 8, 0, 0, message) {
+    match nested(words, count, number, 8, 0, 0, message) {
         Walk::Accepted(fields, depth) => Checked {
             refusal: 0,
             place: 0,
@@ -120,4 +116,18 @@ pub fn check(t: Table, number: u64, message: &[u8]) -> Checked
         },
         Walk::Refused(n, place) => refused(n, place),
     }
+}
+
+// The check of a message of a number under a table.
+pub fn check(t: Table, number: u64, message: &[u8]) -> Checked
+    ensures { λ r. ⌜ r ≡ check-of t number (now (message .entry)) ⌝ }
+{
+    let n = message.len();
+    if 65536 < n {
+        return refused(1, 0);
+    }
+    if !hproto_valid::valid(t) {
+        return refused(2, 0);
+    }
+    check_under(&t.words, t.count, number, message)
 }

@@ -1,7 +1,7 @@
 -- The shortener's answer and buffer, case by case.
 use Prim.Native.Nat.{ℕ, zero, suc, _+_, _^_, _≤_, _<_}
 use native.Mathlib.Omega.{arith}
-use mathlib.Core.Path.{_≡_, refl, sym, ap, _∙_, subst}
+use mathlib.Core.Path.{_≡_, refl, sym, ap, _∙_}
 use mathlib.Core.Bool.{Bool, true, false, cond, not, _||_}
 use mathlib.Core.List.{List}
 use lib.ListN.{length}
@@ -14,77 +14,105 @@ use Rattle.hproto_table.specs.declared.Table.{Table}
 use Rattle.hproto_message.specs.Reading.{Reading, accepted, refused, reading, messageFrom}
 use Rattle.hproto_message.proofs.Refusals.{refusal-positive}
 use Rattle.hproto_check.specs.Check as checks
-use Rattle.hproto_check.specs.Check.{check, counts}
+use Rattle.hproto_check.specs.Check.{check, checkUnder, counts}
 use Rattle.hproto_check.specs.declared.Checked.{Checked}
+use Rattle.hproto_check.proofs.Counts.{under-valid}
 use Rattle.hproto_put.specs.Store.{stored}
 use Rattle.hproto_put.proofs.Stores.{stored-fits}
 use Rattle.hproto_shorten.specs.Written.{short, shortestOf, Accepts}
-use Rattle.hproto_shorten.specs.Shorten.{refusal, shortForm, roomy, answer, buffer}
+use Rattle.hproto_shorten.specs.Shorten.{refusal, shortUnder, shortForm, roomy, answerTo, bufferTo, answer, buffer, answerUnder, bufferUnder}
 use Rattle.hproto_shorten.specs.declared.Shortened.{Shortened}
 
+-- A message that the check does not refuse is short enough and accepted.
+pub under-passed : (es : List Entry) (n : ℕ) (s : List ℕ) → checkUnder es n s .refusal ≡ 0 → (length s ≤ 65536) × Accepts es 8 n s
+unfolding checkUnder checks.refusal Accepts counts reading
+under-passed es n s e = long (ltb (2 ^ 16) (length s)) refl e
+  where
+    read : (r : Reading) → reading es n s ≡ r → counts es n r .refusal ≡ 0 → Accepts es 8 n s
+    read (accepted cut) f e = (cut, f)
+    read (refused number place) f e = let h = refusal-positive es 8 n 0 0 s number place f in absurd (omega arith)
+
+    bad : (b : Bool) → length s ≤ 65536 → cond b (checks.refusal 2 0) (counts es n (reading es n s)) .refusal ≡ 0
+        → (length s ≤ 65536) × Accepts es 8 n s
+    bad true h e = absurd (omega arith)
+    bad false h e = (h, read (reading es n s) refl e)
+
+    long : (b : Bool) → ltb (2 ^ 16) (length s) ≡ b
+        → cond b (checks.refusal 1 0) (cond (ltb 15 n) (checks.refusal 2 0) (counts es n (reading es n s))) .refusal ≡ 0
+        → (length s ≤ 65536) × Accepts es 8 n s
+    long true f e = absurd (omega arith)
+    long false f e = bad (ltb 15 n) (ltb-false (2 ^ 16) (length s) f) e
+
 module _ (t : Table) (n : ℕ) (s : List ℕ) where
-  -- A message that the check does not refuse is short enough and accepted.
-  pub check-passed : check t n s .refusal ≡ 0 → (length s ≤ 65536) × Accepts (entries t) 8 n s
-  unfolding check checks.refusal Accepts counts reading
-  check-passed e = long (ltb (2 ^ 16) (length s)) refl e
+  -- Where the check under a table refuses nothing, the table is one that the loader can give.
+  passed-under : check t n s .refusal ≡ 0 → checkUnder (entries t) n s .refusal ≡ 0
+  unfolding check checkUnder checks.refusal
+  passed-under e = long (ltb (2 ^ 16) (length s)) e
     where
-      read : (r : Reading) → reading (entries t) n s ≡ r → counts (entries t) n r .refusal ≡ 0 → Accepts (entries t) 8 n s
-      read (accepted cut) f e = (cut, f)
-      read (refused number place) f e =
-          let h = refusal-positive (entries t) 8 n 0 0 s number place f in absurd (omega arith)
+      good : (v b : Bool) → cond (not v || b) (checks.refusal 2 0) (counts (entries t) n (reading (entries t) n s)) .refusal ≡ 0
+          → cond b (checks.refusal 2 0) (counts (entries t) n (reading (entries t) n s)) .refusal ≡ 0
+      good true b e = e
+      good false b e = absurd (omega arith)
 
-      bad : (b : Bool) → length s ≤ 65536 → cond b (checks.refusal 2 0) (counts (entries t) n (reading (entries t) n s)) .refusal ≡ 0
-          → (length s ≤ 65536) × Accepts (entries t) 8 n s
-      bad true h e = absurd (omega arith)
-      bad false h e = (h, read (reading (entries t) n s) refl e)
-
-      long : (b : Bool) → ltb (2 ^ 16) (length s) ≡ b
+      long : (b : Bool)
           → cond b (checks.refusal 1 0) (cond (not (valid t) || ltb 15 n) (checks.refusal 2 0) (counts (entries t) n (reading (entries t) n s))) .refusal ≡ 0
-          → (length s ≤ 65536) × Accepts (entries t) 8 n s
-      long true f e = absurd (omega arith)
-      long false f e = bad (not (valid t) || ltb 15 n) (ltb-false (2 ^ 16) (length s) f) e
+          → cond b (checks.refusal 1 0) (cond (ltb 15 n) (checks.refusal 2 0) (counts (entries t) n (reading (entries t) n s))) .refusal ≡ 0
+      long true e = e
+      long false e = good (valid t) (ltb 15 n) e
 
-  pub short-form : shortForm t n s ≡ short (entries t) 8 n s
-  unfolding shortForm short reading
-  short-form = refl
+  pub check-passed : check t n s .refusal ≡ 0 → (length s ≤ 65536) × Accepts (entries t) 8 n s
+  check-passed e = under-passed (entries t) n s (passed-under e)
 
-  module _ (out : List ℕ) where
-    -- What is promised of the answer r and of the buffer afterwards.
-    pub record Answered (r : Shortened) (after : List ℕ) : Type 0 where
-      pub answered : r ≡ answer t n s out
-      pub left : after ≡ buffer t n s out
+pub short-under : (es : List Entry) (n : ℕ) (s : List ℕ) → shortUnder es n s ≡ short es 8 n s
+unfolding shortUnder short reading
+short-under es n s = refl
 
-    -- The answer is a refusal, or the message was shortened.
-    kept : (r : Shortened) → answer t n s out ≡ r → (r .refusal ≡ 0 → ⊥) → Answered r out
-    unfolding buffer
-    kept r a ne = record { answered = sym a; left = rw (a, ne-eqb (r .refusal) 0 ne) }
+pub short-form : (t : Table) (n : ℕ) (s : List ℕ) → shortForm t n s ≡ short (entries t) 8 n s
+unfolding shortForm
+short-form t n s = short-under (entries t) n s
 
-    pub refused-first : (c : Checked) → c ≡ check t n s → (c .refusal ≡ 0 → ⊥) → Answered (record { refusal = c .refusal; place = c .place; length = 0 }) out
-    unfolding answer refusal
-    refused-first c e ne =
-        let f : eqb (check t n s .refusal) 0 ≡ false = ap (λ (x : Checked). eqb (x .refusal) 0) (sym e) ∙ ne-eqb (c .refusal) 0 ne in
-        let a : answer t n s out ≡ record { refusal = c .refusal; place = c .place; length = 0 } = rw (f, ← e) in
-        kept (record { refusal = c .refusal; place = c .place; length = 0 }) a ne
+-- What is promised of the answer r and of the buffer afterwards, by the check's answer c, the shortest octets and the buffer before.
+pub record Answered (c : Checked) (xs out : List ℕ) (r : Shortened) (after : List ℕ) : Type 0 where
+  pub answered : r ≡ answerTo c xs out
+  pub left : after ≡ bufferTo c xs out
 
-    module _ (e : check t n s .refusal ≡ 0) where
-      passed : eqb (check t n s .refusal) 0 ≡ true
-      passed = eq-eqb (check t n s .refusal) 0 e
+module _ (c : Checked) (xs out : List ℕ) where
+  -- The answer is a refusal, or the message was shortened.
+  kept : (r : Shortened) → answerTo c xs out ≡ r → (r .refusal ≡ 0 → ⊥) → Answered c xs out r out
+  unfolding bufferTo
+  kept r a ne = record { answered = sym a; left = rw (a, ne-eqb (r .refusal) 0 ne) }
 
-      pub no-room : length out < length (short (entries t) 8 n s) → Answered (record { refusal = 9; place = 0; length = 0 }) out
-      unfolding answer refusal roomy
-      no-room h =
-          let r : leb (length (shortForm t n s)) (length out) ≡ false = rw short-form (lt-leb (length (short (entries t) 8 n s)) (length out) h) in
-          let a : answer t n s out ≡ record { refusal = 9; place = 0; length = 0 } = rw (passed, r) in
-          kept (record { refusal = 9; place = 0; length = 0 }) a (λ z. omega arith)
+  pub refused-first : (d : Checked) → d ≡ c → (d .refusal ≡ 0 → ⊥) → Answered c xs out (record { refusal = d .refusal; place = d .place; length = 0 }) out
+  unfolding answerTo refusal
+  refused-first d e ne =
+      let f : eqb (c .refusal) 0 ≡ false = ap (λ (x : Checked). eqb (x .refusal) 0) (sym e) ∙ ne-eqb (d .refusal) 0 ne in
+      let a : answerTo c xs out ≡ record { refusal = d .refusal; place = d .place; length = 0 } = rw (f, ← e) in
+      kept (record { refusal = d .refusal; place = d .place; length = 0 }) a ne
 
-      pub shortened : (end : ℕ) (after : List ℕ) → length (short (entries t) 8 n s) ≤ length out → end ≡ 0 + length (short (entries t) 8 n s)
-          → after ≡ stored out 0 (short (entries t) 8 n s) → Answered (record { refusal = 0; place = 0; length = end }) after
-      unfolding answer buffer roomy
-      shortened end after h p b =
-          let r : leb (length (shortForm t n s)) (length out) ≡ true = rw short-form (le-leb (length (short (entries t) 8 n s)) (length out) h) in
-          let q : length (shortForm t n s) ≡ end = sym (p ∙ rw short-form (omega arith)) in
-          let a : answer t n s out ≡ record { refusal = 0; place = 0; length = end } = rw (passed, r, q) in
-          record {
-            answered = sym a;
-            left = b ∙ stored-fits out 0 (short (entries t) 8 n s) (omega arith) ∙ rw (a, short-form);
-          }
+  module _ (e : c .refusal ≡ 0) where
+    passed : eqb (c .refusal) 0 ≡ true
+    passed = eq-eqb (c .refusal) 0 e
+
+    pub no-room : length out < length xs → Answered c xs out (record { refusal = 9; place = 0; length = 0 }) out
+    unfolding answerTo refusal roomy
+    no-room h =
+        let a : answerTo c xs out ≡ record { refusal = 9; place = 0; length = 0 } = rw (passed, lt-leb (length xs) (length out) h) in
+        kept (record { refusal = 9; place = 0; length = 0 }) a (λ z. omega arith)
+
+    pub shortened : (end : ℕ) (after : List ℕ) → length xs ≤ length out → end ≡ 0 + length xs
+        → after ≡ stored out 0 xs → Answered c xs out (record { refusal = 0; place = 0; length = end }) after
+    unfolding answerTo bufferTo roomy
+    shortened end after h p b =
+        let q : length xs ≡ end = omega arith in
+        let a : answerTo c xs out ≡ record { refusal = 0; place = 0; length = end } = rw (passed, le-leb (length xs) (length out) h, q) in
+        record { answered = sym a; left = b ∙ stored-fits out 0 xs (omega arith) ∙ rw a }
+
+-- A table that the loader can give is shortened under as its entries are.
+module _ (t : Table) (n : ℕ) (s out : List ℕ) (h : length s ≤ 65536) (v : valid t ≡ true) where
+  pub answer-under : answerUnder (entries t) n s out ≡ answer t n s out
+  unfolding answerUnder answer shortForm
+  answer-under = ap (λ (c : Checked). answerTo c (shortUnder (entries t) n s) out) (under-valid t n s h v)
+
+  pub buffer-under : bufferUnder (entries t) n s out ≡ buffer t n s out
+  unfolding bufferUnder buffer shortForm
+  buffer-under = ap (λ (c : Checked). bufferTo c (shortUnder (entries t) n s) out) (under-valid t n s h v)

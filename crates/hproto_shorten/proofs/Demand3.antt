@@ -22,7 +22,6 @@ use Rattle.hproto_message.proofs.Accepted.{accepted-exactly, good-cut-unique}
 use Rattle.hproto_message.proofs.Shortened.{shortest-good, shortest-octets, shortest-no-longer, others-longer}
 use Rattle.hproto_check.specs.Check.{check, counts}
 use Rattle.hproto_check.proofs.Counts.{read-through}
-use Rattle.hproto_shorten.specs.Written.{shortestOf, short}
 use Rattle.hproto_shorten.specs.Shorten.{shortForm, answer, buffer}
 use Rattle.hproto_shorten.specs.Demand3.{HasCut, ReadTheSame, Demand3}
 use Rattle.hproto_shorten.proofs.Passing.{accepts-good, short-is}
@@ -78,20 +77,18 @@ module _ (t : Table) (n : ℕ) (v : valid t ≡ true) (k : n ≤ 15) where
     written : length (shortForm t n s) ≤ length out
         → (answer t n s out ≡ record { refusal = 0; place = 0; length = length (shortForm t n s) })
         × (buffer t n s out ≡ shortForm t n s ++ drop (length (shortForm t n s)) out)
+    unfolding answer buffer
     written room =
-        let xs = short (entries t) 8 n s in
-        let e = short-form t n s in
-        let l = ap length e in
-        let r = shortened t n s out passes (length xs) (stored out 0 xs) (omega arith) (omega arith) refl in
-        let z : 0 + length xs ≡ length xs = omega arith in (
-          sym (r .answered) ∙ rw e,
-          sym (r .left) ∙ stored-parts out 0 xs (omega arith) ∙ rw (z, e),
-        )
+        let xs = shortForm t n s in
+        let r = shortened (check t n s) xs out passes (length xs) (stored out 0 xs) room (omega arith) refl in
+        let z : 0 + length xs ≡ length xs = omega arith in
+        (sym (r .answered), sym (r .left) ∙ stored-parts out 0 xs (omega arith) ∙ rw z refl)
 
     unwritten : length out < length (shortForm t n s)
         → (answer t n s out ≡ record { refusal = 9; place = 0; length = 0 }) × (buffer t n s out ≡ out)
+    unfolding answer buffer
     unwritten room =
-        let r = no-room t n s out passes (rw (← short-form t n s) room) in
+        let r = no-room (check t n s) (shortForm t n s) out passes room in
         (sym (r .answered), sym (r .left))
 
 -- For all table octets that load, all message numbers up to 15, all messages up to the limit and all second buffers.

@@ -17,7 +17,7 @@ ghost use Rattle.hproto_message.specs.Cut.{Contents};
 ghost use Rattle.hproto_message.specs.Tree.{value};
 ghost use Rattle.hproto_message.specs.Shortest.{field, leastContents};
 ghost use lib.Dec.{leb};
-ghost use Rattle.hproto_shorten.specs.Shorten.{answer, buffer};
+ghost use Rattle.hproto_shorten.specs.Shorten.{answer, buffer, answerUnder, bufferUnder, refusal};
 ghost use Rattle.hproto_shorten.specs.Written.{short, Accepts, innerOf, Put};
 
 // The number of the message that a field holds, if it holds one.
@@ -249,32 +249,53 @@ fn has_room(words: &[u64], count: usize, number: u64, message: &[u8], len: usize
     measure(words, count, number, 8, message) <= len
 }
 
-// Writes the shortest octets that read the same as a message at the front of a second buffer and answers their length.
-pub fn shorten(t: Table, number: u64, message: &[u8], out: &mut [u8]) -> Shortened
-    ensures { λ r. ⌜ r ≡ answer t number (now (message .entry)) (now (out .entry)) ⌝ }
-    ensures { λ r. ⌜ now (out .exit) ≡ buffer t number (now (message .entry)) (now (out .entry)) ⌝ }
+fn refused(number: u64, place: u64) -> Shortened
+    ensures { λ r. ⌜ r ≡ refusal number place ⌝ }
 {
-    let c = hproto_check::check(t, number, message);
+    Shortened {
+        refusal: number,
+        place,
+        length: 0,
+    }
+}
+
+// Writes the shortest octets that read the same as a message at the front of a second buffer and answers their length, under the first
+// words of a table, whatever they are. A caller that has just loaded the table, or tested it, need not have it tested again.
+pub fn shorten_under(
+    words: &[u64],
+    count: usize,
+    number: u64,
+    message: &[u8],
+    out: &mut [u8],
+) -> Shortened
+    ensures { λ r. ⌜ r ≡ answerUnder (map entry (take count (now (words .entry)))) number (now (message .entry)) (now (out .entry)) ⌝ }
+    ensures { λ r. ⌜ now (out .exit) ≡ bufferUnder (map entry (take count (now (words .entry)))) number (now (message .entry)) (now (out .entry)) ⌝ }
+{
+    let c = hproto_check::check_under(words, count, number, message);
     if c.refusal != 0 {
-        return Shortened {
-            refusal: c.refusal,
-            place: c.place,
-            length: 0,
-        };
+        return refused(c.refusal, c.place);
     }
-    let words = t.words;
-    let count = t.count;
-    if !has_room(&words, count, number, message, out.len()) {
-        return Shortened {
-            refusal: 9,
-            place: 0,
-            length: 0,
-        };
+    if !has_room(words, count, number, message, out.len()) {
+        return refused(9, 0);
     }
-    let end = write(&words, count, number, 8, message, out, 0);
+    let end = write(words, count, number, 8, message, out, 0);
     Shortened {
         refusal: 0,
         place: 0,
         length: end as u64,
     }
+}
+
+// The shortener under a table. The refusals of the table come before all that is read under it.
+pub fn shorten(t: Table, number: u64, message: &[u8], out: &mut [u8]) -> Shortened
+    ensures { λ r. ⌜ r ≡ answer t number (now (message .entry)) (now (out .entry)) ⌝ }
+    ensures { λ r. ⌜ now (out .exit) ≡ buffer t number (now (message .entry)) (now (out .entry)) ⌝ }
+{
+    if 65536 < message.len() {
+        return refused(1, 0);
+    }
+    if !hproto_valid::valid(t) {
+        return refused(2, 0);
+    }
+    shorten_under(&t.words, t.count, number, message, out)
 }
