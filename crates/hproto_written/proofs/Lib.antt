@@ -1,0 +1,15 @@
+pub mod ReadsBack
+pub mod Tables
+pub mod Falling
+pub mod Fields
+pub mod Noted
+pub mod Buffer
+pub mod Reached
+pub mod Moves
+pub mod Decided
+pub mod Suits
+pub mod Accepted
+pub mod Refused
+pub mod Demand2
+pub mod Writing
+pub mod Unchanged

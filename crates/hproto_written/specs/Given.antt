@@ -1,0 +1,38 @@
+-- The fields that calls of the writer give.
+use Prim.Native.Nat.{ℕ, suc}
+use mathlib.Core.List.{List, _++_}
+use Rattle.hproto_table.specs.Entry.{Entry, find}
+use Rattle.hproto_message.specs.Tree.{Tree, nested, innerOf}
+use Rattle.hproto_message.specs.Shortest.{shortest}
+
+-- The fields given so far. `message w`: nothing is open, and w holds the fields of the outermost message. `opened tag w around`: a
+-- message field with this tag is open, w holds the fields given inside it, and `around` those given before it was opened. In each of
+-- these trees the field given last stands first.
+pub data Given : Type 0 where
+  message : Tree → Given
+  opened : ℕ → Tree → Given → Given
+
+-- A change of the fields of the innermost message.
+unfoldable pub onFields : (Tree → Tree) → Given → Given
+onFields f (message w) = message (f w)
+onFields f (opened tag w around) = opened tag (f w) around
+
+-- A closed field is one of the fields of the message around it.
+unfoldable pub closed : Given → Given
+closed (message w) = message w
+closed (opened tag w around) = onFields (nested tag w) around
+
+-- How many message fields are open.
+unfoldable pub openFields : Given → ℕ
+openFields (message w) = 0
+openFields (opened tag w around) = suc (openFields around)
+
+-- The number of the innermost message under a table, where the outermost message has this number.
+unfoldable pub innermost : List Entry → ℕ → Given → ℕ
+innermost es number (message w) = number
+innermost es number (opened tag w around) = innerOf (find es (innermost es number around) tag)
+
+-- The octets written for what is given so far. The control part of a field that is open is not written yet.
+unfoldable pub written : Given → List ℕ
+written (message w) = shortest w
+written (opened tag w around) = shortest w ++ written around

@@ -1,0 +1,5 @@
+pub mod Given
+pub mod Run
+pub mod Demand2
+pub mod Refusal
+pub mod Writable

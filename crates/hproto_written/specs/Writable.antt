@@ -1,0 +1,38 @@
+-- The trees that can be written. proofs/Writing.antt shows that each of them that is at most 8 deep, and for whose shortest form the
+-- lent buffer has room, is written by a run: none of its calls is refused.
+use Prim.Native.Nat.{ℕ, _^_, _<_}
+use mathlib.Core.Path.{_≡_}
+use mathlib.Core.Bool.{true}
+use mathlib.Core.List.{List}
+use lib.Signed.{mag}
+use Rattle.octets.specs.Text as octets
+use Rattle.hproto_table.specs.Entry.{Entry, find}
+use Rattle.hproto_table.specs.declared.Meaning.{Meaning}
+use Rattle.hproto_table.specs.declared.Meaning.the-variants.{Uint, Int, String, Text, Message}
+use Rattle.hproto_table.specs.declared.Table.{Table}
+use Rattle.hproto_message.specs.Tree.{Tree, end, leaf, nested, Value, raw, uint, int, string, text}
+use Rattle.hproto_writer.specs.Calls.{finished}
+use Rattle.hproto_writer.specs.declared.State.{State}
+use Rattle.hproto_written.specs.Given.{message}
+use Rattle.hproto_written.specs.Run.{Run}
+
+-- A value of the kind that its tag has. A tag that the table does not have has none.
+unfoldable pub OfKind : Meaning → Value → Type 0
+OfKind k (raw xs) = ⊥
+OfKind k (uint v) = (k ≡ Uint) × (v < 2 ^ 64)
+OfKind k (int z) = (k ≡ Int) × (mag z < 2 ^ 63)
+OfKind k (string xs) = k ≡ String
+OfKind k (text xs) = (k ≡ Text) × (octets.text xs ≡ true)
+
+-- Every field of a tree, at all depths, has a tag of the table and a value of its kind.
+unfoldable pub Writable : List Entry → ℕ → Tree → Type 0
+Writable es n end = Unit {0}
+Writable es n (leaf tag v rest) = OfKind (find es n tag) v × Writable es n rest
+Writable es n (nested tag inside rest) = ((m : ℕ) × (find es n tag ≡ Message m) × Writable es m inside) × Writable es n rest
+
+-- A run that gives just the fields of a tree, and that can be finished.
+pub record Writes (t : Table) (number : ℕ) (lent : List ℕ) (w : Tree) : Type 0 where
+  pub state : State
+  pub after : List ℕ
+  pub run : Run t number lent state after (message w)
+  pub finish : finished state .refusal ≡ 0
