@@ -24,7 +24,8 @@ fn value(bits: u64) -> f64
     }
 }
 
-fn with_bits(bits: u64, hint: u64, hinted: bool) -> Real
+// A real by its 64 bits and its hint.
+pub fn with_bits(bits: u64, hint: u64, hinted: bool) -> Real
     ensures { λ r. ⌜ r ≡ made bits hint hinted ⌝ }
 {
     Real {

@@ -1,0 +1,23 @@
+use borrow.Author.Needs.{needs}
+use mathlib.Core.Path.{sym}
+use mir.Syntax.{w64}
+use mir.ValLaws.{toZ-ofZ}
+use Rattle.concentrator.proofs.crudvim_lookup_last.Statement.{statement}
+use Rattle.concentrator.proofs.crudvim_lookup_last.Tie as tie
+use Rattle.concentrator.proofs.crudvim_lookup_last.Reads as reads
+use Rattle.concentrator.proofs.crudvim_lookup_last.Lts as lts
+use Rattle.hproto_calls.proofs.lookup_last.Reads as lookup-last-reads
+
+-- src/lib.rt:124:9
+lookup-last-requires : tie.Need-lookup-last-requires
+lookup-last-requires c κs = search needs
+
+-- src/lib.rt:109:1
+returns : tie.Need-returns
+returns c =
+    let f = c .before .lookup-last in
+    let z = toZ-ofZ w64 (f .result .signed) (record { sfits = c .struct-told .given .1 .1 .1 .1 .0 .1 }) in
+    sym (rw z (f .ensures))
+
+pub crudvim-lookup-last-spec : {M : Type 1} → statement M
+crudvim-lookup-last-spec = tie.close (tie.spec lookup-last-requires returns)

@@ -1,0 +1,244 @@
+// The C library. Each entry hands octets and numbers to the function that does the work, and spreads its answer over the places that the
+// caller lends: the number of the refusal is returned (0 where the call is accepted), all else goes through the parameters.
+// include/crudvim.h has the C prototypes.
+ghost use mathlib.Core.Path.{_≡_};
+ghost use lib.ListN.{length};
+ghost use Rattle.hproto_calls.specs.Calls.{checkOctets, shortenOctets, shortenBuffer, lookupOctets, lookupLastOctets};
+ghost use Rattle.hproto_frame.specs.Frame.{frameRead, frameWritten, frameStored};
+ghost use Rattle.tib_msg.specs.Answers.{check as tibmsg-check, field as tibmsg-field};
+ghost use Rattle.tib_rv.specs.Answers.{check as tibrv-check, field as tibrv-field};
+ghost use Rattle.tib_real.specs.FromOctets.{made};
+ghost use Rattle.tib_real.specs.InFractions.{fractionsOf};
+ghost use Rattle.concentrator.specs.Fields.{flag as flag-of, flagged, parts, hint as hint-of};
+
+#[no_mangle]
+pub extern "C" fn crudvim_check(
+    table: &[u8],
+    number: u64,
+    message: &[u8],
+    place: &mut u64,
+    fields: &mut u64,
+    depth: &mut u64,
+) -> u64
+    ensures { λ r. ⌜ checkOctets (now (table .entry)) number (now (message .entry)) ≡ record { refusal = r; place = now (place .exit); fields = now (fields .exit); depth = now (depth .exit) } ⌝ }
+{
+    let c = hproto_calls::check(table, number, message);
+    *place = c.place;
+    *fields = c.fields;
+    *depth = c.depth;
+    c.refusal
+}
+
+#[no_mangle]
+pub extern "C" fn crudvim_shorten(
+    table: &[u8],
+    number: u64,
+    message: &[u8],
+    out: &mut [u8],
+    place: &mut u64,
+    len: &mut u64,
+) -> u64
+    ensures { λ r. ⌜ shortenOctets (now (table .entry)) number (now (message .entry)) (now (out .entry)) ≡ record { refusal = r; place = now (place .exit); length = now (len .exit) } ⌝ }
+    ensures { λ _. ⌜ now (out .exit) ≡ shortenBuffer (now (table .entry)) number (now (message .entry)) (now (out .entry)) ⌝ }
+{
+    let s = hproto_calls::shorten(table, number, message, out);
+    *place = s.place;
+    *len = s.length;
+    s.refusal
+}
+
+#[no_mangle]
+pub extern "C" fn crudvim_frame_read(
+    buffer: &[u8],
+    place: &mut u64,
+    start: &mut u64,
+    end: &mut u64,
+) -> u64
+    ensures { λ r. ⌜ frameRead (now (buffer .entry)) ≡ record { refusal = r; place = now (place .exit); start = now (start .exit); end = now (end .exit) } ⌝ }
+{
+    let f = hproto_frame::frame_read(buffer);
+    *place = f.place;
+    *start = f.start;
+    *end = f.end;
+    f.refusal
+}
+
+#[no_mangle]
+pub extern "C" fn crudvim_frame_write(
+    message: &[u8],
+    out: &mut [u8],
+    place: &mut u64,
+    len: &mut u64,
+) -> u64
+    ensures { λ r. ⌜ frameWritten (now (message .entry)) (length (now (out .entry))) ≡ record { refusal = r; place = now (place .exit); length = now (len .exit) } ⌝ }
+    ensures { λ _. ⌜ now (out .exit) ≡ frameStored (now (message .entry)) (now (out .entry)) ⌝ }
+{
+    let f = hproto_frame::frame_write(message, out);
+    *place = f.place;
+    *len = f.length;
+    f.refusal
+}
+
+#[no_mangle]
+pub extern "C" fn crudvim_lookup(
+    table: &[u8],
+    number: u64,
+    message: &[u8],
+    tag: u64,
+    k: u64,
+    place: &mut u64,
+    kind: &mut u64,
+    value: &mut u64,
+    signed_value: &mut i64,
+    start: &mut u64,
+    len: &mut u64,
+) -> u64
+    ensures { λ r. ⌜ lookupOctets (now (table .entry)) number (now (message .entry)) tag k ≡ record { refusal = r; place = now (place .exit); kind = now (kind .exit); number = now (value .exit); signed = now («signed_value» .exit); start = now (start .exit); length = now (len .exit) } ⌝ }
+{
+    let f = hproto_calls::lookup(table, number, message, tag, k);
+    *place = f.place;
+    *kind = f.kind;
+    *value = f.number;
+    let signed = f.signed;
+    *signed_value = signed;
+    *start = f.start;
+    *len = f.length;
+    f.refusal
+}
+
+#[no_mangle]
+pub extern "C" fn crudvim_lookup_last(
+    table: &[u8],
+    number: u64,
+    message: &[u8],
+    tag: u64,
+    place: &mut u64,
+    kind: &mut u64,
+    value: &mut u64,
+    signed_value: &mut i64,
+    start: &mut u64,
+    len: &mut u64,
+) -> u64
+    ensures { λ r. ⌜ lookupLastOctets (now (table .entry)) number (now (message .entry)) tag ≡ record { refusal = r; place = now (place .exit); kind = now (kind .exit); number = now (value .exit); signed = now («signed_value» .exit); start = now (start .exit); length = now (len .exit) } ⌝ }
+{
+    let f = hproto_calls::lookup_last(table, number, message, tag);
+    *place = f.place;
+    *kind = f.kind;
+    *value = f.number;
+    let signed = f.signed;
+    *signed_value = signed;
+    *start = f.start;
+    *len = f.length;
+    f.refusal
+}
+
+#[no_mangle]
+pub extern "C" fn crudvim_tibmsg_check(
+    message: &[u8],
+    place: &mut u64,
+    fields: &mut u64,
+    depth: &mut u64,
+) -> u64
+    ensures { λ r. ⌜ tibmsg-check (now (message .entry)) ≡ record { refusal = r; place = now (place .exit); fields = now (fields .exit); depth = now (depth .exit) } ⌝ }
+{
+    let c = tib_msg::check(message);
+    *place = c.place;
+    *fields = c.fields;
+    *depth = c.depth;
+    c.refusal
+}
+
+fn flag(x: bool) -> u64
+    ensures { λ r. ⌜ r ≡ flag-of x ⌝ }
+{
+    if x { 1 } else { 0 }
+}
+
+#[no_mangle]
+pub extern "C" fn crudvim_tibmsg_field(
+    message: &[u8],
+    k: u64,
+    place: &mut u64,
+    name_start: &mut u64,
+    name_length: &mut u64,
+    kind: &mut u64,
+    data_start: &mut u64,
+    data_length: &mut u64,
+    hinted: &mut u64,
+    hint_kind: &mut u64,
+    hint: &mut u64,
+    real_bits: &mut u64,
+) -> u64
+    ensures { λ r. ⌜ parts (tibmsg-field (now (message .entry)) k) ≡ record { refusal = r; place = now (place .exit); name-start = now («name_start» .exit); name-length = now («name_length» .exit); kind = now (kind .exit); data-start = now («data_start» .exit); data-length = now («data_length» .exit) } ⌝ }
+    ensures { λ _. ⌜ hint-of (tibmsg-field (now (message .entry)) k) ≡ record { hinted = now (hinted .exit); kind = now («hint_kind» .exit); number = now (hint .exit); bits = now («real_bits» .exit) } ⌝ }
+{
+    let f = tib_msg::field(message, k);
+    *place = f.place;
+    *name_start = f.name_place;
+    *name_length = f.name_length;
+    *kind = f.kind;
+    *data_start = f.data_place;
+    *data_length = f.data_length;
+    *hinted = flag(f.hinted);
+    *hint_kind = f.hint_kind;
+    *hint = f.hint;
+    *real_bits = f.real.bits;
+    f.refusal
+}
+
+#[no_mangle]
+pub extern "C" fn crudvim_tibrv_check(
+    message: &[u8],
+    place: &mut u64,
+    fields: &mut u64,
+    depth: &mut u64,
+) -> u64
+    ensures { λ r. ⌜ tibrv-check (now (message .entry)) ≡ record { refusal = r; place = now (place .exit); fields = now (fields .exit); depth = now (depth .exit) } ⌝ }
+{
+    let c = tib_rv::check(message);
+    *place = c.place;
+    *fields = c.fields;
+    *depth = c.depth;
+    c.refusal
+}
+
+#[no_mangle]
+pub extern "C" fn crudvim_tibrv_field(
+    message: &[u8],
+    k: u64,
+    place: &mut u64,
+    name_start: &mut u64,
+    name_length: &mut u64,
+    kind: &mut u64,
+    data_start: &mut u64,
+    data_length: &mut u64,
+) -> u64
+    ensures { λ r. ⌜ parts (tibrv-field (now (message .entry)) k) ≡ record { refusal = r; place = now (place .exit); name-start = now («name_start» .exit); name-length = now («name_length» .exit); kind = now (kind .exit); data-start = now («data_start» .exit); data-length = now («data_length» .exit) } ⌝ }
+{
+    let f = tib_rv::field(message, k);
+    *place = f.place;
+    *name_start = f.name_place;
+    *name_length = f.name_length;
+    *kind = f.kind;
+    *data_start = f.data_place;
+    *data_length = f.data_length;
+    f.refusal
+}
+
+// The value of a real is that of its bits.
+#[no_mangle]
+pub extern "C" fn crudvim_fractions(
+    real_bits: u64,
+    hinted: u64,
+    hint: u64,
+    place: &mut u64,
+    whole: &mut i64,
+) -> u64
+    ensures { λ r. ⌜ fractionsOf (made «real_bits» hint (flagged hinted)) ≡ record { refusal = r; place = now (place .exit); value = now (whole .exit) } ⌝ }
+{
+    let f = tib_real::fractions(tib_real::with_bits(real_bits, hint, hinted != 0));
+    *place = f.place;
+    let value = f.value;
+    *whole = value;
+    f.refusal
+}

@@ -1,0 +1,102 @@
+// The calls that take a field table as its octets. A message that is too long is refused before the table is loaded, a faulty table
+// before the message number is looked at. A table that was just loaded is not tested again.
+use hproto_check::Checked;
+use hproto_lookup::Found;
+use hproto_shorten::Shortened;
+ghost use mathlib.Core.Path.{_≡_};
+ghost use Rattle.hproto_calls.specs.Calls.{checkOctets, shortenOctets, shortenBuffer, lookupOctets, lookupLastOctets};
+ghost use Rattle.hproto_check.specs.Check.{refusal as check-refusal};
+ghost use Rattle.hproto_shorten.specs.Shorten.{refusal as shorten-refusal};
+ghost use Rattle.hproto_lookup.specs.Lookup.{refusal as lookup-refusal};
+
+fn unchecked(number: u64, place: u64) -> Checked
+    ensures { λ r. ⌜ r ≡ check-refusal number place ⌝ }
+{
+    Checked {
+        refusal: number,
+        place,
+        fields: 0,
+        depth: 0,
+    }
+}
+
+// The check of a message.
+pub fn check(table: &[u8], number: u64, message: &[u8]) -> Checked
+    ensures { λ r. ⌜ r ≡ checkOctets (now (table .entry)) number (now (message .entry)) ⌝ }
+{
+    if 65536 < message.len() {
+        return unchecked(1, 0);
+    }
+    let l = hproto_load::load(table);
+    if l.refusal != 0 {
+        return unchecked(l.refusal, l.place);
+    }
+    hproto_check::check_under(&l.table.words, l.table.count, number, message)
+}
+
+fn unshortened(number: u64, place: u64) -> Shortened
+    ensures { λ r. ⌜ r ≡ shorten-refusal number place ⌝ }
+{
+    Shortened {
+        refusal: number,
+        place,
+        length: 0,
+    }
+}
+
+// The shortener.
+pub fn shorten(table: &[u8], number: u64, message: &[u8], out: &mut [u8]) -> Shortened
+    ensures { λ r. ⌜ r ≡ shortenOctets (now (table .entry)) number (now (message .entry)) (now (out .entry)) ⌝ }
+    ensures { λ r. ⌜ now (out .exit) ≡ shortenBuffer (now (table .entry)) number (now (message .entry)) (now (out .entry)) ⌝ }
+{
+    if 65536 < message.len() {
+        return unshortened(1, 0);
+    }
+    let l = hproto_load::load(table);
+    if l.refusal != 0 {
+        return unshortened(l.refusal, l.place);
+    }
+    hproto_shorten::shorten_under(&l.table.words, l.table.count, number, message, out)
+}
+
+fn unfound(number: u64, place: u64) -> Found
+    ensures { λ r. ⌜ r ≡ lookup-refusal number place ⌝ }
+{
+    Found {
+        refusal: number,
+        place,
+        kind: 0,
+        number: 0,
+        signed: 0,
+        start: 0,
+        length: 0,
+    }
+}
+
+// The k-th of the outermost fields with a tag.
+pub fn lookup(table: &[u8], number: u64, message: &[u8], tag: u64, k: u64) -> Found
+    ensures { λ r. ⌜ r ≡ lookupOctets (now (table .entry)) number (now (message .entry)) tag k ⌝ }
+{
+    if 65536 < message.len() {
+        return unfound(1, 0);
+    }
+    let l = hproto_load::load(table);
+    if l.refusal != 0 {
+        return unfound(l.refusal, l.place);
+    }
+    hproto_lookup::lookup(l.table, number, message, tag, k)
+}
+
+// The last of them.
+pub fn lookup_last(table: &[u8], number: u64, message: &[u8], tag: u64) -> Found
+    ensures { λ r. ⌜ r ≡ lookupLastOctets (now (table .entry)) number (now (message .entry)) tag ⌝ }
+{
+    if 65536 < message.len() {
+        return unfound(1, 0);
+    }
+    let l = hproto_load::load(table);
+    if l.refusal != 0 {
+        return unfound(l.refusal, l.place);
+    }
+    hproto_lookup::lookup_last(l.table, number, message, tag)
+}

@@ -1,0 +1,130 @@
+/* Crudvim: reading, shortening and framing of hproto messages; reading of TibMsg and TibrvMsg messages.
+ *
+ * Every entry takes every input. It returns 0 where the call is accepted, and else the number of the refusal. A refusal sets
+ * *place to where the fault is, sets every other result to 0, and leaves every octet of a buffer that it was lent. An accepted call
+ * sets *place to 0.
+ *
+ * Octets come as a pointer and a length. Where the length is 0 the pointer is not read and may be null. No other pointer may be
+ * null. The results and the buffer that a call writes may not overlap each other or the octets that it reads; two inputs that are
+ * only read may be the same.
+ *
+ * There is no heap and no state between calls, so threads may call at the same time. docs/C-LIBRARY.md says how much stack a call
+ * needs.
+ */
+#ifndef CRUDVIM_H
+#define CRUDVIM_H
+
+#include <stddef.h>
+#include <stdint.h>
+
+#ifdef __cplusplus
+extern "C" {
+#endif
+
+/* The refusal numbers. */
+#define CRUDVIM_ACCEPTED 0u
+#define CRUDVIM_TOO_LONG 1u
+#define CRUDVIM_TABLE 2u
+#define CRUDVIM_CUT 3u
+#define CRUDVIM_PAST_THE_END 4u
+#define CRUDVIM_TOO_DEEP 5u
+#define CRUDVIM_NUMBER_TOO_WIDE 6u
+#define CRUDVIM_TEXT 7u
+#define CRUDVIM_TAG_OR_KIND 8u
+#define CRUDVIM_NO_ROOM 9u
+#define CRUDVIM_STATE 10u
+#define CRUDVIM_NOTHING_OPEN 11u
+#define CRUDVIM_STILL_OPEN 12u
+#define CRUDVIM_MAGIC 13u
+#define CRUDVIM_SIZE 14u
+#define CRUDVIM_NAME 15u
+#define CRUDVIM_TYPE_SIZE_OR_HINT 16u
+#define CRUDVIM_NOT_IN_FRACTIONS 17u
+#define CRUDVIM_ABSENT 18u
+
+/* What a refusal number means, for people. */
+static inline const char *crudvim_refusal_text(uint64_t refusal)
+{
+    switch (refusal) {
+    case CRUDVIM_ACCEPTED: return "accepted";
+    case CRUDVIM_TOO_LONG: return "longer than the limit";
+    case CRUDVIM_TABLE: return "bad field table or message number";
+    case CRUDVIM_CUT: return "ends inside a control part, header, name, size or hint";
+    case CRUDVIM_PAST_THE_END: return "contents go past the end of the message around them";
+    case CRUDVIM_TOO_DEEP: return "nested more than 8 deep";
+    case CRUDVIM_NUMBER_TOO_WIDE: return "number of more than 8 octets";
+    case CRUDVIM_TEXT: return "malformed text";
+    case CRUDVIM_TAG_OR_KIND: return "tag not in the table at this level, or of another kind";
+    case CRUDVIM_NO_ROOM: return "no room for the octets to write";
+    case CRUDVIM_STATE: return "bad writer state or another buffer";
+    case CRUDVIM_NOTHING_OPEN: return "close with nothing open";
+    case CRUDVIM_STILL_OPEN: return "finish with a field still open";
+    case CRUDVIM_MAGIC: return "bad Tib magic number or version";
+    case CRUDVIM_SIZE: return "announced size is not the buffer's";
+    case CRUDVIM_NAME: return "malformed name";
+    case CRUDVIM_TYPE_SIZE_OR_HINT: return "bad type, size or hint";
+    case CRUDVIM_NOT_IN_FRACTIONS: return "real not readable in fractions";
+    case CRUDVIM_ABSENT: return "no such occurrence";
+    default: return "unknown refusal number";
+    }
+}
+
+/* Checks a message of a number from 0 to 15 under a field table. *fields is the count of its fields at all depths, *depth that of
+ * its deepest message (1 where nothing is nested). Refusals, in this order: 1 at 0; 2 at the faulty record of the table; 2 at 0 for
+ * a number over 15; then the first fault of the message. */
+uint64_t crudvim_check(const uint8_t *table, size_t table_len, uint64_t number, const uint8_t *message, size_t message_len,
+                       uint64_t *place, uint64_t *fields, uint64_t *depth);
+
+/* Writes the shortest message that reads the same at the front of out, sets *length to its length, and leaves the rest of out.
+ * Refusals: the check's, then 9 at 0. A buffer of message_len octets is always enough. */
+uint64_t crudvim_shorten(const uint8_t *table, size_t table_len, uint64_t number, const uint8_t *message, size_t message_len,
+                         uint8_t *out, size_t out_len, uint64_t *place, uint64_t *length);
+
+/* Reads the frame at the front of a buffer of at most 65545 octets. The message stands from *start to *end, and what follows the
+ * frame starts at *end. Octets beyond the frame are allowed. Refusals, all at 0: 1, 3, 1 for the announced size, 4. */
+uint64_t crudvim_frame_read(const uint8_t *buffer, size_t buffer_len, uint64_t *place, uint64_t *start, uint64_t *end);
+
+/* Writes a message in a frame with the shortest prefix at the front of out, sets *length to the frame's length, and leaves the rest
+ * of out. Refusals, all at 0: 1, 9. A buffer of message_len + 5 octets is always enough. */
+uint64_t crudvim_frame_write(const uint8_t *message, size_t message_len, uint8_t *out, size_t out_len, uint64_t *place,
+                             uint64_t *length);
+
+/* Finds the k-th, from 0, of the outermost fields with a tag, after the whole message is checked. *kind is 0 raw, 1 uint, 2 int,
+ * 3 string, 4 text, 5 message; *value is the number of a uint, *signed_value that of an int; the contents stand at *start and have
+ * *length octets. Refusals: the check's, then 18 at 0. */
+uint64_t crudvim_lookup(const uint8_t *table, size_t table_len, uint64_t number, const uint8_t *message, size_t message_len,
+                        uint64_t tag, uint64_t k, uint64_t *place, uint64_t *kind, uint64_t *value, int64_t *signed_value,
+                        uint64_t *start, uint64_t *length);
+
+/* The same for the last of the outermost fields with a tag. */
+uint64_t crudvim_lookup_last(const uint8_t *table, size_t table_len, uint64_t number, const uint8_t *message, size_t message_len,
+                             uint64_t tag, uint64_t *place, uint64_t *kind, uint64_t *value, int64_t *signed_value,
+                             uint64_t *start, uint64_t *length);
+
+/* Checks a TibMsg. *fields is the count of its fields; *depth is 1. Refusals: 1, 3, 13, 14, then the first fault of a field. */
+uint64_t crudvim_tibmsg_check(const uint8_t *message, size_t message_len, uint64_t *place, uint64_t *fields, uint64_t *depth);
+
+/* Reads the k-th field, from 0, of a TibMsg, after the whole message is checked. The name, with its closing zero, stands at
+ * *name_start (length 0: no name); the data stand at *data_start. *hinted is 1 where there is a hint, of type *hint_type and with
+ * the number *hint. *real_bits has the 64 bits of a real, one of four octets widened, and else 0. Refusals: the check's, then 18. */
+uint64_t crudvim_tibmsg_field(const uint8_t *message, size_t message_len, uint64_t k, uint64_t *place, uint64_t *name_start,
+                              uint64_t *name_length, uint64_t *type, uint64_t *data_start, uint64_t *data_length,
+                              uint64_t *hinted, uint64_t *hint_type, uint64_t *hint, uint64_t *real_bits);
+
+/* Checks a TibrvMsg. *fields counts the fields at all depths. */
+uint64_t crudvim_tibrv_check(const uint8_t *message, size_t message_len, uint64_t *place, uint64_t *fields, uint64_t *depth);
+
+/* Reads the k-th outermost field, from 0, of a TibrvMsg. There are no hints. The data of a field of type 1 are its message, from
+ * the size octets on, so that it can be read by these entries. */
+uint64_t crudvim_tibrv_field(const uint8_t *message, size_t message_len, uint64_t k, uint64_t *place, uint64_t *name_start,
+                             uint64_t *name_length, uint64_t *type, uint64_t *data_start, uint64_t *data_length);
+
+/* Reads a real, given by its 64 bits and its hint, in fractions: *whole is the real times 2 to the power of the hint. Refused with
+ * 17 at 0 where there is no hint (hinted is 0) or it is not from 1 to 8, or the product is not whole or not below 2^53 in size. */
+uint64_t crudvim_fractions(uint64_t real_bits, uint64_t hinted, uint64_t hint, uint64_t *place, int64_t *whole);
+
+#ifdef __cplusplus
+}
+#endif
+
+#endif
