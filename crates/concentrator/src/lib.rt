@@ -22,11 +22,11 @@ pub extern "C" fn crudvim_check(
 ) -> u64
     ensures { λ r. ⌜ checkOctets (now (table .entry)) number (now (message .entry)) ≡ record { refusal = r; place = now (place .exit); fields = now (fields .exit); depth = now (depth .exit) } ⌝ }
 {
-    let c = hproto_calls::check(table, number, message);
-    *place = c.place;
-    *fields = c.fields;
-    *depth = c.depth;
-    c.refusal
+    let checked = hproto_calls::check(table, number, message);
+    *place = checked.place;
+    *fields = checked.fields;
+    *depth = checked.depth;
+    checked.refusal
 }
 
 #[no_mangle]
@@ -41,10 +41,10 @@ pub extern "C" fn crudvim_shorten(
     ensures { λ r. ⌜ shortenOctets (now (table .entry)) number (now (message .entry)) (now (out .entry)) ≡ record { refusal = r; place = now (place .exit); length = now (len .exit) } ⌝ }
     ensures { λ _. ⌜ now (out .exit) ≡ shortenBuffer (now (table .entry)) number (now (message .entry)) (now (out .entry)) ⌝ }
 {
-    let s = hproto_calls::shorten(table, number, message, out);
-    *place = s.place;
-    *len = s.length;
-    s.refusal
+    let shortened = hproto_calls::shorten(table, number, message, out);
+    *place = shortened.place;
+    *len = shortened.length;
+    shortened.refusal
 }
 
 #[no_mangle]
@@ -56,11 +56,11 @@ pub extern "C" fn crudvim_frame_read(
 ) -> u64
     ensures { λ r. ⌜ frameRead (now (buffer .entry)) ≡ record { refusal = r; place = now (place .exit); start = now (start .exit); end = now (end .exit) } ⌝ }
 {
-    let f = hproto_frame::frame_read(buffer);
-    *place = f.place;
-    *start = f.start;
-    *end = f.end;
-    f.refusal
+    let read = hproto_frame::frame_read(buffer);
+    *place = read.place;
+    *start = read.start;
+    *end = read.end;
+    read.refusal
 }
 
 #[no_mangle]
@@ -73,10 +73,10 @@ pub extern "C" fn crudvim_frame_write(
     ensures { λ r. ⌜ frameWritten (now (message .entry)) (length (now (out .entry))) ≡ record { refusal = r; place = now (place .exit); length = now (len .exit) } ⌝ }
     ensures { λ _. ⌜ now (out .exit) ≡ frameStored (now (message .entry)) (now (out .entry)) ⌝ }
 {
-    let f = hproto_frame::frame_write(message, out);
-    *place = f.place;
-    *len = f.length;
-    f.refusal
+    let written = hproto_frame::frame_write(message, out);
+    *place = written.place;
+    *len = written.length;
+    written.refusal
 }
 
 #[no_mangle]
@@ -95,15 +95,15 @@ pub extern "C" fn crudvim_lookup(
 ) -> u64
     ensures { λ r. ⌜ lookupOctets (now (table .entry)) number (now (message .entry)) tag k ≡ record { refusal = r; place = now (place .exit); kind = now (kind .exit); number = now (value .exit); signed = now («signed_value» .exit); start = now (start .exit); length = now (len .exit) } ⌝ }
 {
-    let f = hproto_calls::lookup(table, number, message, tag, k);
-    *place = f.place;
-    *kind = f.kind;
-    *value = f.number;
-    let signed = f.signed;
+    let found = hproto_calls::lookup(table, number, message, tag, k);
+    *place = found.place;
+    *kind = found.kind;
+    *value = found.number;
+    let signed = found.signed;
     *signed_value = signed;
-    *start = f.start;
-    *len = f.length;
-    f.refusal
+    *start = found.start;
+    *len = found.length;
+    found.refusal
 }
 
 #[no_mangle]
@@ -121,15 +121,15 @@ pub extern "C" fn crudvim_lookup_last(
 ) -> u64
     ensures { λ r. ⌜ lookupLastOctets (now (table .entry)) number (now (message .entry)) tag ≡ record { refusal = r; place = now (place .exit); kind = now (kind .exit); number = now (value .exit); signed = now («signed_value» .exit); start = now (start .exit); length = now (len .exit) } ⌝ }
 {
-    let f = hproto_calls::lookup_last(table, number, message, tag);
-    *place = f.place;
-    *kind = f.kind;
-    *value = f.number;
-    let signed = f.signed;
+    let last = hproto_calls::lookup_last(table, number, message, tag);
+    *place = last.place;
+    *kind = last.kind;
+    *value = last.number;
+    let signed = last.signed;
     *signed_value = signed;
-    *start = f.start;
-    *len = f.length;
-    f.refusal
+    *start = last.start;
+    *len = last.length;
+    last.refusal
 }
 
 #[no_mangle]
@@ -141,11 +141,11 @@ pub extern "C" fn crudvim_tibmsg_check(
 ) -> u64
     ensures { λ r. ⌜ tibmsg-check (now (message .entry)) ≡ record { refusal = r; place = now (place .exit); fields = now (fields .exit); depth = now (depth .exit) } ⌝ }
 {
-    let c = tib_msg::check(message);
-    *place = c.place;
-    *fields = c.fields;
-    *depth = c.depth;
-    c.refusal
+    let msg = tib_msg::check(message);
+    *place = msg.place;
+    *fields = msg.fields;
+    *depth = msg.depth;
+    msg.refusal
 }
 
 fn flag(x: bool) -> u64
@@ -172,18 +172,18 @@ pub extern "C" fn crudvim_tibmsg_field(
     ensures { λ r. ⌜ parts (tibmsg-field (now (message .entry)) k) ≡ record { refusal = r; place = now (place .exit); name-start = now («name_start» .exit); name-length = now («name_length» .exit); kind = now (kind .exit); data-start = now («data_start» .exit); data-length = now («data_length» .exit) } ⌝ }
     ensures { λ _. ⌜ hint-of (tibmsg-field (now (message .entry)) k) ≡ record { hinted = now (hinted .exit); kind = now («hint_kind» .exit); number = now (hint .exit); bits = now («real_bits» .exit) } ⌝ }
 {
-    let f = tib_msg::field(message, k);
-    *place = f.place;
-    *name_start = f.name_place;
-    *name_length = f.name_length;
-    *kind = f.kind;
-    *data_start = f.data_place;
-    *data_length = f.data_length;
-    *hinted = flag(f.hinted);
-    *hint_kind = f.hint_kind;
-    *hint = f.hint;
-    *real_bits = f.real.bits;
-    f.refusal
+    let field = tib_msg::field(message, k);
+    *place = field.place;
+    *name_start = field.name_place;
+    *name_length = field.name_length;
+    *kind = field.kind;
+    *data_start = field.data_place;
+    *data_length = field.data_length;
+    *hinted = flag(field.hinted);
+    *hint_kind = field.hint_kind;
+    *hint = field.hint;
+    *real_bits = field.real.bits;
+    field.refusal
 }
 
 #[no_mangle]
@@ -195,11 +195,11 @@ pub extern "C" fn crudvim_tibrv_check(
 ) -> u64
     ensures { λ r. ⌜ tibrv-check (now (message .entry)) ≡ record { refusal = r; place = now (place .exit); fields = now (fields .exit); depth = now (depth .exit) } ⌝ }
 {
-    let c = tib_rv::check(message);
-    *place = c.place;
-    *fields = c.fields;
-    *depth = c.depth;
-    c.refusal
+    let rv = tib_rv::check(message);
+    *place = rv.place;
+    *fields = rv.fields;
+    *depth = rv.depth;
+    rv.refusal
 }
 
 #[no_mangle]
@@ -215,14 +215,14 @@ pub extern "C" fn crudvim_tibrv_field(
 ) -> u64
     ensures { λ r. ⌜ parts (tibrv-field (now (message .entry)) k) ≡ record { refusal = r; place = now (place .exit); name-start = now («name_start» .exit); name-length = now («name_length» .exit); kind = now (kind .exit); data-start = now («data_start» .exit); data-length = now («data_length» .exit) } ⌝ }
 {
-    let f = tib_rv::field(message, k);
-    *place = f.place;
-    *name_start = f.name_place;
-    *name_length = f.name_length;
-    *kind = f.kind;
-    *data_start = f.data_place;
-    *data_length = f.data_length;
-    f.refusal
+    let outer = tib_rv::field(message, k);
+    *place = outer.place;
+    *name_start = outer.name_place;
+    *name_length = outer.name_length;
+    *kind = outer.kind;
+    *data_start = outer.data_place;
+    *data_length = outer.data_length;
+    outer.refusal
 }
 
 // The value of a real is that of its bits.
@@ -236,9 +236,9 @@ pub extern "C" fn crudvim_fractions(
 ) -> u64
     ensures { λ r. ⌜ fractionsOf (made «real_bits» hint (flagged hinted)) ≡ record { refusal = r; place = now (place .exit); value = now (whole .exit) } ⌝ }
 {
-    let f = tib_real::fractions(tib_real::with_bits(real_bits, hint, hinted != 0));
-    *place = f.place;
-    let value = f.value;
+    let fractions = tib_real::fractions(tib_real::with_bits(real_bits, hint, hinted != 0));
+    *place = fractions.place;
+    let value = fractions.value;
     *whole = value;
-    f.refusal
+    fractions.refusal
 }

@@ -1,0 +1,37 @@
+/* Calls every entry that takes octets with null pointers and length 0, and looks at every answer. */
+#include "crudvim.h"
+
+#include <stdio.h>
+
+static int failed;
+
+static void expect(const char *what, uint64_t got, uint64_t wanted)
+{
+    if (got != wanted) {
+        printf("%s: %llu, not %llu\n", what, (unsigned long long)got, (unsigned long long)wanted);
+        failed = 1;
+    }
+}
+
+int main(void)
+{
+    uint64_t a = 99, b = 99, c = 99, d = 99, e = 99, f = 99, g = 99, h = 99, i = 99, j = 99;
+    int64_t s = 99;
+    expect("check", crudvim_check(NULL, 0, 0, NULL, 0, &a, &b, &c), CRUDVIM_ACCEPTED);
+    expect("check fields", b, 0);
+    expect("check depth", c, 1);
+    expect("shorten", crudvim_shorten(NULL, 0, 0, NULL, 0, NULL, 0, &a, &b), CRUDVIM_ACCEPTED);
+    expect("shorten length", b, 0);
+    expect("shorten into nothing", crudvim_shorten(NULL, 0, 0, (const uint8_t *)"\xc0", 1, NULL, 0, &a, &b), CRUDVIM_NO_ROOM);
+    expect("frame read", crudvim_frame_read(NULL, 0, &a, &b, &c), CRUDVIM_CUT);
+    expect("frame write", crudvim_frame_write(NULL, 0, NULL, 0, &a, &b), CRUDVIM_NO_ROOM);
+    expect("lookup", crudvim_lookup(NULL, 0, 0, NULL, 0, 1, 0, &a, &b, &c, &s, &d, &e), CRUDVIM_ABSENT);
+    expect("lookup last", crudvim_lookup_last(NULL, 0, 0, NULL, 0, 1, &a, &b, &c, &s, &d, &e), CRUDVIM_ABSENT);
+    expect("lookup value", (uint64_t)s, 0);
+    expect("tibmsg check", crudvim_tibmsg_check(NULL, 0, &a, &b, &c), CRUDVIM_CUT);
+    expect("tibmsg field", crudvim_tibmsg_field(NULL, 0, 0, &a, &b, &c, &d, &e, &f, &g, &h, &i, &j), CRUDVIM_CUT);
+    expect("tibmsg field bits", j, 0);
+    expect("tibrv check", crudvim_tibrv_check(NULL, 0, &a, &b, &c), CRUDVIM_CUT);
+    expect("tibrv field", crudvim_tibrv_field(NULL, 0, 0, &a, &b, &c, &d, &e, &f), CRUDVIM_CUT);
+    return failed;
+}

@@ -1,0 +1,29 @@
+#!/usr/bin/env bash
+# Builds the C example with every warning an error, installs the library into a scratch folder and builds against that, and runs the
+# example on a stored stream with damaged frames. It needs target/staticlib/libconcentrator.a, which `rt staticlib concentrator` makes.
+set -eu
+cd "$(dirname "$0")/../.."
+here=tests/concentrator
+work=$(mktemp -d)
+trap 'rm -rf "$work"' EXIT
+
+tools/install.sh "$work/usr" > /dev/null
+gcc -std=c99 -Wall -Wextra -Werror -pedantic -O2 -I"$work/usr/include" examples/concentrator.c -L"$work/usr/lib" -lcrudvim -o "$work/concentrator"
+g++ -Wall -Wextra -Werror -pedantic -fsyntax-only -x c++ include/crudvim.h
+
+python3 $here/unhex.py < $here/table.hex > "$work/table"
+python3 $here/unhex.py < $here/stream.hex > "$work/stream"
+python3 $here/unhex.py < $here/expected.hex > "$work/expected"
+
+"$work/concentrator" "$work/table" < "$work/stream" > "$work/output" 2> "$work/report"
+cmp "$work/expected" "$work/output"
+diff $here/expected.txt "$work/report"
+
+# Null pointers with length 0, for every entry that takes octets, under valgrind.
+gcc -std=c99 -Wall -Wextra -Werror -pedantic -O0 -g -I"$work/usr/include" $here/nothing.c -L"$work/usr/lib" -lcrudvim -o "$work/nothing"
+valgrind -q --error-exitcode=1 "$work/nothing"
+
+# The stack that each entry takes.
+gcc -std=gnu99 -Wall -Wextra -Werror -O2 -pthread -I"$work/usr/include" $here/stack.c -L"$work/usr/lib" -lcrudvim -o "$work/stack"
+"$work/stack" 6144
+echo "concentrator: the example and calls with nothing gave what was expected"

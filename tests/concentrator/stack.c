@@ -1,0 +1,126 @@
+/* Measures the stack that the entries take: each call runs on a stack of its own, filled with one octet, and what lies between the
+ * caller's frame and the lowest octet that changed is its share, 256 octets at least. The messages go eight deep, where the entries that
+ * call themselves take the most. Fails where an entry takes more than the limit that is given. */
+#define _GNU_SOURCE
+#include "crudvim.h"
+
+#include <pthread.h>
+#include <stdio.h>
+#include <stdlib.h>
+#include <string.h>
+
+enum { STACK = 1 << 18, FILL = 0xa5, MARGIN = 256 };
+
+static uint8_t nest[65536], shorter[65536], tib[65536];
+static uint64_t a, b, c, d, e, f, g, h, i, j;
+static int64_t s;
+
+/* Tag 1 of message 0 is message 0, tag 2 an int, tag 3 text. */
+static const uint8_t table[] = {1, 0, 5, 0, 0, 1, 5, 0, 1, 0, 5, 0, 0, 2, 2, 0, 1, 0, 5, 0, 0, 3, 4, 0};
+static size_t nest_length, tib_length;
+
+static void *check(void *x) { crudvim_check(table, sizeof table, 0, nest, nest_length, &a, &b, &c); return x; }
+static void *shorten(void *x) { crudvim_shorten(table, sizeof table, 0, nest, nest_length, shorter, nest_length / 2, &a, &b); return x; }
+static void *shorten_all(void *x) { crudvim_shorten(table, sizeof table, 0, nest, nest_length, shorter, nest_length, &a, &b); return x; }
+static void *frame_read(void *x) { crudvim_frame_read((const uint8_t *)"\xff\0\0\0\0\0\0\0\0", 9, &a, &b, &c); return x; }
+static void *frame_write(void *x) { crudvim_frame_write(nest, nest_length, shorter, sizeof shorter, &a, &b); return x; }
+static void *lookup(void *x) { crudvim_lookup(table, sizeof table, 0, nest, nest_length, 1, 0, &a, &b, &c, &s, &d, &e); return x; }
+static void *lookup_last(void *x) { crudvim_lookup_last(table, sizeof table, 0, nest, nest_length, 1, &a, &b, &c, &s, &d, &e); return x; }
+static void *tibrv_check(void *x) { crudvim_tibrv_check(tib, tib_length, &a, &b, &c); return x; }
+static void *tibrv_field(void *x) { crudvim_tibrv_field(tib, tib_length, 0, &a, &b, &c, &d, &e, &f); return x; }
+static const uint8_t msg[] = {0xce, 0x13, 0xaa, 0x1f, 1, 0, 0, 0, 13, 0, 0x47, 8, 0x40, 10, 0, 0, 0, 0, 0, 0, 6, 1};
+static void *tibmsg_check(void *x) { crudvim_tibmsg_check(msg, sizeof msg, &a, &b, &c); return x; }
+static void *tibmsg_field(void *x) { crudvim_tibmsg_field(msg, sizeof msg, 0, &a, &b, &c, &d, &e, &f, &g, &h, &i, &j); return x; }
+static void *fractions(void *x) { crudvim_fractions(0x400a000000000000, 1, 2, &a, &s); return x; }
+
+static uint8_t *stack;
+
+/* The stack below this function's own frame is filled, but for a margin that the filling itself needs. */
+static void *measured(void *x)
+{
+    void *(*call)(void *) = *(void *(**)(void *))x;
+    uint8_t *top = __builtin_frame_address(0);
+    size_t n = 0, below = (size_t)(top - stack) - MARGIN;
+    memset(stack, FILL, below);
+    call(NULL);
+    while (n < below && stack[n] == FILL)
+        n++;
+    *(size_t *)((char *)x + sizeof call) = (size_t)(top - stack) - n;
+    return NULL;
+}
+
+static size_t taken(void *(*call)(void *))
+{
+    struct { void *(*call)(void *); size_t octets; } job = {call, 0};
+    pthread_attr_t attributes;
+    pthread_t thread;
+    stack = aligned_alloc(4096, STACK);
+    pthread_attr_init(&attributes);
+    if (stack == NULL || pthread_attr_setstack(&attributes, stack, STACK) != 0
+        || pthread_create(&thread, &attributes, measured, &job) != 0)
+        exit(2);
+    pthread_join(thread, NULL);
+    free(stack);
+    return job.octets;
+}
+
+/* Eight levels, each a field with the tag 1 in the widest form around the last, with an int and a text inside. */
+static void fill_nest(void)
+{
+    size_t at = sizeof nest, level;
+    for (level = 0; level < 7; level++) {
+        static const uint8_t inside[] = {0xe8, 2, 0, 0, 0, 0, 0, 0, 0, 5, 0x33, 'k', 'W', 'h'};
+        size_t length;
+        at -= sizeof inside;
+        memcpy(nest + at, inside, sizeof inside);
+        length = sizeof nest - at;
+        at -= 9;
+        nest[at] = 0x1f;
+        for (size_t k = 0; k < 8; k++)
+            nest[at + 1 + k] = (uint8_t)(k < 6 ? 0 : length >> (8 * (7 - k)));
+    }
+    nest_length = sizeof nest - at;
+    memmove(nest, nest + at, nest_length);
+}
+
+/* Eight levels of TibrvMsg: a header and one field of type 1. */
+static void fill_tib(void)
+{
+    size_t at = sizeof tib, level;
+    for (level = 0; level < 8; level++) {
+        size_t length;
+        if (level > 0) {
+            at -= 3;
+            memcpy(tib + at, "\0\1\x7a", 3);
+        }
+        at -= 8;
+        length = sizeof tib - at;
+        memcpy(tib + at + 4, "\x99\x55\xee\xaa", 4);
+        for (size_t k = 0; k < 4; k++)
+            tib[at + k] = (uint8_t)(length >> (8 * (3 - k)));
+    }
+    tib_length = sizeof tib - at;
+    memmove(tib, tib + at, tib_length);
+}
+
+int main(int argc, char **argv)
+{
+    static const struct { const char *name; void *(*call)(void *); } entries[] = {
+        {"crudvim_check", check}, {"crudvim_shorten", shorten_all}, {"crudvim_shorten, measured first", shorten},
+        {"crudvim_frame_read", frame_read}, {"crudvim_frame_write", frame_write}, {"crudvim_lookup", lookup},
+        {"crudvim_lookup_last", lookup_last}, {"crudvim_tibmsg_check", tibmsg_check}, {"crudvim_tibmsg_field", tibmsg_field},
+        {"crudvim_tibrv_check", tibrv_check}, {"crudvim_tibrv_field", tibrv_field}, {"crudvim_fractions", fractions}};
+    size_t limit = argc > 1 ? strtoul(argv[1], NULL, 10) : STACK, most = 0;
+    fill_nest();
+    fill_tib();
+    if (crudvim_check(table, sizeof table, 0, nest, nest_length, &a, &b, &c) != 0 || c != 8)
+        return printf("the nested message is not eight deep\n"), 2;
+    if (crudvim_tibrv_check(tib, tib_length, &a, &b, &c) != 0 || c != 8)
+        return printf("the TibrvMsg is not eight deep\n"), 2;
+    for (size_t k = 0; k < sizeof entries / sizeof entries[0]; k++) {
+        size_t n = taken(entries[k].call);
+        printf("%-34s %5zu octets\n", entries[k].name, n);
+        most = n > most ? n : most;
+    }
+    return most > limit ? printf("more than %zu octets\n", limit), 1 : 0;
+}
