@@ -1,0 +1,224 @@
+//! One call of one entry, and what the oracle says that it answers.
+
+use crate::oracle::lookup::Found;
+use crate::oracle::{frame, lookup, message, real, shorten, show, tibmsg, tibrv, Refusal};
+use std::fmt::Write;
+use std::rc::Rc;
+
+pub type Octets = Rc<[u8]>;
+
+/// The inputs that the hproto entries share.
+#[derive(Clone, Debug)]
+pub struct Hproto {
+    pub table: Octets,
+    pub number: u64,
+    pub message: Octets,
+}
+
+#[derive(Clone, Debug)]
+pub enum Call {
+    Check(Hproto),
+    Shorten { on: Hproto, room: usize },
+    Lookup { on: Hproto, tag: u64, k: u64 },
+    LookupLast { on: Hproto, tag: u64 },
+    FrameRead { buffer: Octets },
+    FrameWrite { message: Octets, room: usize },
+    TibmsgCheck { message: Octets },
+    TibmsgField { message: Octets, k: u64 },
+    TibrvCheck { message: Octets },
+    TibrvField { message: Octets, k: u64 },
+    Fractions { bits: u64, hinted: u64, hint: u64 },
+    Show { input: Octets },
+}
+
+/// The entries in the order of their numbers in the counts and in a fuzzer's inputs.
+pub const ENTRIES: [&str; 12] = [
+    "check",
+    "shorten",
+    "lookup",
+    "lookup_last",
+    "frame_read",
+    "frame_write",
+    "tibmsg_check",
+    "tibmsg_field",
+    "tibrv_check",
+    "tibrv_field",
+    "fractions",
+    "show",
+];
+
+/// All that a call leaves behind. `results` are the results after the place in the header's order, an int64 as its bits. `out` is
+/// the whole of the lent buffer, or the text of `show`.
+#[derive(Clone, Debug, PartialEq, Eq)]
+pub struct Outcome {
+    pub refusal: u64,
+    pub place: u64,
+    pub results: Vec<u64>,
+    pub out: Vec<u8>,
+}
+
+impl Call {
+    pub fn entry(&self) -> usize {
+        match self {
+            Call::Check(_) => 0,
+            Call::Shorten { .. } => 1,
+            Call::Lookup { .. } => 2,
+            Call::LookupLast { .. } => 3,
+            Call::FrameRead { .. } => 4,
+            Call::FrameWrite { .. } => 5,
+            Call::TibmsgCheck { .. } => 6,
+            Call::TibmsgField { .. } => 7,
+            Call::TibrvCheck { .. } => 8,
+            Call::TibrvField { .. } => 9,
+            Call::Fractions { .. } => 10,
+            Call::Show { .. } => 11,
+        }
+    }
+
+    /// How many octets the call is lent to write into.
+    pub fn room(&self) -> usize {
+        match self {
+            Call::Shorten { room, .. } | Call::FrameWrite { room, .. } => *room,
+            _ => 0,
+        }
+    }
+
+    /// How many results the entry has after the place.
+    pub fn result_count(&self) -> usize {
+        match self {
+            Call::Check(_) | Call::FrameRead { .. } => 2,
+            Call::TibmsgCheck { .. } | Call::TibrvCheck { .. } => 2,
+            Call::Shorten { .. } | Call::FrameWrite { .. } | Call::Fractions { .. } => 1,
+            Call::Lookup { .. } | Call::LookupLast { .. } | Call::TibrvField { .. } => 5,
+            Call::TibmsgField { .. } => 9,
+            Call::Show { .. } => 0,
+        }
+    }
+
+    /// What the oracle says, where the lent buffer had the octets `before`.
+    pub fn expected(&self, before: &[u8]) -> Outcome {
+        let mut out = before.to_vec();
+        let results = match self {
+            Call::Show { input } => {
+                out = show::text(input);
+                Ok(Vec::new())
+            }
+            Call::Shorten { on, room } => {
+                shorten::shorten(&on.table, on.number, &on.message, *room).map(|octets| put_in_front(&mut out, &octets))
+            }
+            Call::FrameWrite { message, room } => frame::write(message, *room).map(|octets| put_in_front(&mut out, &octets)),
+            _ => self.results(),
+        };
+        match results {
+            Ok(results) => Outcome { refusal: 0, place: 0, results, out },
+            Err(refusal) => Outcome { refusal: refusal.number, place: refusal.place, results: vec![0; self.result_count()], out },
+        }
+    }
+
+    /// The results of the entries that are lent no buffer.
+    fn results(&self) -> Result<Vec<u64>, Refusal> {
+        match self {
+            Call::Check(on) => message::check(&on.table, on.number, &on.message).map(pair),
+            Call::Lookup { on, tag, k } => lookup::kth(&on.table, on.number, &on.message, *tag, *k).map(found),
+            Call::LookupLast { on, tag } => lookup::last(&on.table, on.number, &on.message, *tag).map(found),
+            Call::FrameRead { buffer } => frame::read(buffer).map(|(start, end)| vec![start as u64, end as u64]),
+            Call::TibmsgCheck { message } => tibmsg::check(message).map(pair),
+            Call::TibmsgField { message, k } => tibmsg::kth(message, *k).map(tibmsg_field),
+            Call::TibrvCheck { message } => tibrv::check(message).map(pair),
+            Call::TibrvField { message, k } => tibrv::kth(message, *k).map(tibrv_field),
+            Call::Fractions { bits, hinted, hint } => real::fractions(*bits, *hinted, *hint).map(|whole| vec![whole as u64]),
+            Call::Shorten { .. } | Call::FrameWrite { .. } | Call::Show { .. } => {
+                unreachable!("these have octets to write")
+            }
+        }
+    }
+
+    /// The inputs, for a report.
+    pub fn describe(&self) -> String {
+        let mut text = format!("entry {}\n", ENTRIES[self.entry()]);
+        for (name, number) in self.numbers() {
+            writeln!(text, "  {name} {number} (hex {number:x})").expect("a string takes it");
+        }
+        for (name, octets) in self.inputs() {
+            let count = octets.len();
+            writeln!(text, "  {name} ({count} octets) {}", hex(octets)).expect("a string takes it");
+        }
+        text
+    }
+
+    fn numbers(&self) -> Vec<(&'static str, u64)> {
+        match self {
+            Call::Check(on) => vec![("number", on.number)],
+            Call::Shorten { on, room } => vec![("number", on.number), ("out_len", *room as u64)],
+            Call::Lookup { on, tag, k } => vec![("number", on.number), ("tag", *tag), ("k", *k)],
+            Call::LookupLast { on, tag } => vec![("number", on.number), ("tag", *tag)],
+            Call::FrameWrite { room, .. } => vec![("out_len", *room as u64)],
+            Call::TibmsgField { k, .. } | Call::TibrvField { k, .. } => vec![("k", *k)],
+            Call::Fractions { bits, hinted, hint } => {
+                vec![("real_bits", *bits), ("hinted", *hinted), ("hint", *hint)]
+            }
+            _ => vec![],
+        }
+    }
+
+    fn inputs(&self) -> Vec<(&'static str, &Octets)> {
+        match self {
+            Call::Check(on) | Call::Shorten { on, .. } | Call::Lookup { on, .. } | Call::LookupLast { on, .. } => {
+                vec![("table", &on.table), ("message", &on.message)]
+            }
+            Call::FrameRead { buffer } => vec![("buffer", buffer)],
+            Call::FrameWrite { message, .. }
+            | Call::TibmsgCheck { message }
+            | Call::TibmsgField { message, .. }
+            | Call::TibrvCheck { message }
+            | Call::TibrvField { message, .. } => vec![("message", message)],
+            Call::Show { input } => vec![("input", input)],
+            Call::Fractions { .. } => vec![],
+        }
+    }
+}
+
+pub fn hex(octets: &[u8]) -> String {
+    octets.iter().map(|octet| format!("{octet:02x}")).collect()
+}
+
+fn put_in_front(out: &mut [u8], octets: &[u8]) -> Vec<u64> {
+    out[..octets.len()].copy_from_slice(octets);
+    vec![octets.len() as u64]
+}
+
+fn pair((first, second): (u64, u64)) -> Vec<u64> {
+    vec![first, second]
+}
+
+fn found(found: Found) -> Vec<u64> {
+    vec![found.kind, found.value, found.signed_value as u64, found.start, found.length]
+}
+
+fn tibmsg_field(field: tibmsg::Field) -> Vec<u64> {
+    let (hinted, hint_type, hint) = match field.hint {
+        Some(hint) => (1, u64::from(hint.kind), hint.number),
+        None => (0, 0, 0),
+    };
+    vec![
+        field.name.start as u64,
+        field.name.length as u64,
+        u64::from(field.kind),
+        field.data.start as u64,
+        field.data.length as u64,
+        hinted,
+        hint_type,
+        hint,
+        field.real_bits,
+    ]
+}
+
+fn tibrv_field(field: tibrv::Field) -> Vec<u64> {
+    vec![
+        field.name.start as u64,
+        field.name.length as u64,
+        u64::from(field.kind),
+        field.data.start as u64,
+        field.data.length as u64,
+    ]
+}

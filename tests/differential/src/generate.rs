@@ -1,0 +1,57 @@
+//! Makes the cases: case `n` under a seed is always the same list of calls.
+//!
+//! The first cases are the worked samples of the documents and fixed limits, then come small inputs in full; the others are random.
+
+pub mod corpus;
+pub mod damage;
+pub mod exhaustive;
+pub mod frames;
+pub mod hproto;
+pub mod reals;
+pub mod samples;
+pub mod shows;
+pub mod tables;
+pub mod tib;
+pub mod trees;
+
+use crate::call::Call;
+use crate::rng::Rng;
+
+/// Of so many cases one runs the program `show`.
+const SHOW_EVERY: u64 = 2_000;
+
+/// The calls of a case: samples first, then small inputs in full, then random ones.
+pub fn case(seed: u64, number: u64) -> Vec<Call> {
+    let mut rng = Rng::new(seed, number);
+    let samples = samples::all();
+    if let Some(sample) = samples.get(number as usize) {
+        return sample.calls(&mut rng);
+    }
+    if let Some(calls) = exhaustive::case(number - samples.len() as u64) {
+        return calls;
+    }
+    if number % SHOW_EVERY == SHOW_EVERY - 1 {
+        return shows::random(&mut rng);
+    }
+    random(&mut rng)
+}
+
+/// How many cases are samples.
+pub fn samples() -> u64 {
+    samples::all().len() as u64
+}
+
+/// How many cases come before the random ones.
+pub fn fixed_cases() -> u64 {
+    samples() + exhaustive::count()
+}
+
+fn random(rng: &mut Rng) -> Vec<Call> {
+    match rng.below(100) {
+        0..=54 => hproto::random(rng),
+        55..=62 => frames::random(rng),
+        63..=77 => tib::random_tibmsg(rng),
+        78..=91 => tib::random_tibrv(rng),
+        _ => reals::random(rng),
+    }
+}

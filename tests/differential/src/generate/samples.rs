@@ -1,0 +1,368 @@
+//! The worked samples of the documents and the fixed limits. What they have to answer is written by hand in the tests; here they
+//! are only inputs.
+
+use super::{frames, hproto, tib};
+use crate::call::Call;
+use crate::rng::Rng;
+use std::sync::OnceLock;
+
+pub enum Sample {
+    Hproto { table: Vec<u8>, number: u64, message: Vec<u8> },
+    FrameRead(Vec<u8>),
+    FrameWrite(usize),
+    Tibmsg(Vec<u8>),
+    Tibrv(Vec<u8>),
+    Fractions { bits: u64, hinted: u64, hint: u64 },
+    Show(Vec<u8>),
+}
+
+impl Sample {
+    pub fn calls(&self, rng: &mut Rng) -> Vec<Call> {
+        match self {
+            Sample::Hproto { table, number, message } => hproto::calls(rng, table, *number, message),
+            Sample::FrameRead(buffer) => vec![frames::read(buffer)],
+            Sample::FrameWrite(size) => write_calls(rng, *size),
+            Sample::Tibmsg(message) => tib::tibmsg_calls(rng, message),
+            Sample::Tibrv(message) => tib::tibrv_calls(rng, message),
+            Sample::Fractions { bits, hinted, hint } => vec![Call::Fractions { bits: *bits, hinted: *hinted, hint: *hint }],
+            Sample::Show(input) => vec![Call::Show { input: input[..].into() }],
+        }
+    }
+}
+
+fn write_calls(rng: &mut Rng, size: usize) -> Vec<Call> {
+    let message = rng.octets(size);
+    let call = |more: usize| Call::FrameWrite { message: message[..].into(), room: size + more };
+    (0..=6).map(call).collect()
+}
+
+pub fn all() -> &'static [Sample] {
+    static ALL: OnceLock<Vec<Sample>> = OnceLock::new();
+    ALL.get_or_init(|| {
+        let mut samples = Vec::new();
+        for (table, message) in HPROTO {
+            samples.push(message_sample(&entries(table), 0, &octets(message)));
+        }
+        samples.extend(numbers_over_15());
+        samples.extend(several_faults());
+        samples.extend(table_limits());
+        samples.extend(message_limits());
+        samples.extend(FRAMES.iter().map(|frame| Sample::FrameRead(octets(frame))));
+        samples.extend(frame_limits());
+        samples.extend(TIBMSG.iter().map(|message| Sample::Tibmsg(octets(message))));
+        samples.extend(TIBRV.iter().map(|message| Sample::Tibrv(octets(message))));
+        samples.extend(depth_limits());
+        samples.extend(FRACTIONS.iter().map(fraction_sample));
+        samples.extend(SHOW.iter().map(|input| Sample::Show(octets(input))));
+        samples
+    })
+}
+
+/// Octets from hexadecimal digits; blanks are skipped.
+pub fn octets(text: &str) -> Vec<u8> {
+    let digits: Vec<u32> = text.chars().filter(|c| *c != ' ').map(|c| c.to_digit(16).expect("a digit")).collect();
+    assert!(digits.len().is_multiple_of(2), "half an octet in {text}");
+    digits.chunks(2).map(|pair| (pair[0] * 16 + pair[1]) as u8).collect()
+}
+
+/// Table octets from "message tag kind inner" entries, all hexadecimal, with commas between them.
+pub fn entries(text: &str) -> Vec<u8> {
+    let mut table = Vec::new();
+    for entry in text.split(',').filter(|entry| !entry.trim().is_empty()) {
+        let parts: Vec<u16> =
+            entry.split_whitespace().map(|part| u16::from_str_radix(part, 16).expect("a hexadecimal number")).collect();
+        let [message, tag, kind, inner] = parts[..] else {
+            panic!("four numbers in {entry}");
+        };
+        table.extend([1, 0, 5, message as u8]);
+        table.extend(tag.to_be_bytes());
+        table.extend([kind as u8, inner as u8]);
+    }
+    table
+}
+
+fn message_sample(table: &[u8], number: u64, message: &[u8]) -> Sample {
+    Sample::Hproto { table: table.to_vec(), number, message: message.to_vec() }
+}
+
+fn fraction_sample(sample: &(u64, u64, u64)) -> Sample {
+    let (bits, hinted, hint) = *sample;
+    Sample::Fractions { bits, hinted, hint }
+}
+
+const SHOW_TABLE: &str = "0 1 1 0, 0 2 2 0, 0 23 5 1, 1 0 4 0, 1 1 1 0";
+const PERSON: &str = "0 0 3 0, 0 1 3 0, 0 2 1 0";
+const PERSON2: &str = "0 8 4 0, 0 23 4 0, 0 4567 1 0";
+const VECTOR: &str = "0 0 2 0, 0 1 2 0, 0 2 2 0";
+const NESTED: &str = "0 1 5 0";
+const UINT: &str = "0 c 1 0";
+const INT: &str = "0 c 2 0";
+
+/// Tables and messages of number 0.
+const HPROTO: &[(&str, &str)] = &[
+    (UINT, ""),
+    (UINT, "c0"),
+    (UINT, "c1 00"),
+    (UINT, "c1 03"),
+    (UINT, "c2 01 23"),
+    (UINT, "c1 05"),
+    (UINT, "e1 0c 05"),
+    (UINT, "f1 00 0c 05"),
+    (UINT, "cc 01 06"),
+    (UINT, "cd 00 01 05"),
+    (UINT, "ce 00 00 00 01 06"),
+    (UINT, "cf 00 00 00 00 00 00 00 01 06"),
+    (UINT, "c9 00 00 00 00 00 00 00 00 00"),
+    (UINT, "c3 01 02"),
+    (UINT, "c0 f1"),
+    (UINT, "cf ff ff ff ff ff ff ff f7"),
+    (UINT, "c8 ff ff ff ff ff ff ff ff"),
+    (INT, "c0"),
+    (INT, "c1 80"),
+    (INT, "c2 80 80"),
+    (INT, "c2 00 80"),
+    (INT, "c2 80 81"),
+    (INT, "c2 80 00"),
+    (INT, "c4 81 23 45 67"),
+    (INT, "c3 80 aa aa"),
+    (INT, "c1 81"),
+    (INT, "c8 80 00 00 00 00 00 00 00"),
+    (INT, "c8 ff ff ff ff ff ff ff ff"),
+    (INT, "c8 7f ff ff ff ff ff ff ff"),
+    (INT, "c3 80 00 00"),
+    (INT, "c3 80 80 00"),
+    ("0 c 3 0", "c5 48 65 6c 6c 6f"),
+    ("0 1234 3 0", "fc 12 34 0c 48 65 6c 6c 6f 2c 20 77 6f 72 6c 64"),
+    (VECTOR, "01 82 13 11 38 54 21 90"),
+    (VECTOR, "01 4a 10 21 8b"),
+    (PERSON, "04 4a 6f 68 6e 13 44 6f 65 22 07 c6"),
+    (
+        PERSON2,
+        "88 47 c3 bc 6e 74 68 65 72 ea 23 42 72 75 6e 74 68 61 6c 65 72 fc 45 67 0e 07 ff ff ff ff ff ff ff ff ff ff ff ff ff",
+    ),
+    (
+        "0 8 4 0, 0 23 4 0",
+        "88 47 c3 bc 6e 74 68 65 72 ea 23 42 72 75 6e 74 68 61 6c 65 72 fc 45 67 0e 07 ff ff ff ff ff ff ff ff ff ff ff ff ff",
+    ),
+    ("0 1 1 0, 0 2 1 0, 0 3 1 0", "11 11 21 22 31 33 21 44 11 55 21 66"),
+    ("0 9 1 0", "93 00 00 00"),
+    ("0 1 5 1, 1 0 1 0", "1c 0c 08 00 00 00 00 00 00 00 2a 02 00 07"),
+    (SHOW_TABLE, "11 2a 21 8b e6 23 02 4b 57 12 01 f4 30"),
+    (NESTED, "10"),
+    (NESTED, "12 00 f1"),
+    (NESTED, "20 11 f1"),
+    (NESTED, "16 15 14 13 12 11 10"),
+    (NESTED, "17 16 15 14 13 12 11 10"),
+    (NESTED, "18 17 16 15 14 13 12 11 10"),
+    (NESTED, "17 16 15 14 13 12 11 11"),
+    ("0 1 5 0, 0 2 1 0, 0 3 4 0", "12 31 ff 29"),
+    ("0 1 5 7", "12 11 10"),
+    ("0 d 1 0, 0 e 1 0", "d1 05 e1 0d 05 e1 0e 05 f1 00 0e 05"),
+    ("0 0 3 0", "0b 00 01 02 03 04 05 06 07 08 09 0a"),
+    ("0 0 3 0", "0c 0c 00 01 02 03 04 05 06 07 08 09 0a 0b"),
+    ("0 0 3 0", "0c 0b 00 01 02 03 04 05 06 07 08 09 0a"),
+];
+
+const FRAMES: &[&str] = &[
+    "",
+    "00",
+    "02 c1 42",
+    "02 c1",
+    "fc",
+    "fc 00",
+    "fd 00",
+    "fd 00 01 07",
+    "fe 00 01 00",
+    "fe 00 01 00 01",
+    "fe 00 01 00 00",
+    "ff 00 00 00 00 00 00 00 02 c1 42 99",
+    "ff ff ff ff ff ff ff ff ff",
+    "ff ff ff ff ff ff ff ff f7",
+    "ff ff ff ff ff ff ff ff",
+];
+
+const TIBMSG: &[&str] = &[
+    "",
+    "ce 13 aa 1f 01 00 00 00 00",
+    "ce 13 aa 1f 01 00 00 00",
+    "ce 13 aa 1f 02 00 00 00 00",
+    "ce 13 aa 1f 01 00 00 00 01",
+    "ce 13 aa 1f 01 00 00 00 0b 04 6e 61 6d 00 05 04 12 34 56 78",
+    "ce 13 aa 1f 01 00 00 00 1e 0b 48 53 54 43 4c 53 44 41 54 45 00 42 0c 32 35 20 41 50 52 20 31 39 39 34 00 06 02 01 02",
+    "ce 13 aa 1f 01 00 00 00 11 08 52 4f 57 36 34 5f 34 00 49 04 41 41 55 55 06 3c",
+    "ce 13 aa 1f 01 00 00 00 11 06 41 52 52 41 59 00 48 06 00 01 00 02 00 03 05 02",
+    "ce 13 aa 1f 01 00 00 00 17 09 54 52 44 50 52 43 5f 31 00 47 08 3f f2 00 00 00 00 00 00 06 01 13",
+    "ce 13 aa 1f 01 00 00 00 04 05 41 00 41",
+    "ce 13 aa 1f 01 00 00 00 06 05 41 00 41 41 00",
+    "ce 13 aa 1f 01 00 00 00 03 00 08 00",
+    "ce 13 aa 1f 01 00 00 00 02 00 08",
+    "ce 13 aa 1f 01 00 00 00 04 00 40 00 07",
+    "ce 13 aa 1f 01 00 00 00 05 00 40 00 46 01",
+    "ce 13 aa 1f 01 00 00 00 05 00 48 00 04 08",
+    "ce 13 aa 1f 01 00 00 00 07 00 07 04 7f 80 00 01",
+    "ce 13 aa 1f 01 00 00 00 07 00 07 04 00 00 00 01",
+    "ce 13 aa 1f 01 00 00 00 03 00 05 03",
+    "ce 13 aa 1f 01 00 00 00 03 00 05 04",
+    "ce 13 aa 1f 01 00 00 00 06 00 82 ff ff ff ff",
+    "ce 13 aa 1f 01 00 00 00 06 00 82 80 00 00 00",
+    "ce 13 aa 1f 01 00 00 00 08 00 c8 ff ff ff f8 05 08",
+    "ce 13 aa 1f 01 00 00 00 08 00 82 ff ff ff fe 05 08",
+];
+
+const TIBRV: &[&str] = &[
+    "",
+    "00 00 00 08 99 55 ee aa",
+    "00 00 00 09 99 55 ee aa",
+    "00 00 00 09 99 55 ee ab",
+    "00 00 00 08 99 55 ee",
+    "00 00 00 13 99 55 ee aa 04 6e 61 6d 00 0c 05 12 34 56 78",
+    "00 00 00 27 99 55 ee aa 05 64 61 74 61 00 01 7a 00 00 00 17 99 55 ee aa 06 66 69 65 6c 64 00 08 07 76 61 6c 75 65 00",
+    "00 00 00 1f 99 55 ee aa 05 64 61 74 61 00 01 7a 00 00 00 17 99 55 ee aa 06 66 69 65 6c 64 00 08 07 76 61 6c 75 65 00",
+    "00 00 00 32 99 55 ee aa 07 5f 64 61 74 61 5f 00 07 21 ce 13 aa 1f 01 00 00 00 17 09 54 52 44 50 52 43 5f 31 00 47 08 3f f2 00 00 00 00 00 00 06 01 13",
+    "00 00 00 0b 99 55 ee aa 00 01 79",
+    "00 00 00 0d 99 55 ee aa 00 01 79 00 02",
+    "00 00 00 0b 99 55 ee aa 00 07 7b",
+    "00 00 00 0b 99 55 ee aa 00 07 00",
+    "00 00 00 0b 99 55 ee aa 00 07 01",
+    "00 00 00 0f 99 55 ee aa 00 01 7a 00 00 00 04",
+    "00 00 00 13 99 55 ee aa 00 01 7a 00 00 00 08 99 55 ee ab",
+    "00 00 00 0a 99 55 ee aa 00 01",
+    "00 00 00 0f 99 55 ee aa 00 07 7a ff ff ff ff",
+    "00 00 00 0f 99 55 ee aa 00 07 7a 80 00 00 04",
+    "00 00 00 13 99 55 ee aa 00 01 7a ff ff ff ff 99 55 ee aa",
+    "00 00 00 13 99 55 ee aa 00 01 7a 80 00 00 08 99 55 ee aa",
+    "00 00 00 14 99 55 ee aa 00 01 7a 00 00 00 08 99 55 ee aa 00",
+];
+
+const FRACTIONS: &[(u64, u64, u64)] = &[
+    (0x400a_0000_0000_0000, 1, 2),
+    (0x400a_0000_0000_0000, 1, 1),
+    (0x400a_0000_0000_0000, 0, 2),
+    (0x400a_0000_0000_0000, 1, 0),
+    (0x400a_0000_0000_0000, 1, 9),
+    (0x8000_0000_0000_0000, 1, 8),
+    (0x4330_0000_0000_0000, 1, 1),
+    (0x432f_ffff_ffff_ffff, 1, 1),
+    (0xc32f_ffff_ffff_ffff, 1, 1),
+    (0x7ff0_0000_0000_0000, 1, 1),
+    (0x7ff8_0000_0000_0000, 1, 1),
+    (0x0000_0000_0000_0001, 1, 8),
+];
+
+const SHOW: &[&str] = &[
+    "28 0100050000010100 0100050000020200 0100050000230501 0100050100000400 0100050100010100 0d 11 2a 21 8b e6 23 02 4b 57 12 01 f4 30",
+    "",
+    "00",
+    "00 00",
+    "00 01 c3 00",
+    "00 02 c3",
+    "00 01 c3",
+    "00 0a c9 00 00 00 00 00 00 00 00 00",
+    "08 0100050000010500 01 10",
+    "08 0100050000010600 01 10",
+    "07 01000500000105 01",
+    "fc",
+    "00 fd 00",
+    "08 0100050000010500 08 17 16 15 14 13 12 11 10",
+    "08 0100050000010400 02 11 80",
+    "fe 00 01 00 01",
+    "08 01 00 05 00 00 0c 01 00 0a c9 00 00 00 00 00 00 00 00 00",
+];
+
+fn numbers_over_15() -> Vec<Sample> {
+    let numbers = [15, 16, 255, 256, 1 << 32, u64::MAX];
+    numbers.iter().map(|number| message_sample(&entries(UINT), *number, &[0xc0])).collect()
+}
+
+/// A faulty table, a message that is too long, a number over 15 and a faulty field, each with and without the ones before it.
+fn several_faults() -> Vec<Sample> {
+    let bad_table = octets("01 00 05 00 00 01 01 00 ff");
+    let long = vec![0xf1; 65_537];
+    vec![
+        message_sample(&bad_table, 16, &long),
+        message_sample(&bad_table, 0, &long),
+        message_sample(&bad_table, 16, &[0xf1]),
+        message_sample(&bad_table, 0, &[]),
+        message_sample(&[], 16, &long),
+        message_sample(&[], 0, &long),
+        message_sample(&[], 16, &[0xf1]),
+        message_sample(&[], 0, &[0xf1]),
+    ]
+}
+
+/// Tables of 63, 64 and 65 records, with octets behind them, and a pair that comes again.
+fn table_limits() -> Vec<Sample> {
+    let records = |count: u8| -> Vec<u8> {
+        let record = |index: u8| [1, 0, 5, index % 16, 0, index / 16, 1, 0];
+        (0..count).flat_map(record).collect()
+    };
+    let mut full_and_one = records(64);
+    full_and_one.push(1);
+    let mut tables = vec![records(63), records(64), records(65), full_and_one];
+    tables.push(entries("0 1 1 0, 0 2 1 0, 0 2 1 0, 0 1 1 0"));
+    tables.push(octets("01 00 05 00 00"));
+    tables.push(records(255).repeat(50));
+    tables.push(octets("01"));
+    tables.iter().map(|table| message_sample(table, 0, &[0x01, 0x05])).collect()
+}
+
+/// Messages around the limits of length: many fields of no contents, one large field, and one inside another.
+fn message_limits() -> Vec<Sample> {
+    let mut messages = vec![vec![0; 65_536], vec![0; 65_537]];
+    for length in [255, 256, 65_529, 65_530, 65_531, 65_532] {
+        messages.push(large_field(0x20, length));
+        messages.push(large_field(0x10, length));
+    }
+    for length in [65_532u16, 65_533, 65_534] {
+        let front = [&[0x2d][..], &length.to_be_bytes()].concat();
+        messages.push([front, vec![0; length.into()]].concat());
+    }
+    let inner = large_field(0x20, 65_526 - 12);
+    messages.push([large_field_with(0x10, &inner), vec![0x20]].concat());
+    messages.iter().map(|message| message_sample(&entries(NESTED), 0, message)).collect()
+}
+
+fn large_field(tag: u8, length: usize) -> Vec<u8> {
+    large_field_with(tag, &vec![0; length])
+}
+
+fn large_field_with(tag: u8, contents: &[u8]) -> Vec<u8> {
+    let mut octets = vec![tag | 0xe];
+    octets.extend((contents.len() as u32).to_be_bytes());
+    octets.extend(contents);
+    octets
+}
+
+fn frame_limits() -> Vec<Sample> {
+    let whole = |length: usize| {
+        let mut buffer = octets("ff 00 00 00 00 00 01 00 00");
+        buffer.resize(length, 7);
+        Sample::FrameRead(buffer)
+    };
+    let mut samples: Vec<Sample> = (65_543..=65_547).map(whole).collect();
+    let sizes = [0, 251, 252, 255, 256, 65_535, 65_536, 65_537];
+    samples.extend(sizes.map(Sample::FrameWrite));
+    samples
+}
+
+/// TibrvMsg messages inside each other, 7 to 10 deep, the innermost empty, cut or with a bad magic number.
+fn depth_limits() -> Vec<Sample> {
+    let mut samples = Vec::new();
+    for depth in 7..=10 {
+        for innermost in ["00 00 00 08 99 55 ee aa", "00 00 00 05 99", "00 00 00 08 99 55 ee ab"] {
+            let mut message = octets(innermost);
+            for _ in 1..depth {
+                message = around(&message);
+            }
+            samples.push(Sample::Tibrv(message));
+        }
+    }
+    samples
+}
+
+fn around(message: &[u8]) -> Vec<u8> {
+    let mut outer = (message.len() as u32 + 11).to_be_bytes().to_vec();
+    outer.extend(octets("99 55 ee aa 00 01 7a"));
+    outer.extend(message);
+    outer
+}

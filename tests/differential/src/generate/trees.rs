@@ -1,0 +1,183 @@
+//! Random trees under a table, and their octets in random longer forms.
+
+use super::tables;
+use crate::oracle::message::{Field, Value};
+use crate::oracle::shorten::{int_in, least_uint};
+use crate::oracle::table::{Kind, Table};
+use crate::oracle::DEPTH_LIMIT;
+use crate::rng::Rng;
+
+/// The limits of the direct and the longer length forms.
+const LENGTHS: [usize; 12] = [8, 9, 10, 11, 12, 13, 253, 254, 255, 256, 257, 300];
+
+pub struct Maker<'a> {
+    pub table: &'a Table,
+    /// How many more fields may be made.
+    pub budget: usize,
+}
+
+impl Maker<'_> {
+    pub fn fields(&mut self, rng: &mut Rng, number: u8, depth: u64) -> Vec<Field> {
+        let wanted = match rng.below(10) {
+            0 => 0,
+            1..=7 => rng.from_to(1, 5),
+            _ => rng.from_to(3, 24),
+        };
+        let mut fields = Vec::new();
+        while fields.len() < wanted && self.budget > 0 {
+            self.budget -= 1;
+            fields.push(self.field(rng, number, depth));
+        }
+        fields
+    }
+
+    fn field(&mut self, rng: &mut Rng, number: u8, depth: u64) -> Field {
+        let mut tag = self.tag(rng, number);
+        let (mut kind, mut inner) = self.table.meaning(number, tag);
+        // A message that would be too deep is made now and then only.
+        while kind == Kind::Message && depth >= DEPTH_LIMIT && !rng.chance(3) {
+            tag = rng.word() as u16;
+            (kind, inner) = self.table.meaning(number, tag);
+        }
+        let value = match kind {
+            Kind::Raw => Value::Raw(some_octets(rng)),
+            Kind::Uint => Value::Uint(rng.number()),
+            Kind::Int => Value::Int(signed(rng)),
+            Kind::String => Value::String(some_octets(rng)),
+            Kind::Text => Value::Text(text(rng)),
+            Kind::Message => Value::Message(self.fields(rng, inner, depth + 1)),
+        };
+        field(tag, value)
+    }
+
+    fn tag(&self, rng: &mut Rng, number: u8) -> u16 {
+        let here = |entry: &&crate::oracle::table::Entry| entry.message == number;
+        let tags: Vec<u16> = self.table.entries.iter().filter(here).map(|entry| entry.tag).collect();
+        if tags.is_empty() || rng.chance(20) {
+            return tables::tag(rng);
+        }
+        rng.pick(&tags)
+    }
+}
+
+/// A field that was made and not read, so that it has no place.
+pub fn field(tag: u16, value: Value) -> Field {
+    Field { tag, value, start: 0, length: 0 }
+}
+
+fn signed(rng: &mut Rng) -> i64 {
+    let size = rng.number() as i64;
+    if rng.chance(50) {
+        size.wrapping_neg()
+    } else {
+        size
+    }
+}
+
+fn some_octets(rng: &mut Rng) -> Vec<u8> {
+    let length = match rng.below(20) {
+        0..=12 => rng.below(6),
+        13..=16 => rng.below(16),
+        17..=18 => rng.pick(&LENGTHS),
+        _ => rng.below(600),
+    };
+    rng.octets(length)
+}
+
+/// Good text, with groups of all sizes.
+pub fn text(rng: &mut Rng) -> Vec<u8> {
+    let groups = match rng.below(10) {
+        0..=7 => rng.below(6),
+        _ => rng.below(110),
+    };
+    let mut octets = Vec::new();
+    for _ in 0..groups {
+        octets.extend(group(rng));
+    }
+    octets
+}
+
+fn group(rng: &mut Rng) -> Vec<u8> {
+    let (low, high, more) = rng.pick(&[(0, 0x7f, 0), (0xc0, 0xdf, 1), (0xe0, 0xef, 2), (0xf0, 0xf7, 3)]);
+    let mut octets = vec![edge(rng, low, high)];
+    for _ in 0..more {
+        octets.push(edge(rng, 0x80, 0xbf));
+    }
+    octets
+}
+
+/// An octet from `low` to `high`, often one of the two.
+fn edge(rng: &mut Rng, low: u8, high: u8) -> u8 {
+    match rng.below(4) {
+        0 => low,
+        1 => high,
+        _ => rng.from_to(usize::from(low), usize::from(high)) as u8,
+    }
+}
+
+/// How often, of 100, a longer form than the shortest is taken.
+#[derive(Clone, Copy)]
+pub struct Style {
+    pub control: usize,
+    pub number: usize,
+}
+
+impl Style {
+    pub fn random(rng: &mut Rng) -> Style {
+        Style { control: rng.pick(&[0, 10, 40, 100]), number: rng.pick(&[0, 20, 60, 100]) }
+    }
+}
+
+/// The octets of a tree, in forms as the style says.
+pub fn octets(rng: &mut Rng, fields: &[Field], style: Style) -> Vec<u8> {
+    let mut all = Vec::new();
+    for field in fields {
+        let contents = contents(rng, &field.value, style);
+        all.extend(control(rng, field.tag, contents.len() as u64, style.control));
+        all.extend(contents);
+    }
+    all
+}
+
+fn contents(rng: &mut Rng, value: &Value, style: Style) -> Vec<u8> {
+    let forms = match value {
+        Value::Uint(number) => uint_forms(*number),
+        Value::Int(number) => (0..=8).filter_map(|octets| int_in(*number, octets)).collect(),
+        Value::Message(fields) => return octets(rng, fields, style),
+        Value::Raw(octets) | Value::String(octets) | Value::Text(octets) => return octets.clone(),
+    };
+    if rng.chance(style.number) {
+        return forms[rng.below(forms.len())].clone();
+    }
+    forms[0].clone()
+}
+
+fn uint_forms(number: u64) -> Vec<Vec<u8>> {
+    let least = least_uint(number);
+    let padded = |zeros: usize| {
+        let mut octets = vec![0; zeros];
+        octets.extend(&least);
+        octets
+    };
+    (0..=8 - least.len()).map(padded).collect()
+}
+
+/// A control part in the shortest or, so often of 100, any form.
+pub fn control(rng: &mut Rng, tag: u16, length: u64, longer: usize) -> Vec<u8> {
+    let tag = u64::from(tag);
+    let tag_forms = [(14, tag as u8, 0), (256, 0xe, 1), (65_536, 0xf, 2)];
+    let length_forms = [(12, length as u8, 0), (256, 0xc, 1), (65_536, 0xd, 2), (1 << 32, 0xe, 4), (u64::MAX, 0xf, 8)];
+    let (high, tag_octets) = form(rng, &tag_forms, tag, longer);
+    let (low, length_octets) = form(rng, &length_forms, length, longer);
+    let mut part = vec![(high << 4) | low];
+    part.extend(&tag.to_be_bytes()[8 - tag_octets..]);
+    part.extend(&length.to_be_bytes()[8 - length_octets..]);
+    part
+}
+
+/// One of the forms (limit, nybble, octets that follow) that can hold the number.
+fn form(rng: &mut Rng, forms: &[(u64, u8, usize)], number: u64, longer: usize) -> (u8, usize) {
+    let shortest = forms.iter().position(|form| number < form.0).unwrap_or(forms.len() - 1);
+    let chosen = if rng.chance(longer) { rng.from_to(shortest, forms.len() - 1) } else { shortest };
+    (forms[chosen].1, forms[chosen].2)
+}

@@ -1,0 +1,84 @@
+//! Laws that the oracle has to keep on generated and on all small inputs.
+
+use super::*;
+use crate::generate::{self, hproto, reals, tables, trees};
+use crate::oracle::message::{count, depth, read, Field};
+use crate::oracle::real::fractions;
+use crate::oracle::shorten::shortest;
+use crate::rng::Rng;
+use std::collections::HashMap;
+
+#[test]
+fn a_tree_is_read_back_from_every_form() {
+    for case in 0..4_000 {
+        let mut rng = Rng::new(1, case);
+        let table = tables::good(&mut rng);
+        let tree = hproto::good_tree(&mut rng, &tables::loaded(&table), 0);
+        if depth(&tree) > 8 {
+            continue;
+        }
+        let style = trees::Style::random(&mut rng);
+        let octets = trees::octets(&mut rng, &tree, style);
+        assert_eq!(read(&table, 0, &octets).as_ref(), Ok(&tree), "case {case}");
+        assert_eq!(message::check(&table, 0, &octets), Ok((count(&tree), depth(&tree))));
+        let short = shortest(&tree);
+        assert!(short.len() <= octets.len());
+        assert_eq!(read(&table, 0, &short).as_ref(), Ok(&tree), "case {case}");
+    }
+}
+
+/// Under a table with every kind, no octets of up to four reading the same are shorter than the shortened ones, and no other
+/// octets of that length read the same.
+#[test]
+fn nothing_is_shorter() {
+    let table = entries("0 0 1 0, 0 1 2 0, 0 2 4 0, 0 c 5 0");
+    let some = [0x00, 0x01, 0x02, 0x0c, 0x10, 0x11, 0x12, 0x7f, 0x80, 0x81, 0xc1, 0xc2, 0xe0, 0xe1, 0xe2, 0x20];
+    let mut shortest_of: HashMap<Vec<u8>, Vec<Vec<u8>>> = HashMap::new();
+    let mut layer = vec![vec![]];
+    for _ in 0..=4 {
+        for octets in &layer {
+            if let Ok(tree) = read(&table, 0, octets) {
+                let same = shortest_of.entry(shortest(&tree)).or_default();
+                same.push(octets.clone());
+            }
+        }
+        let longer = |octets: &Vec<u8>| some.map(|octet| [&octets[..], &[octet]].concat());
+        layer = layer.iter().flat_map(longer).collect();
+    }
+    for (short, all) in &shortest_of {
+        let trees: Vec<Vec<Field>> = all.iter().map(|octets| read(&table, 0, octets).unwrap()).collect();
+        assert!(trees.iter().all(|tree| *tree == trees[0]));
+        let no_longer = all.iter().filter(|octets| octets.len() <= short.len());
+        assert!(no_longer.clone().all(|octets| octets == short), "{short:02x?} {all:02x?}");
+    }
+    assert!(shortest_of.len() > 1_000);
+}
+
+/// Every case can be made and answered, and is the same each time.
+#[test]
+fn cases_are_repeatable() {
+    let fixed = generate::fixed_cases();
+    for case in (0..generate::samples()).chain((0..fixed).step_by(997)).chain([fixed - 1]).chain(fixed..fixed + 800) {
+        let (once, again) = (generate::case(3, case), generate::case(3, case));
+        assert_eq!(once.len(), again.len());
+        for (one, other) in once.iter().zip(&again) {
+            assert_eq!(one.describe(), other.describe());
+            let before = vec![9; one.room()];
+            assert_eq!(one.expected(&before), other.expected(&before));
+        }
+    }
+}
+
+/// The product in the processor's reals, where it is exact, says the same.
+#[test]
+fn fractions_agree_with_the_processor() {
+    for case in 0..200_000 {
+        let mut rng = Rng::new(2, case);
+        let real = f64::from_bits(reals::bits(&mut rng));
+        let hint = rng.from_to(1, 8);
+        let product = real * (1u64 << hint) as f64;
+        let whole = product.is_finite() && product == product.trunc() && product.abs() < 9_007_199_254_740_992.0;
+        let expected = if whole { Ok(product as i64) } else { at(17, 0) };
+        assert_eq!(fractions(real.to_bits(), 1, hint as u64), expected, "{real} {hint}");
+    }
+}
