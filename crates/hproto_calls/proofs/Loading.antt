@@ -1,19 +1,17 @@
 -- A call by the octets of a table, case by case.
-use Prim.Native.Nat.{ℕ, zero, suc, _*_, _^_, _≤_, _<_}
-use native.Mathlib.Omega.{arith}
-use mathlib.Core.Path.{_≡_, refl, sym, ap, _∙_, subst}
-use mathlib.Core.Bool.{Bool, true, false, cond}
+use Prim.Native.Nat.{ℕ, _^_, _≤_, _<_}
+use mathlib.Core.Path.{_≡_, refl, sym}
 use mathlib.Core.List.{List}
 use lib.ListN.{length}
-use lib.Dec.{eqb, leb}
 use borrow.Author.Tests.{le-ltb, lt-ltb, eq-eqb, ne-eqb}
-use Rattle.octets.specs.Number.{Octets}
-use Rattle.hproto_table.specs.Load.{load, loadFrom, accepted, refused, faulty, wordsBefore, Loadable}
-use Rattle.hproto_table.specs.Valid.{valid}
+use Rattle.hproto_table.specs.Load.{load}
 use Rattle.hproto_table.specs.declared.Table.{Table}
 use Rattle.hproto_table.specs.declared.Loaded.{Loaded}
-use Rattle.hproto_table.proofs.Valid.{loadable-valid}
-use Rattle.hproto_calls.specs.Calls.{withTable}
+use Rattle.hproto_calls.specs.Calls.{withTable, checkOctets, shortenOctets, shortenBuffer}
+use Rattle.hproto_check.specs.Check as checks
+use Rattle.hproto_check.specs.Check.{check}
+use Rattle.hproto_shorten.specs.Shorten as shortens
+use Rattle.hproto_shorten.specs.Shorten.{answer, buffer}
 
 module _ {A : Type 0} (octets s : List ℕ) (under : Table → A) (refuse : ℕ → ℕ → A) where
   pub message-too-long : 65536 < length s → refuse 1 0 ≡ withTable octets s under refuse
@@ -29,31 +27,18 @@ module _ {A : Type 0} (octets s : List ℕ) (under : Table → A) (refuse : ℕ 
     unfolding withTable
     table-loaded z = rw (le-ltb (2 ^ 16) (length s) h, ← e, eq-eqb (l .refusal) 0 z)
 
--- An answer that is no refusal has place 0.
-unfoldable Placed : Loaded → Type 0
-Placed l = l .refusal ≡ 0 → l ≡ record { refusal = 0; place = 0; table = l .table }
+-- Where a table loads and a message is within the limit, the calls that take the table's octets answer as those that take the table: what
+-- demand 3 says of check and shortener holds of them.
+module _ (octets s : List ℕ) (z : load octets .refusal ≡ 0) (h : length s ≤ 65536) (n : ℕ) where
+  pub check-as-loaded : checkOctets octets n s ≡ check (load octets .table) n s
+  unfolding checkOctets
+  check-as-loaded = sym (table-loaded octets s (λ (t : Table). check t n s) checks.refusal h (load octets) refl z)
 
-either-placed : (b : Bool) (x y : Loaded) → Placed x → Placed y → Placed (cond b x y)
-either-placed true x y p q = p
-either-placed false x y p q = q
+  pub shorten-as-loaded : (out : List ℕ) → shortenOctets octets n s out ≡ answer (load octets .table) n s out
+  unfolding shortenOctets
+  shorten-as-loaded out = sym (table-loaded octets s (λ (t : Table). answer t n s out) shortens.refusal h (load octets) refl z)
 
-refused-placed : (place : ℕ) → Placed (refused place)
-unfolding Placed refused
-refused-placed place e = absurd (omega arith)
-
-accepted-placed : (ws : List ℕ) → Placed (accepted ws)
-unfolding Placed accepted
-accepted-placed ws e = refl
-
-load-placed : (left i : ℕ) (s : List ℕ) → Placed (loadFrom left i s)
-unfolding loadFrom
-load-placed zero i s = refused-placed (8 * i)
-load-placed (suc left) i s =
-    either-placed (leb (length s) (8 * i)) (accepted (wordsBefore s i)) (cond (faulty s i) (refused (8 * i)) (loadFrom left (suc i) s)) (accepted-placed (wordsBefore s i))
-    (either-placed (faulty s i) (refused (8 * i)) (loadFrom left (suc i) s) (refused-placed (8 * i)) (load-placed left (suc i) s))
-
-pub loaded-valid : (octets : List ℕ) (l : Loaded) → Octets octets → l ≡ load octets → l .refusal ≡ 0 → valid (l .table) ≡ true
-unfolding Loadable load Placed
-loaded-valid octets l o e z =
-    let f = subst Placed (sym e) (load-placed 65 0 octets) in
-    loadable-valid (l .table) (octets, o, sym e ∙ f z)
+  pub buffer-as-loaded : (out : List ℕ) → shortenBuffer octets n s out ≡ buffer (load octets .table) n s out
+  unfolding shortenBuffer
+  buffer-as-loaded out =
+      sym (table-loaded octets s (λ (t : Table). buffer t n s out) (λ (number place : ℕ). out) h (load octets) refl z)

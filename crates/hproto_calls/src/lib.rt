@@ -1,5 +1,5 @@
 // The calls that take a field table as its octets. A message that is too long is refused before the table is loaded, a faulty table
-// before the message number is looked at. A table that was just loaded is not tested again.
+// before the message number is looked at. Check and shortener do not test the table again that was just loaded; a lookup does.
 use hproto_check::Checked;
 use hproto_lookup::Found;
 use hproto_shorten::Shortened;

@@ -8,12 +8,12 @@ use lib.ListN.{length}
 use lib.Dec.{ltb}
 use borrow.Author.Tests.{le-ltb, lt-ltb}
 use Rattle.octets.specs.Control.{control}
-use Rattle.hproto_table.specs.Entry.{Entry, find, entries}
+use Rattle.hproto_table.specs.Entry.{Entry, find, entries, innerOf}
 use Rattle.hproto_table.specs.Valid.{valid}
 use Rattle.hproto_table.specs.declared.Table.{Table}
 use Rattle.hproto_message.specs.Cut.{Cut}
 use Rattle.hproto_message.specs.Tree as trees
-use Rattle.hproto_message.specs.Tree.{tree, tagOf, innerOf}
+use Rattle.hproto_message.specs.Tree.{tree, tagOf}
 use Rattle.hproto_message.specs.Reading.{Reading, accepted, refused, reading, messageFrom}
 use Rattle.hproto_message.proofs.Shortened.{tree-depth}
 use Rattle.hproto_check.specs.Walks.{fields, walk}
@@ -53,7 +53,7 @@ module _ (t : Table) (n : ℕ) (s : List ℕ) where
 
   -- A table that the loader can give answers as its entries do.
   pub under-valid : length s ≤ 65536 → valid t ≡ true → checkUnder (entries t) n s ≡ check t n s
-  unfolding check checkUnder
+  unfolding check
   under-valid h v = rw (le-ltb (2 ^ 16) (length s) h, v)
 
 module _ (es : List Entry) (n : ℕ) (s : List ℕ) where

@@ -1,3 +1,4 @@
 pub mod Adding
 pub mod Turns
 pub mod Counts
+pub mod Passed

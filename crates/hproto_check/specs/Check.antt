@@ -1,9 +1,9 @@
 -- What the check answers.
 use Prim.Native.Nat.{ℕ, _^_}
-use mathlib.Core.Bool.{Bool, cond, not, _||_}
+use mathlib.Core.Bool.{cond}
 use mathlib.Core.List.{List}
 use lib.ListN.{length}
-use lib.Dec.{ltb, leb}
+use lib.Dec.{ltb}
 use Rattle.hproto_table.specs.Entry.{Entry, entries}
 use Rattle.hproto_table.specs.Valid.{valid}
 use Rattle.hproto_table.specs.declared.Table.{Table}
@@ -19,17 +19,13 @@ unfoldable pub counts : List Entry → ℕ → Reading → Checked
 counts es n (accepted cut) = record { refusal = 0; place = 0; fields = fields (tree es n cut); depth = depth (tree es n cut) }
 counts es n (refused number place) = refusal number place
 
--- A message over 65,536 octets is refused with 1; a table value that the loader cannot give, or a number over 15, with 2.
-unfoldable pub check : Table → ℕ → List ℕ → Checked
-check t n s =
-    cond (ltb (2 ^ 16) (length s)) (refusal 1 0)
-    (cond (not (valid t) || ltb 15 n) (refusal 2 0)
-    (counts (entries t) n (reading (entries t) n s)))
-
--- The same under a list of entries, whatever they are. proofs/Counts.antt shows that the check under a table that the loader can give
--- answers this of its entries.
+-- A message of a number under a list of entries, whatever they are: over 65,536 octets it is refused with 1, and a number over 15 with 2.
 unfoldable pub checkUnder : List Entry → ℕ → List ℕ → Checked
 checkUnder es n s =
     cond (ltb (2 ^ 16) (length s)) (refusal 1 0)
     (cond (ltb 15 n) (refusal 2 0)
     (counts es n (reading es n s)))
+
+-- The same under a table. A table value that the loader cannot give is refused with 2, after 1.
+unfoldable pub check : Table → ℕ → List ℕ → Checked
+check t n s = cond (ltb (2 ^ 16) (length s)) (refusal 1 0) (cond (valid t) (checkUnder (entries t) n s) (refusal 2 0))

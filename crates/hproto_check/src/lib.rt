@@ -96,8 +96,8 @@ fn refused(number: u64, place: u64) -> Checked
     }
 }
 
-// The check under the first words of a table, whatever they are. A caller that has just loaded the table, or tested it, need not have
-// it tested again.
+// The check under the first words of a table, whatever they are: no entry, since an entry refuses words that no loader gives with 2. A
+// caller that has just loaded the table, or tested it, need not have it tested again.
 pub fn check_under(words: &[u64], count: usize, number: u64, message: &[u8]) -> Checked
     ensures { λ r. ⌜ r ≡ checkUnder (map entry (take count (now (words .entry)))) number (now (message .entry)) ⌝ }
 {

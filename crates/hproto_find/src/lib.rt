@@ -4,7 +4,7 @@ ghost use mathlib.Core.Path.{_≡_};
 ghost use mathlib.Core.List.{map};
 ghost use Prim.Native.Nat.{_+_, _*_, _≤_, _<_, min};
 ghost use lib.ListN.{length, take};
-ghost use Rattle.hproto_table.specs.Entry.{entry, find as find-of, meaning as meaning-of};
+ghost use Rattle.hproto_table.specs.Entry.{entry, find as find-of, kindNumber, meaning as meaning-of};
 
 // What the entry in a word means.
 fn meaning(w: u64) -> Meaning
@@ -49,4 +49,18 @@ pub fn find(words: &[u64], count: usize, number: u64, tag: u64) -> Meaning
         i += 1;
     }
     Meaning::Raw
+}
+
+// The number of a kind, 0 for raw.
+pub fn kind_number(kind: Meaning) -> u64
+    ensures { λ r. ⌜ r ≡ kindNumber kind ⌝ }
+{
+    match kind {
+        Meaning::Raw => 0,
+        Meaning::Uint => 1,
+        Meaning::Int => 2,
+        Meaning::String => 3,
+        Meaning::Text => 4,
+        Meaning::Message(_) => 5,
+    }
 }

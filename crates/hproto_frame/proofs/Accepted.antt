@@ -4,6 +4,7 @@ use native.Mathlib.Omega.{arith}
 use mathlib.Core.Path.{_≡_, refl, sym, ap, ap₂, _∙_, subst}
 use mathlib.Core.Bool.{Bool, true, false, cond}
 use mathlib.Core.List.{List, [], _∷_, _++_}
+use mathlib.Core.Logic.{_↔_}
 use lib.ListN.{length, take, drop, length-append, length-drop, take-append-drop}
 use lib.Seq.{take-at, length-take-le}
 use lib.Dec.{ltb}
@@ -108,6 +109,10 @@ accepted-whole (x ∷ s) from to o e = long (ltb 65545 (length (x ∷ s))) refl 
         → WholeFrame (x ∷ s) from to
     long true t f = refused-not 1 from to (omega arith) f
     long false t f = cut (ltb (length s) n) refl (ltb-false 65545 (length (x ∷ s)) t) f
+
+-- The reader accepts octets, with the message from one place to another, exactly where they are a whole frame with these places.
+pub frame-accepted-exactly : (s : List ℕ) (from to : ℕ) → Octets s → (frameRead s ≡ readAccepted from to) ↔ WholeFrame s from to
+frame-accepted-exactly s from to o = (accepted-whole s from to o, whole-accepted s from to)
 
 -- A prefix of a size, in any form, is no shorter than the shortest prefix.
 pub form-no-shorter : (size x : ℕ) (t : List ℕ) → Octets t → Form frameCode size x t → NoShorter (shortestPrefix size) (x ∷ t)

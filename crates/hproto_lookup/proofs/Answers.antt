@@ -11,7 +11,7 @@ use lib.Dec.{ltb, eqb}
 use borrow.Author.Tests.{le-leb, eq-eqb, ne-eqb}
 use Rattle.octets.specs.Number.{unsigned}
 use Rattle.octets.specs.Signed.{signed}
-use Rattle.hproto_table.specs.Entry.{Entry, find, entries}
+use Rattle.hproto_table.specs.Entry.{Entry, find, entries, kindNumber}
 use Rattle.hproto_table.specs.Valid.{valid}
 use Rattle.hproto_table.specs.declared.Meaning.{Meaning}
 use Rattle.hproto_table.specs.declared.Meaning.the-variants.{Raw, Uint, Int, String, Text, Message}
@@ -24,19 +24,20 @@ use Rattle.hproto_message.proofs.Refusals.{refusal-positive}
 use Rattle.hproto_check.specs.Check as checks
 use Rattle.hproto_check.specs.Check.{check, counts}
 use Rattle.hproto_check.specs.declared.Checked.{Checked}
-use Rattle.hproto_lookup.specs.Lookup.{Item, Outer, outermost, itemTag, withTag, chosen, kindOf, uintOf, intOf, refusal, found, foundIn, answer}
-use Rattle.hproto_lookup.specs.Spots.{places, spotOf, nthSpot, lastSpot, chosenSpot, kindNumber, uintOr, intOr, uintIn, intIn, read}
+use Rattle.hproto_lookup.specs.Lookup.{Item, Outer, outermost, itemTag, withTag, chosen, itemKind, uintOf, intOf, refusal, found, foundIn, answer}
+use Rattle.hproto_lookup.specs.Spots.{places, spotOf, nthSpot, lastSpot, chosenSpot, uintOr, intOr, uintIn, intIn, read}
 use Rattle.hproto_lookup.specs.declared.Occurrence.{Occurrence}
 use Rattle.hproto_lookup.specs.declared.Occurrence.the-variants.{Nth, Last}
 use Rattle.hproto_lookup.specs.declared.Spot.{Spot}
 use Rattle.hproto_lookup.specs.declared.Spot.the-variants.{Absent, At}
 use Rattle.hproto_lookup.proofs.Choosing.{Of, chosen-map, chosen-each, withTag-each}
 use Rattle.hproto_lookup.proofs.Outers.{itemOf, Shows, Held, each-held, placeOf, places-are}
+use Rattle.hproto_check.proofs.Passed.{check-passed}
 
 -- Contents that are allowed for a kind are answered with the kind's number and their value.
 read-leaf : (k : Meaning) (t start : ℕ) (b : List ℕ) → Contents k b
     → read (kindNumber k) start b ≡ found (some (record { item = Item.leaf t (value k b); start = start; length = length b }))
-unfolding read kindNumber uintIn intIn uintOr intOr unsigned signed found kindOf uintOf intOf value Contents
+unfolding read kindNumber uintIn intIn uintOr intOr unsigned signed found itemKind uintOf intOf value Contents
 read-leaf Raw t start b h = refl
 read-leaf Uint t start b h = rw (le-leb (length b) 8 h)
 read-leaf Int t start b h = rw (le-leb (length b) 8 h)
@@ -46,7 +47,7 @@ read-leaf (Message m) t start b h = absurd h
 
 read-item : (es : List Entry) (room n : ℕ) (i : Item) (start : ℕ) (b : List ℕ) → Shows es room n b i
     → read (kindNumber (find es n (itemTag i))) start b ≡ found (some (record { item = i; start = start; length = length b }))
-unfolding Shows itemTag read kindNumber uintIn intIn found kindOf uintOf intOf
+unfolding Shows itemTag read kindNumber uintIn intIn found itemKind uintOf intOf
 read-item es room n (Item.leaf t v) start b h = rw (h .0) (read-leaf (find es n t) t start b (h .1))
 read-item es room n (Item.nested t inside) start b h = rw (h .2)
 
@@ -65,29 +66,10 @@ unfolding chosenSpot nthSpot lastSpot chosen
 chosen-spot t (Nth k) s = refl
 chosen-spot t Last s = refl
 
+pub passed-cut : (t : Table) (n : ℕ) (s : List ℕ) → check t n s .refusal ≡ 0 → (cut : Cut) × (reading (entries t) n s ≡ accepted cut)
+passed-cut t n s e = check-passed t n s e .1
+
 module _ (t : Table) (n : ℕ) (s : List ℕ) where
-  -- A message that the check does not refuse is accepted by the reading.
-  pub check-passed : check t n s .refusal ≡ 0 → (cut : Cut) × (reading (entries t) n s ≡ accepted cut)
-  unfolding check checks.refusal counts reading
-  check-passed e = long (ltb (2 ^ 16) (length s)) e
-    where
-      seen : (r : Reading) → reading (entries t) n s ≡ r → counts (entries t) n r .refusal ≡ 0
-          → (cut : Cut) × (reading (entries t) n s ≡ accepted cut)
-      seen (accepted cut) f e = (cut, f)
-      seen (refused number place) f e =
-          let h = refusal-positive (entries t) 8 n 0 0 s number place f in absurd (omega arith)
-
-      bad : (b : Bool) → cond b (checks.refusal 2 0) (counts (entries t) n (reading (entries t) n s)) .refusal ≡ 0
-          → (cut : Cut) × (reading (entries t) n s ≡ accepted cut)
-      bad true e = absurd (omega arith)
-      bad false e = seen (reading (entries t) n s) refl e
-
-      long : (b : Bool)
-          → cond b (checks.refusal 1 0) (cond (not (valid t) || ltb 15 n) (checks.refusal 2 0) (counts (entries t) n (reading (entries t) n s))) .refusal ≡ 0
-          → (cut : Cut) × (reading (entries t) n s ≡ accepted cut)
-      long true e = absurd (omega arith)
-      long false e = bad (not (valid t) || ltb 15 n) e
-
   module _ (tag : ℕ) (which : Occurrence) where
     pub refused-first : (c : Checked) → c ≡ check t n s → (c .refusal ≡ 0 → ⊥) → refusal (c .refusal) (c .place) ≡ answer t n s tag which
     unfolding answer
@@ -121,15 +103,15 @@ module _ (t : Table) (n : ℕ) (s : List ℕ) where
 
     module _ (e : check t n s .refusal ≡ 0) where
       cut : Cut
-      cut = check-passed e .0
+      cut = passed-cut t n s e .0
 
       is-good : Good (entries t) 8 n s cut
       unfolding reading cut
-      is-good = accepted-good (entries t) 8 n 0 0 s (check-passed e .0) (check-passed e .1)
+      is-good = accepted-good (entries t) 8 n 0 0 s (passed-cut t n s e .0) (passed-cut t n s e .1)
 
       is-answered : answer t n s tag which ≡ found (wanted cut)
       unfolding cut
-      is-answered = answered e (check-passed e .0) (check-passed e .1)
+      is-answered = answered e (passed-cut t n s e .0) (passed-cut t n s e .1)
 
       pub absent : (p : Spot) → p ≡ chosenSpot tag which s → p ≡ Absent → refusal 18 0 ≡ answer t n s tag which
       unfolding spotOf found

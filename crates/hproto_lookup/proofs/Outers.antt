@@ -14,14 +14,14 @@ use Rattle.octets.specs.declared.Control.the-variants.{Whole}
 use Rattle.octets.specs.Number.{Octets}
 use Rattle.octets.proofs.Number.{octets-before, octets-after}
 use Rattle.octets.proofs.ControlPart.{control-append, control-nil, control-size, control-bounds}
-use Rattle.hproto_table.specs.Entry.{Entry, find}
+use Rattle.hproto_table.specs.Entry.{Entry, find, innerOf}
 use Rattle.hproto_table.specs.declared.Meaning.the-variants.{Message}
 use Rattle.hproto_message.specs.Cut as cuts
 use Rattle.hproto_message.specs.Cut.{Cut, joined, WholeField, Contents, Allowed, Good}
-use Rattle.hproto_message.specs.Tree.{tagOf, innerOf, value, tree}
+use Rattle.hproto_message.specs.Tree.{tagOf, value, tree}
 use Rattle.hproto_message.proofs.Steps.{in-three}
 use Rattle.hproto_lookup.specs.Lookup.{Item, items, Outer, outermost, itemTag, withTag}
-use Rattle.hproto_lookup.specs.Spots.{frontFrom, front, Place, afterPiece, placesFrom, places}
+use Rattle.hproto_lookup.specs.Spots.{frontFrom, front, Span, afterPiece, placesFrom, places}
 use Rattle.hproto_lookup.specs.declared.Piece.the-variants.{Field}
 use Rattle.hproto_lookup.proofs.Choosing.{Each, map-withTag}
 
@@ -120,7 +120,7 @@ module _ (es : List Entry) (room n : ℕ) (s : List ℕ) where
       )
 
 -- Where the contents of an outermost field start and end.
-abbrev pub placeOf : Outer → Place
+abbrev pub placeOf : Outer → Span
 placeOf o = record { start = o .start; end = o .start + o .length }
 
 module _ (es : List Entry) (n t : ℕ) where

@@ -14,7 +14,7 @@ use Rattle.hproto_message.specs.Tree.{tree}
 use Rattle.hproto_message.specs.Reading.{reading}
 use Rattle.hproto_message.proofs.Accepted.{good-accepted}
 use Rattle.hproto_check.specs.Check.{check}
-use Rattle.hproto_lookup.specs.Lookup.{Item, Outer, outermost, itemTag, withTag, chosen, kindOf, uintOf, intOf, refusal, found, answer, occurrence}
+use Rattle.hproto_lookup.specs.Lookup.{Item, Outer, outermost, itemTag, withTag, chosen, itemKind, uintOf, intOf, refusal, found, answer, occurrence}
 use Rattle.hproto_lookup.specs.declared.Occurrence.{Occurrence}
 use Rattle.hproto_lookup.specs.declared.Found.{Found}
 use Rattle.hproto_lookup.proofs.Choosing.{Of, chosen-map, chosen-none, withTag-map, withTag-none}
@@ -27,7 +27,7 @@ pub record Gives (es : List Entry) (n : ℕ) (s : List ℕ) (tag : ℕ) (i : Ite
   pub accepted : r .refusal ≡ 0
   pub nowhere : r .place ≡ 0
   pub tagged : itemTag i ≡ tag
-  pub kind : r .kind ≡ kindOf i
+  pub kind : r .kind ≡ itemKind i
   pub number : r .number ≡ uintOf i
   pub signed : r .signed ≡ intOf i
   pub inside : r .start + r .length ≤ length s

@@ -14,7 +14,7 @@ use Rattle.octets.specs.declared.Control.{Control}
 use Rattle.octets.specs.declared.Control.the-variants.{Absent, Partial, Whole}
 use Rattle.octets.proofs.ControlPart.{control-size}
 use Rattle.hproto_lookup.specs.Lookup.{kth, lastOr}
-use Rattle.hproto_lookup.specs.Spots.{frontFrom, front, Place, afterPiece, placesFrom, places, spotOf, nthSpot, lastSpot}
+use Rattle.hproto_lookup.specs.Spots.{frontFrom, front, Span, afterPiece, placesFrom, places, spotOf, nthSpot, lastSpot}
 use Rattle.hproto_lookup.specs.declared.Piece.the-variants.{Nothing, Field}
 use Rattle.hproto_lookup.specs.declared.Spot.{Spot}
 use Rattle.hproto_lookup.specs.declared.Spot.the-variants as spot
@@ -85,7 +85,7 @@ module _ (tag : ℕ) (s : List ℕ) where
     pub enough : length s < i + fuel
 
   -- The places from i on.
-  unfoldable pub rest : (i : ℕ) → Ahead i → List Place
+  unfoldable pub rest : (i : ℕ) → Ahead i → List Span
   rest i a = placesFrom tag (a .fuel) i (drop i s)
 
   at-start : Ahead 0
@@ -175,7 +175,7 @@ module _ (tag : ℕ) (s : List ℕ) where
   -- `best` is the last place before i, if there is one.
   pub record Latest (i : ℕ) (best : Spot) : Type 0 where
     pub ahead : Ahead i
-    pub held : Option Place
+    pub held : Option Span
     pub best-is : best ≡ spotOf held
     pub same : lastOr none (places tag s) ≡ lastOr held (rest i ahead)
 

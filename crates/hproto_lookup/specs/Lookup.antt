@@ -7,10 +7,10 @@ use lib.ListN as lists
 use lib.IntN.{ℤ, pos}
 use lib.Dec.{eqb}
 use Rattle.octets.specs.Control.{control}
-use Rattle.hproto_table.specs.Entry.{Entry, find, entries}
+use Rattle.hproto_table.specs.Entry.{Entry, find, entries, innerOf}
 use Rattle.hproto_table.specs.declared.Table.{Table}
 use Rattle.hproto_message.specs.Cut.{Cut, joined}
-use Rattle.hproto_message.specs.Tree.{Value, raw, uint, int, string, text, Tree, tagOf, innerOf, value, tree}
+use Rattle.hproto_message.specs.Tree.{Value, raw, uint, int, string, text, Tree, tagOf, value, tree}
 use Rattle.hproto_message.specs.Reading.{Reading, accepted, refused, reading}
 use Rattle.hproto_check.specs.Check.{check}
 use Rattle.hproto_lookup.specs.declared.Occurrence.{Occurrence}
@@ -74,13 +74,13 @@ chosen (Nth k) l = kth k l
 chosen Last l = lastOr none l
 
 -- Document 01's numbers for the kinds; raw is 0.
-unfoldable pub kindOf : Item → ℕ
-kindOf (leaf t (raw s)) = 0
-kindOf (leaf t (uint v)) = 1
-kindOf (leaf t (int z)) = 2
-kindOf (leaf t (string s)) = 3
-kindOf (leaf t (text s)) = 4
-kindOf (nested t inside) = 5
+unfoldable pub itemKind : Item → ℕ
+itemKind (leaf t (raw s)) = 0
+itemKind (leaf t (uint v)) = 1
+itemKind (leaf t (int z)) = 2
+itemKind (leaf t (string s)) = 3
+itemKind (leaf t (text s)) = 4
+itemKind (nested t inside) = 5
 
 -- The number of a uint.
 unfoldable pub uintOf : Item → ℕ
@@ -111,7 +111,7 @@ found (some o) =
     record {
       refusal = 0;
       place = 0;
-      kind = kindOf (o .item);
+      kind = itemKind (o .item);
       number = uintOf (o .item);
       signed = intOf (o .item);
       start = o .start;

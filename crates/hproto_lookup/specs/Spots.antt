@@ -35,26 +35,26 @@ unfoldable pub front : List ℕ → Piece
 front s = frontFrom s (control s)
 
 -- Where contents start and end.
-pub record Place : Type 0 where
+pub record Span : Type 0 where
   pub start : ℕ
   pub end : ℕ
 
 -- The places of the contents of the fields with a tag, from a place on, where `next` has those of the fields that follow.
-unfoldable pub afterPiece : ℕ → (ℕ → List ℕ → List Place) → ℕ → List ℕ → Piece → List Place
+unfoldable pub afterPiece : ℕ → (ℕ → List ℕ → List Span) → ℕ → List ℕ → Piece → List Span
 afterPiece tag next at s Nothing = []
 afterPiece tag next at s (Field t start end) =
     cond (eqb t tag) (record { start = at + start; end = at + end } ∷ next (at + end) (drop end s)) (next (at + end) (drop end s))
 
 -- The same for at most `left` fields.
-unfoldable pub placesFrom : ℕ → ℕ → ℕ → List ℕ → List Place
+unfoldable pub placesFrom : ℕ → ℕ → ℕ → List ℕ → List Span
 placesFrom tag zero at s = []
 placesFrom tag (suc left) at s = afterPiece tag (placesFrom tag left) at s (front s)
 
 -- A field takes an octet or more.
-unfoldable pub places : ℕ → List ℕ → List Place
+unfoldable pub places : ℕ → List ℕ → List Span
 places tag s = placesFrom tag (suc (length s)) 0 s
 
-unfoldable pub spotOf : Option Place → Spot
+unfoldable pub spotOf : Option Span → Spot
 spotOf none = spot.the-variants.Absent
 spotOf (some p) = spot.the-variants.At (p .start) (p .end)
 
@@ -67,14 +67,6 @@ lastSpot tag s = spotOf (lastOr none (places tag s))
 unfoldable pub chosenSpot : ℕ → Occurrence → List ℕ → Spot
 chosenSpot tag (Nth k) s = nthSpot tag k s
 chosenSpot tag Last s = lastSpot tag s
-
-unfoldable pub kindNumber : Meaning → ℕ
-kindNumber Raw = 0
-kindNumber Uint = 1
-kindNumber Int = 2
-kindNumber String = 3
-kindNumber Text = 4
-kindNumber (Message m) = 5
 
 -- A number that was read, 0 where the octets are too many.
 unfoldable pub uintOr : us.Unsigned → ℕ

@@ -7,7 +7,7 @@ use octets::Unsigned;
 ghost use mathlib.Core.Path.{_≡_};
 ghost use lib.ListN.{length, take, drop};
 ghost use Rattle.hproto_lookup.specs.Lookup.{refusal, answer, lookup as lookup-of, lookupLast};
-ghost use Rattle.hproto_lookup.specs.Spots.{front as front-of, nthSpot, lastSpot, chosenSpot, kindNumber, uintIn, intIn, read};
+ghost use Rattle.hproto_lookup.specs.Spots.{front as front-of, nthSpot, lastSpot, chosenSpot, uintIn, intIn, read};
 
 // Which of the fields with a tag is wanted.
 enum Occurrence {
@@ -136,19 +136,6 @@ fn pick(s: &[u8], tag: u64, which: Occurrence) -> Spot
     }
 }
 
-fn kind_number(kind: Meaning) -> u64
-    ensures { λ r. ⌜ r ≡ kindNumber kind ⌝ }
-{
-    match kind {
-        Meaning::Raw => 0,
-        Meaning::Uint => 1,
-        Meaning::Int => 2,
-        Meaning::String => 3,
-        Meaning::Text => 4,
-        Meaning::Message(_) => 5,
-    }
-}
-
 // The number of a uint, 0 for any other kind.
 fn unsigned(kind: u64, s: &[u8]) -> u64
     ensures { λ r. ⌜ r ≡ uintIn kind (now (s .entry)) ⌝ }
@@ -205,7 +192,11 @@ fn look(t: Table, number: u64, message: &[u8], tag: u64, which: Occurrence) -> F
         Spot::At { start, end } => {
             let words = t.words;
             let kind = hproto_find::find(&words, t.count, number, tag);
-            contents(kind_number(kind), start as u64, &message[start..end])
+            contents(
+                hproto_find::kind_number(kind),
+                start as u64,
+                &message[start..end],
+            )
         }
     }
 }

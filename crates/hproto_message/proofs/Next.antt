@@ -8,12 +8,12 @@ use Rattle.octets.specs.Control.{control}
 use Rattle.octets.specs.declared.Control.{Control}
 use Rattle.octets.specs.declared.Control.the-variants.{Absent, Partial, Whole}
 use Rattle.octets.proofs.ControlPart.{control-append, control-nil, control-size}
-use Rattle.hproto_table.specs.Entry.{Entry, find}
+use Rattle.hproto_table.specs.Entry.{Entry, find, innerOf}
 use Rattle.hproto_table.specs.declared.Meaning.{Meaning}
 use Rattle.hproto_table.specs.declared.Meaning.the-variants.{Raw, Uint, Int, String, Text, Message}
 use Rattle.hproto_message.specs.Cut as cuts
 use Rattle.hproto_message.specs.Cut.{Cut, joined, WholeField, Contents, LeafField, NestedField, Allowed, Good}
-use Rattle.hproto_message.specs.Tree.{Tree, tagOf, innerOf, value, tree}
+use Rattle.hproto_message.specs.Tree.{Tree, tagOf, value, tree}
 use Rattle.hproto_message.proofs.Steps.{in-three}
 
 -- The first field is no message.

@@ -3,8 +3,8 @@ use mathlib.Core.Path.{refl}
 use Rattle.octets.specs.Number as octets
 use Rattle.octets.specs.Signed as signs
 use Rattle.octets.specs.Control as controls
-use Rattle.hproto_table.specs.Entry.{find, meaning}
-use Rattle.hproto_message.specs.Tree.{tree, tagOf, innerOf, value}
+use Rattle.hproto_table.specs.Entry.{find, meaning, innerOf}
+use Rattle.hproto_message.specs.Tree.{tree, tagOf, value}
 use Rattle.hproto_message.specs.Reading as readings
 use Rattle.hproto_message.specs.Shortest.{shortest, field, leastContents}
 use Rattle.hproto_message.specs.Samples as samples

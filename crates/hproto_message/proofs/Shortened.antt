@@ -14,13 +14,13 @@ use Rattle.octets.proofs.Number.{octets-append, octets-before, octets-after, nu
 use Rattle.octets.proofs.Integer.{integer-leastInt, integer-in-range, octets-leastInt, leastInt-no-shorter}
 use Rattle.octets.proofs.Shorter.{NoShorter, no-shorter-self, no-shorter-append, no-shorter-other, leastUint-no-shorter}
 use Rattle.octets.proofs.ControlPart.{control-bounds, control-leastControl, octets-leastControl, leastControl-least}
-use Rattle.hproto_table.specs.Entry.{Entry, find}
+use Rattle.hproto_table.specs.Entry.{Entry, find, innerOf}
 use Rattle.hproto_table.specs.declared.Meaning.{Meaning}
 use Rattle.hproto_table.specs.declared.Meaning.the-variants.{Raw, Uint, Int, String, Text, Message}
 use Rattle.hproto_message.specs.Cut as cuts
 use Rattle.hproto_message.specs.Cut.{Cut, joined, WholeField, Contents, LeafField, NestedField, Allowed, Good}
 use Rattle.hproto_message.specs.Tree as trees
-use Rattle.hproto_message.specs.Tree.{Tree, Value, tagOf, innerOf, value, tree}
+use Rattle.hproto_message.specs.Tree.{Tree, Value, tagOf, value, tree}
 use Rattle.hproto_message.specs.Shortest.{leastContents, field, shortest}
 
 -- The tag of a whole field is that of its control part.

@@ -7,7 +7,7 @@ use Rattle.octets.specs.Signed.{integer}
 use Rattle.octets.specs.Control.{control}
 use Rattle.octets.specs.declared.Control.{Control}
 use Rattle.octets.specs.declared.Control.the-variants.{Absent, Partial, Whole}
-use Rattle.hproto_table.specs.Entry.{Entry, find}
+use Rattle.hproto_table.specs.Entry.{Entry, find, innerOf}
 use Rattle.hproto_table.specs.declared.Meaning.{Meaning}
 use Rattle.hproto_table.specs.declared.Meaning.the-variants.{Raw, Uint, Int, String, Text, Message}
 use Rattle.hproto_message.specs.Cut.{Cut}
@@ -38,13 +38,13 @@ depth end = 1
 depth (leaf tag value rest) = depth rest
 depth (nested tag inside rest) = max (suc (depth inside)) (depth rest)
 
--- The tag of a control part.
+-- The tag of a control part. The control part of a field of a good cut is whole.
 unfoldable pub tagOf : Control → ℕ
 tagOf Absent = 0
 tagOf Partial = 0
 tagOf (Whole tag length size) = tag
 
--- What contents mean as a field of each kind that is no message.
+-- What contents mean as a field of each kind that is no message. No good cut has a message as such a field.
 unfoldable pub value : Meaning → List ℕ → Value
 value Raw s = raw s
 value Uint s = uint (octets.number s)
@@ -52,15 +52,6 @@ value Int s = int (integer s)
 value String s = string s
 value Text s = text s
 value (Message m) s = raw s
-
--- The inner message number of a kind.
-unfoldable pub innerOf : Meaning → ℕ
-innerOf Raw = 0
-innerOf Uint = 0
-innerOf Int = 0
-innerOf String = 0
-innerOf Text = 0
-innerOf (Message m) = m
 
 -- The tree that a cut gives under a table and a message number.
 unfoldable pub tree : List Entry → ℕ → Cut → Tree

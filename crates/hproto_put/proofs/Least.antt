@@ -7,7 +7,7 @@ use mathlib.Core.List.{List, [], _∷_, _++_}
 use lib.ListN.{length, set, length-append}
 use lib.Dec.{ltb}
 use Rattle.octets.specs.Number.{octetsOf}
-use Rattle.octets.specs.Control.{Code, tagCode, lengthCode, firstFit, leastCode, leastControl, controlLeast}
+use Rattle.octets.specs.Control.{Code, tagCode, lengthCode, firstFit, leastCode, leastControl, controlWidths}
 use Rattle.octets.specs.declared.LeastControl.{LeastControl}
 use Rattle.octets.proofs.Number.{length-octetsOf}
 use Rattle.hproto_put.specs.Store.{stored}
@@ -57,10 +57,10 @@ leastCode-within n code v a = go (ltb v (code .direct))
     go true = omega arith
     go false = firstFit-within n (code .direct) (code .widths) v a
 
-module _ (tag len : ℕ) (c : LeastControl) (e : c ≡ controlLeast tag len) where
+module _ (tag len : ℕ) (c : LeastControl) (e : c ≡ controlWidths tag len) where
   -- The control octet, the octets of the tag and the octets of the length.
   pub leastControl-parts : leastControl tag len ≡ c .octet ∷ octetsOf (c .«tag_width») tag ++ octetsOf (c .«length_width») len
-  unfolding leastControl controlLeast
+  unfolding leastControl controlWidths
   leastControl-parts = rw (e, ← leastCode-octetsOf tagCode tag, ← leastCode-octetsOf lengthCode len)
 
   pub leastControl-size : length (leastControl tag len) ≡ 1 + c .«tag_width» + c .«length_width»
@@ -70,7 +70,7 @@ module _ (tag len : ℕ) (c : LeastControl) (e : c ≡ controlLeast tag len) whe
 
   -- At most two octets of the tag and eight of the length follow the control octet.
   pub leastControl-widths : (c .«tag_width» ≤ 2) × (c .«length_width» ≤ 8)
-  unfolding controlLeast Within
+  unfolding controlWidths Within
   leastControl-widths =
       rw e (leastCode-within 2 tagCode tag (omega arith, (omega arith, tt)), leastCode-within 8 lengthCode len (omega arith, (omega arith, (omega arith, (omega arith, tt)))))
 

@@ -22,46 +22,12 @@ use Rattle.hproto_put.proofs.Stores.{stored-fits}
 use Rattle.hproto_shorten.specs.Written.{short, shortestOf, Accepts}
 use Rattle.hproto_shorten.specs.Shorten.{refusal, shortUnder, shortForm, roomy, answerTo, bufferTo, answer, buffer, answerUnder, bufferUnder}
 use Rattle.hproto_shorten.specs.declared.Shortened.{Shortened}
+use Rattle.hproto_check.proofs.Passed.{under-passed}
 
 -- A message that the check does not refuse is short enough and accepted.
-pub under-passed : (es : List Entry) (n : ℕ) (s : List ℕ) → checkUnder es n s .refusal ≡ 0 → (length s ≤ 65536) × Accepts es 8 n s
-unfolding checkUnder checks.refusal Accepts counts reading
-under-passed es n s e = long (ltb (2 ^ 16) (length s)) refl e
-  where
-    read : (r : Reading) → reading es n s ≡ r → counts es n r .refusal ≡ 0 → Accepts es 8 n s
-    read (accepted cut) f e = (cut, f)
-    read (refused number place) f e = let h = refusal-positive es 8 n 0 0 s number place f in absurd (omega arith)
-
-    bad : (b : Bool) → length s ≤ 65536 → cond b (checks.refusal 2 0) (counts es n (reading es n s)) .refusal ≡ 0
-        → (length s ≤ 65536) × Accepts es 8 n s
-    bad true h e = absurd (omega arith)
-    bad false h e = (h, read (reading es n s) refl e)
-
-    long : (b : Bool) → ltb (2 ^ 16) (length s) ≡ b
-        → cond b (checks.refusal 1 0) (cond (ltb 15 n) (checks.refusal 2 0) (counts es n (reading es n s))) .refusal ≡ 0
-        → (length s ≤ 65536) × Accepts es 8 n s
-    long true f e = absurd (omega arith)
-    long false f e = bad (ltb 15 n) (ltb-false (2 ^ 16) (length s) f) e
-
-module _ (t : Table) (n : ℕ) (s : List ℕ) where
-  -- Where the check under a table refuses nothing, the table is one that the loader can give.
-  passed-under : check t n s .refusal ≡ 0 → checkUnder (entries t) n s .refusal ≡ 0
-  unfolding check checkUnder checks.refusal
-  passed-under e = long (ltb (2 ^ 16) (length s)) e
-    where
-      good : (v b : Bool) → cond (not v || b) (checks.refusal 2 0) (counts (entries t) n (reading (entries t) n s)) .refusal ≡ 0
-          → cond b (checks.refusal 2 0) (counts (entries t) n (reading (entries t) n s)) .refusal ≡ 0
-      good true b e = e
-      good false b e = absurd (omega arith)
-
-      long : (b : Bool)
-          → cond b (checks.refusal 1 0) (cond (not (valid t) || ltb 15 n) (checks.refusal 2 0) (counts (entries t) n (reading (entries t) n s))) .refusal ≡ 0
-          → cond b (checks.refusal 1 0) (cond (ltb 15 n) (checks.refusal 2 0) (counts (entries t) n (reading (entries t) n s))) .refusal ≡ 0
-      long true e = e
-      long false e = good (valid t) (ltb 15 n) e
-
-  pub check-passed : check t n s .refusal ≡ 0 → (length s ≤ 65536) × Accepts (entries t) 8 n s
-  check-passed e = under-passed (entries t) n s (passed-under e)
+pub passed-accepts : (es : List Entry) (n : ℕ) (s : List ℕ) → checkUnder es n s .refusal ≡ 0 → (length s ≤ 65536) × Accepts es 8 n s
+unfolding Accepts reading
+passed-accepts es n s e = under-passed es n s e
 
 pub short-under : (es : List Entry) (n : ℕ) (s : List ℕ) → shortUnder es n s ≡ short es 8 n s
 unfolding shortUnder short reading
@@ -116,3 +82,8 @@ module _ (t : Table) (n : ℕ) (s out : List ℕ) (h : length s ≤ 65536) (v : 
   pub buffer-under : bufferUnder (entries t) n s out ≡ buffer t n s out
   unfolding bufferUnder buffer shortForm
   buffer-under = ap (λ (c : Checked). bufferTo c (shortUnder (entries t) n s) out) (under-valid t n s h v)
+
+-- A refused call leaves the second buffer as it was.
+pub refused-leaves : (t : Table) (n : ℕ) (s out : List ℕ) → (answer t n s out .refusal ≡ 0 → ⊥) → buffer t n s out ≡ out
+unfolding answer buffer bufferTo
+refused-leaves t n s out ne = rw (ne-eqb (answerTo (check t n s) (shortForm t n s) out .refusal) 0 ne) refl

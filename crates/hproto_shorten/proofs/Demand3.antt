@@ -10,10 +10,11 @@ use Rattle.hproto_put.specs.Store.{stored}
 use Rattle.hproto_put.proofs.Stores.{stored-parts}
 use Rattle.octets.specs.Number.{Octets}
 use Rattle.hproto_table.specs.Entry.{entries}
-use Rattle.hproto_table.specs.Load.{load, Loadable}
+use Rattle.hproto_table.specs.Load.{load}
 use Rattle.hproto_table.specs.Valid.{valid}
 use Rattle.hproto_table.specs.declared.Table.{Table}
-use Rattle.hproto_table.proofs.Valid.{loadable-valid}
+use Rattle.hproto_table.specs.declared.Loaded.{Loaded}
+use Rattle.hproto_table.proofs.Placed.{loaded-valid}
 use Rattle.hproto_message.specs.Cut.{Cut, Good}
 use Rattle.hproto_message.specs.Tree.{Tree, tree}
 use Rattle.hproto_message.specs.Reading.{accepted, reading}
@@ -23,9 +24,11 @@ use Rattle.hproto_message.proofs.Shortened.{shortest-good, shortest-octets, sho
 use Rattle.hproto_check.specs.Check.{check, counts}
 use Rattle.hproto_check.proofs.Counts.{read-through}
 use Rattle.hproto_shorten.specs.Shorten.{shortForm, answer, buffer}
-use Rattle.hproto_shorten.specs.Demand3.{HasCut, ReadTheSame, Demand3}
+use Rattle.hproto_shorten.specs.Demand3.{HasCut, ReadTheSame, Demand3, Demand3Holds}
 use Rattle.hproto_shorten.proofs.Passing.{accepts-good, short-is}
-use Rattle.hproto_shorten.proofs.Answers.{check-passed, short-form, no-room, shortened}
+use Rattle.hproto_shorten.proofs.Answers.{short-form, no-room, shortened}
+use Rattle.hproto_check.proofs.Passed.{check-passed}
+use Rattle.hproto_shorten.specs.Written.{Accepts}
 
 module _ (t : Table) (n : ℕ) (v : valid t ≡ true) (k : n ≤ 15) where
   cut-accepted : (s : List ℕ) → length s ≤ 65536 → HasCut t n s → check t n s .refusal ≡ 0
@@ -35,6 +38,7 @@ module _ (t : Table) (n : ℕ) (v : valid t ≡ true) (k : n ≤ 15) where
       ap (λ (x : Rattle.hproto_check.specs.declared.Checked.Checked). x .refusal) (read-through t n s h v k ∙ ap (counts (entries t) n) e)
 
   accepted-cut : (s : List ℕ) → check t n s .refusal ≡ 0 → HasCut t n s
+  unfolding Accepts reading
   accepted-cut s e = accepts-good (entries t) 8 n s (check-passed t n s e .1)
 
   -- The short form is the shortest form of the tree of the cut.
@@ -91,12 +95,10 @@ module _ (t : Table) (n : ℕ) (v : valid t ≡ true) (k : n ≤ 15) where
         let r = no-room (check t n s) (shortForm t n s) out passes room in
         (sym (r .answered), sym (r .left))
 
--- For all table octets that load, all message numbers up to 15, all messages up to the limit and all second buffers.
-pub demand-3 : (octets : List ℕ) (t : Table) → Octets octets → load octets ≡ record { refusal = 0; place = 0; table = t }
-    → (n : ℕ) → n ≤ 15 → (s : List ℕ) → Octets s → length s ≤ 65536 → (out : List ℕ) → Demand3 t n s out
-unfolding Loadable
-demand-3 octets t to loaded n k s o h out =
-    let v : valid t ≡ true = loadable-valid t (octets, to, loaded) in
+pub demand-3 : Demand3Holds
+demand-3 octets to loaded n k s o h out =
+    let t = load octets .table in
+    let v : valid t ≡ true = loaded-valid octets (load octets) to refl loaded in
     record {
       accepted-exactly-cut = (accepted-cut t n v k s, cut-accepted t n v k s h);
       one-cut = good-cut-unique (entries t) 8 n s;
@@ -109,10 +111,11 @@ demand-3 octets t to loaded n k s o h out =
     }
 
 -- The short form of a short form is itself.
-pub shorten-again : (octets : List ℕ) (t : Table) → Octets octets → load octets ≡ record { refusal = 0; place = 0; table = t }
-    → (n : ℕ) → n ≤ 15 → (s : List ℕ) → Octets s → length s ≤ 65536 → HasCut t n s → shortForm t n (shortForm t n s) ≡ shortForm t n s
-unfolding Loadable
-shorten-again octets t to loaded n k s o h c =
-    let v : valid t ≡ true = loadable-valid t (octets, to, loaded) in
+pub shorten-again : (octets : List ℕ) → Octets octets → load octets .refusal ≡ 0 → (n : ℕ) → n ≤ 15 → (s : List ℕ) → Octets s → length s ≤ 65536
+    → HasCut (load octets .table) n s
+    → shortForm (load octets .table) n (shortForm (load octets .table) n s) ≡ shortForm (load octets .table) n s
+shorten-again octets to loaded n k s o h c =
+    let t = load octets .table in
+    let v : valid t ≡ true = loaded-valid octets (load octets) to refl loaded in
     let r = short-cut t n v k s o h c in
     short-of t n v k (shortForm t n s) (r .second) (r .second-good) ∙ ap shortest (r .same-tree) ∙ sym (short-of t n v k s (r .first) (r .first-good))

@@ -7,7 +7,7 @@ use lib.ListN.{length, drop, length-append}
 use lib.IntN.{ℤ, pos, negsuc}
 use Rattle.octets.specs.Number.{Octets, number}
 use Rattle.octets.specs.Signed.{integer, signedWidth}
-use Rattle.octets.specs.Control.{leastControl, controlLeast}
+use Rattle.octets.specs.Control.{leastControl, controlWidths}
 use Rattle.octets.proofs.Number.{length-leastUint, width-bound}
 use Rattle.octets.proofs.Integer.{length-leastInt}
 use Rattle.hproto_table.specs.Entry.{Entry}
@@ -41,47 +41,47 @@ least-few (Message m) s h = h
 
 pub control-few : (tag len : ℕ) → length (leastControl tag len) ≤ 11
 control-few tag len =
-    let s = leastControl-size tag len (controlLeast tag len) refl in
-    let w = leastControl-widths tag len (controlLeast tag len) refl in
+    let s = leastControl-size tag len (controlWidths tag len) refl in
+    let w = leastControl-widths tag len (controlWidths tag len) refl in
     let a = w .0 in
     let b = w .1 in
     omega arith
 
 -- The shortest form of an accepted message is no longer than the message.
-pub short-few : (es : List Entry) (room n : ℕ) (s : List ℕ) → Octets s → Accepts es room n s → length (short es room n s) ≤ length s
-short-few es room n s o a =
-    let g = accepts-good es room n s a in
-    rw (short-is es room n s (g .0) (g .1)) (shortest-no-longer es room n s (g .0) o (g .1))
+pub short-few : (es : List Entry) (levels n : ℕ) (s : List ℕ) → Octets s → Accepts es levels n s → length (short es levels n s) ≤ length s
+short-few es levels n s o a =
+    let g = accepts-good es levels n s a in
+    rw (short-is es levels n s (g .0) (g .1)) (shortest-no-longer es levels n s (g .0) o (g .1))
 
-module _ (es : List Entry) (room n : ℕ) (s : List ℕ) where
+module _ (es : List Entry) (levels n : ℕ) (s : List ℕ) where
   -- After i octets, `size` counts what has been passed.
   pub record Counted (i size : ℕ) : Type 0 where
     pub written : List ℕ
-    pub passed : Passed es room n s i written
+    pub passed : Passed es levels n s i written
     pub total : size ≡ length written
 
-  pub counted-none : Accepts es (suc room) n s → Counted 0 0
-  counted-none a = record { written = []; passed = nothing-passed es room n s a; total = refl }
+  pub counted-none : Accepts es (suc levels) n s → Counted 0 0
+  counted-none a = record { written = []; passed = nothing-passed es levels n s a; total = refl }
 
-  pub counted-all : (i size : ℕ) → Counted i size → length s ≤ i → size ≡ length (short es (suc room) n s)
-  counted-all i size p h = p .total ∙ sym (ap length (all-passed es room n s i (p .written) (p .passed) h))
+  pub counted-all : (i size : ℕ) → Counted i size → length s ≤ i → size ≡ length (short es (suc levels) n s)
+  counted-all i size p h = p .total ∙ sym (ap length (all-passed es levels n s i (p .written) (p .passed) h))
 
-  pub counted-few : (i size : ℕ) → Counted i size → size ≤ length (short es (suc room) n s)
-  counted-few i size p = let e = p .total in let k = passed-length es room n s i (p .written) (p .passed) in omega arith
+  pub counted-few : (i size : ℕ) → Counted i size → size ≤ length (short es (suc levels) n s)
+  counted-few i size p = let e = p .total in let k = passed-length es levels n s i (p .written) (p .passed) in omega arith
 
   module _ (i size : ℕ) (p : Counted i size) (more : i < length s) (o : Octets s) (f : Field) (found : f ≡ front es n (drop i s)) where
     abbrev contents : List ℕ
-    contents = part es room n s i (p .written) (p .passed) more f found
+    contents = part es levels n s i (p .written) (p .passed) more f found
 
     small : f .tag % 65536 ≡ f .tag
-    small = ends es room n s i (p .written) (p .passed) more f found o .tag-small
+    small = ends es levels n s i (p .written) (p .passed) more f found o .tag-small
 
     pub next-onward : (i < i + f .control + f .contents) × (i + f .control + f .contents ≤ length s)
     next-onward =
-        let h = ends es room n s i (p .written) (p .passed) more f found o in
+        let h = ends es levels n s i (p .written) (p .passed) more f found o in
         (h .onward, h .inside)
 
-    counted-next : (j : ℕ) (xs : List ℕ) → Passed es room n s j (p .written ++ xs) → Counted j (size + length xs)
+    counted-next : (j : ℕ) (xs : List ℕ) → Passed es levels n s j (p .written ++ xs) → Counted j (size + length xs)
     counted-next j xs q =
         let e = p .total in
         record { written = p .written ++ xs; passed = q; total = rw (length-append (p .written) xs) (omega arith) }
@@ -91,19 +91,19 @@ module _ (es : List Entry) (room n : ℕ) (s : List ℕ) where
     leaf-counted r q e =
         subst (λ (x : ℕ). Counted (i + f .control + f .contents) (size + x)) (sym (e ∙ rw small))
         (counted-next (i + f .control + f .contents) (field (f .tag) (leastContents (value (f .kind) contents)))
-        (leaf-passed es room n s i (p .written) (p .passed) more f found q))
+        (leaf-passed es levels n s i (p .written) (p .passed) more f found q))
 
     module _ (m : ℕ) (q : f .kind ≡ Message m) where
-      pub nested-accepts : (1 ≤ room) × Accepts es room m contents
+      pub nested-accepts : (1 ≤ levels) × Accepts es levels m contents
       nested-accepts =
-          let h = nested-passed es room n s i (p .written) (p .passed) more f found m q in
+          let h = nested-passed es levels n s i (p .written) (p .passed) more f found m q in
           (h .positive, h .accepts)
 
-      pub nested-counted : (k l : ℕ) → k ≡ length (short es room m contents) → l ≡ length (leastControl (f .tag % 65536) k)
+      pub nested-counted : (k l : ℕ) → k ≡ length (short es levels m contents) → l ≡ length (leastControl (f .tag % 65536) k)
           → Counted (i + f .control + f .contents) (size + (l + k))
       nested-counted k l a b =
-          let h = nested-passed es room n s i (p .written) (p .passed) more f found m q in
-          let xs = short es room m contents in
+          let h = nested-passed es levels n s i (p .written) (p .passed) more f found m q in
+          let xs = short es levels m contents in
           let c : l ≡ length (leastControl (f .tag) (length xs)) = b ∙ rw (small, a) in
           let e : length (field (f .tag) xs) ≡ l + k = field-length (f .tag) xs ∙ rw (a, c) in
           subst (λ (x : ℕ). Counted (i + f .control + f .contents) (size + x)) e

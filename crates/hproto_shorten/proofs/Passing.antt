@@ -25,7 +25,7 @@ use Rattle.hproto_message.proofs.Next.{NextLeaf, NextNested, Plain, next-leaf, 
 use Rattle.hproto_field.specs.Fronts.{front, frontFrom}
 use Rattle.hproto_field.proofs.Fields.{front-whole}
 use Rattle.hproto_field.specs.declared.Field.{Field}
-use Rattle.hproto_shorten.specs.Written.{shortestOf, short, Accepts, innerOf}
+use Rattle.hproto_shorten.specs.Written.{shortestOf, short, Accepts, heldIn}
 use Rattle.hproto_shorten.specs.declared.Inner.{Inner}
 use Rattle.hproto_shorten.specs.declared.Inner.the-variants.{None, Number}
 
@@ -46,8 +46,8 @@ octets-each [] h = tt
 octets-each (x ∷ s) h = (h 0, octets-each s (λ i. h (suc i)))
 
 -- A kind that holds no message is plain, one that holds one is that message's.
-pub plain-of : (k : Meaning) → innerOf k ≡ None → Plain k
-unfolding innerOf Plain
+pub plain-of : (k : Meaning) → heldIn k ≡ None → Plain k
+unfolding heldIn Plain
 plain-of Raw e = tt
 plain-of Uint e = tt
 plain-of Int e = tt
@@ -55,8 +55,8 @@ plain-of String e = tt
 plain-of Text e = tt
 plain-of (Message m) e = let z : _≡_ {A = ℕ} 0 1 = cc in absurd (omega arith)
 
-pub message-of : (k : Meaning) (m : ℕ) → innerOf k ≡ Number m → k ≡ Message m
-unfolding innerOf
+pub message-of : (k : Meaning) (m : ℕ) → heldIn k ≡ Number m → k ≡ Message m
+unfolding heldIn
 message-of Raw m e = let z : _≡_ {A = ℕ} 0 1 = cc in absurd (omega arith)
 message-of Uint m e = let z : _≡_ {A = ℕ} 0 1 = cc in absurd (omega arith)
 message-of Int m e = let z : _≡_ {A = ℕ} 0 1 = cc in absurd (omega arith)
@@ -65,36 +65,36 @@ message-of Text m e = let z : _≡_ {A = ℕ} 0 1 = cc in absurd (omega arith)
 message-of (Message k) m e = ap Message (cc)
 
 -- The cut of an accepted message, and its shortest form.
-pub short-is : (es : List Entry) (room n : ℕ) (s : List ℕ) (cut : Cut) → Good es room n s cut → short es room n s ≡ shortest (tree es n cut)
+pub short-is : (es : List Entry) (levels n : ℕ) (s : List ℕ) (cut : Cut) → Good es levels n s cut → short es levels n s ≡ shortest (tree es n cut)
 unfolding short shortestOf
-short-is es room n s cut g = rw (good-accepted es room n 0 0 s cut g)
+short-is es levels n s cut g = rw (good-accepted es levels n 0 0 s cut g)
 
-pub accepts-good : (es : List Entry) (room n : ℕ) (s : List ℕ) → Accepts es room n s → (cut : Cut) × Good es room n s cut
+pub accepts-good : (es : List Entry) (levels n : ℕ) (s : List ℕ) → Accepts es levels n s → (cut : Cut) × Good es levels n s cut
 unfolding Accepts
-accepts-good es room n s a = (a .0, accepted-good es room n 0 0 s (a .0) (a .1))
+accepts-good es levels n s a = (a .0, accepted-good es levels n 0 0 s (a .0) (a .1))
 
-pub good-accepts : (es : List Entry) (room n : ℕ) (s : List ℕ) (cut : Cut) → Good es room n s cut → Accepts es room n s
+pub good-accepts : (es : List Entry) (levels n : ℕ) (s : List ℕ) (cut : Cut) → Good es levels n s cut → Accepts es levels n s
 unfolding Accepts
-good-accepts es room n s cut g = (cut, good-accepted es room n 0 0 s cut g)
+good-accepts es levels n s cut g = (cut, good-accepted es levels n 0 0 s cut g)
 
-module _ (es : List Entry) (room n : ℕ) (s : List ℕ) where
+module _ (es : List Entry) (levels n : ℕ) (s : List ℕ) where
   -- After i octets, `written` is the shortest form of the fields passed.
   pub record Passed (i : ℕ) (written : List ℕ) : Type 0 where
     pub rest : Cut
-    pub good : Good es (suc room) n (drop i s) rest
+    pub good : Good es (suc levels) n (drop i s) rest
     pub inside : i ≤ length s
-    pub whole : short es (suc room) n s ≡ written ++ shortest (tree es n rest)
+    pub whole : short es (suc levels) n s ≡ written ++ shortest (tree es n rest)
 
-  pub nothing-passed : Accepts es (suc room) n s → Passed 0 []
+  pub nothing-passed : Accepts es (suc levels) n s → Passed 0 []
   nothing-passed a =
-      let g = accepts-good es (suc room) n s a in
-      record { rest = g .0; good = g .1; inside = omega arith; whole = short-is es (suc room) n s (g .0) (g .1) }
+      let g = accepts-good es (suc levels) n s a in
+      record { rest = g .0; good = g .1; inside = omega arith; whole = short-is es (suc levels) n s (g .0) (g .1) }
 
-  pub all-passed : (i : ℕ) (written : List ℕ) → Passed i written → length s ≤ i → short es (suc room) n s ≡ written
+  pub all-passed : (i : ℕ) (written : List ℕ) → Passed i written → length s ≤ i → short es (suc levels) n s ≡ written
   unfolding tree shortest
   all-passed i written p h =
       let k = p .inside in
-      let e : p .rest ≡ end = nothing-left es (suc room) n (drop i s) (p .rest) (p .good) (simp length-drop (omega arith)) in
+      let e : p .rest ≡ end = nothing-left es (suc levels) n (drop i s) (p .rest) (p .good) (simp length-drop (omega arith)) in
       p .whole ∙ ap (λ (c : Cut). written ++ shortest (tree es n c)) e ∙ append-nil written
 
   module _ (i : ℕ) (written : List ℕ) (p : Passed i written) (more : i < length s) (f : Field) (found : f ≡ front es n (drop i s)) where
@@ -102,7 +102,7 @@ module _ (es : List Entry) (room n : ℕ) (s : List ℕ) where
     front-is : (control (drop i s) ≡ Whole (f .tag) (f .contents) (f .control)) × (f .kind ≡ find es n (f .tag))
     front-is =
         let d = length-drop i s in
-        let w = fronted es (suc room) n (drop i s) (p .rest) (p .good) (omega arith) in
+        let w = fronted es (suc levels) n (drop i s) (p .rest) (p .good) (omega arith) in
         let b = w .inside in
         let e = found ∙ front-whole es n (drop i s) (w .tag) (w .len) (w .size) (w .control-part) (omega arith) in
         let t : f .tag ≡ w .tag = ap (λ (x : Field). x .tag) e in
@@ -138,7 +138,7 @@ module _ (es : List Entry) (room n : ℕ) (s : List ℕ) where
         let h = control-size (drop i s) (f .tag) (f .contents) (f .control) e in
         let x = h .0 in
         let y = h .1 in
-        let w = fronted es (suc room) n (drop i s) (p .rest) (p .good) (omega arith) in
+        let w = fronted es (suc levels) n (drop i s) (p .rest) (p .good) (omega arith) in
         let z = w .inside in
         let wc = w .control-part in
         let l : w .len ≡ f .contents = cc in
@@ -156,7 +156,7 @@ module _ (es : List Entry) (room n : ℕ) (s : List ℕ) where
     unfolding shortest
     leaf-passed q =
         let k = front-is .1 in
-        let x = next-leaf es room n (f .tag) (f .contents) (f .control) (drop i s) (p .rest) (p .good) (front-is .0) (subst Plain k q) in
+        let x = next-leaf es levels n (f .tag) (f .contents) (f .control) (drop i s) (p .rest) (p .good) (front-is .0) (subst Plain k q) in
         let v = value (f .kind) part in
         let t : tree es n (p .rest) ≡ Tree.leaf (f .tag) v (tree es n (x .rest)) = x .tree-is ∙ rw (part-is, ← k) in
         let b = x .inside in
@@ -164,7 +164,7 @@ module _ (es : List Entry) (room n : ℕ) (s : List ℕ) where
         let j = p .inside in
         record {
           rest = x .rest;
-          good = subst (λ (r : List ℕ). Good es (suc room) n r (x .rest)) rest-is (x .good);
+          good = subst (λ (r : List ℕ). Good es (suc levels) n r (x .rest)) rest-is (x .good);
           inside = omega arith;
           whole =
               p .whole ∙ ap (λ (y : Tree). written ++ shortest y) t
@@ -174,41 +174,41 @@ module _ (es : List Entry) (room n : ℕ) (s : List ℕ) where
     pub leaf-contents : Plain (f .kind) → Contents (f .kind) part
     leaf-contents q =
         let k = front-is .1 in
-        let x = next-leaf es room n (f .tag) (f .contents) (f .control) (drop i s) (p .rest) (p .good) (front-is .0) (subst Plain k q) in
+        let x = next-leaf es levels n (f .tag) (f .contents) (f .control) (drop i s) (p .rest) (p .good) (front-is .0) (subst Plain k q) in
         rw (k, ← part-is) (x .contents)
 
     -- A field that is a message of the number m: it is accepted, and its shortest form with a control part is the next part.
     pub record NestedPassed (m : ℕ) : Type 0 where
-      pub accepts : Accepts es room m part
-      pub passed : Passed (i + f .control + f .contents) (written ++ field (f .tag) (short es room m part))
-      pub positive : 1 ≤ room
+      pub accepts : Accepts es levels m part
+      pub passed : Passed (i + f .control + f .contents) (written ++ field (f .tag) (short es levels m part))
+      pub positive : 1 ≤ levels
 
     pub nested-passed : (m : ℕ) → f .kind ≡ Message m → NestedPassed m
     unfolding shortest
     nested-passed m q =
         let k = front-is .1 in
-        let x = next-nested es room n (f .tag) (f .contents) (f .control) (drop i s) (p .rest) (p .good) (front-is .0) m (sym k ∙ q) in
-        let g : Good es room m part (x .inner) = subst (λ (r : List ℕ). Good es room m r (x .inner)) part-is (x .good-inner) in
-        let e = short-is es room m part (x .inner) g in
+        let x = next-nested es levels n (f .tag) (f .contents) (f .control) (drop i s) (p .rest) (p .good) (front-is .0) m (sym k ∙ q) in
+        let g : Good es levels m part (x .inner) = subst (λ (r : List ℕ). Good es levels m r (x .inner)) part-is (x .good-inner) in
+        let e = short-is es levels m part (x .inner) g in
         let b = x .inside in
         let d = length-drop i s in
         let j = p .inside in
         let y = g .shallow in
         let z = depth-positive (x .inner) in
         record {
-          accepts = good-accepts es room m part (x .inner) g;
+          accepts = good-accepts es levels m part (x .inner) g;
           passed =
               record {
                 rest = x .rest;
-                good = subst (λ (r : List ℕ). Good es (suc room) n r (x .rest)) rest-is (x .good);
+                good = subst (λ (r : List ℕ). Good es (suc levels) n r (x .rest)) rest-is (x .good);
                 inside = omega arith;
                 whole =
                     p .whole ∙ ap (λ (y : Tree). written ++ shortest y) (x .tree-is)
-                    ∙ rw (← e) (sym (append-assoc written (field (f .tag) (short es room m part)) (shortest (tree es n (x .rest)))));
+                    ∙ rw (← e) (sym (append-assoc written (field (f .tag) (short es levels m part)) (shortest (tree es n (x .rest)))));
               };
           positive = omega arith;
         }
 
   -- What has been passed is no longer than the whole.
-  pub passed-length : (i : ℕ) (written : List ℕ) → Passed i written → length written ≤ length (short es (suc room) n s)
+  pub passed-length : (i : ℕ) (written : List ℕ) → Passed i written → length written ≤ length (short es (suc levels) n s)
   passed-length i written p = rw (p .whole) (simp length-append (omega arith))

@@ -8,8 +8,8 @@ use mathlib.Core.Bool.{Bool, true, false, cond}
 use lib.Dec.{leb}
 use lib.IntN.{ℤ}
 use borrow.Author.Tests.{le-leb}
-use Rattle.octets.specs.Number.{number, octetsOf, unsigned, leastUint, uintLeast}
-use Rattle.octets.specs.Signed.{integer, signed, leastInt, intLeast}
+use Rattle.octets.specs.Number.{number, octetsOf, unsigned, leastUint, uintWidthBits}
+use Rattle.octets.specs.Signed.{integer, signed, leastInt, intWidthBits}
 use Rattle.octets.specs.declared.Least.{Least}
 use Rattle.octets.specs.declared.Unsigned.{Unsigned}
 use Rattle.octets.specs.declared.Unsigned.the-variants.{Value as UValue, Long as ULong}
@@ -68,10 +68,10 @@ unfolding signed
 signed-long s e h = let f = le-leb (length s) 8 h in let z : _≡_ {A = ℕ} 0 1 = cc in omega arith
 
 -- The octets of a least form are the least octets.
-pub uint-octets : (r : Least) (v : ℕ) → r ≡ uintLeast v → octetsOf (r .width) (r .bits) ≡ leastUint v
-unfolding uintLeast leastUint
+pub uint-octets : (r : Least) (v : ℕ) → r ≡ uintWidthBits v → octetsOf (r .width) (r .bits) ≡ leastUint v
+unfolding uintWidthBits leastUint
 uint-octets r v e = rw e
 
-pub int-octets : (r : Least) (z : ℤ) → r ≡ intLeast z → octetsOf (r .width) (r .bits) ≡ leastInt z
-unfolding intLeast leastInt
+pub int-octets : (r : Least) (z : ℤ) → r ≡ intWidthBits z → octetsOf (r .width) (r .bits) ≡ leastInt z
+unfolding intWidthBits leastInt
 int-octets r z e = rw e

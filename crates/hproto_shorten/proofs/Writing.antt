@@ -23,36 +23,36 @@ use Rattle.hproto_shorten.proofs.Passing.{Passed, nothing-passed, all-p
 use Rattle.hproto_shorten.proofs.Puts.{field-length}
 
 -- A message that is accepted may be one deep or more.
-pub accepts-room : (es : List Entry) (room n : ℕ) (s : List ℕ) → Accepts es room n s → suc (room - 1) ≡ room
+pub accepts-levels : (es : List Entry) (levels n : ℕ) (s : List ℕ) → Accepts es levels n s → suc (levels - 1) ≡ levels
 unfolding Accepts messageFrom
-accepts-room es zero n s a = let e = a .1 in let z : _≡_ {A = ℕ} 0 1 = cc in absurd (omega arith)
-accepts-room es (suc room) n s a = omega arith
+accepts-levels es zero n s a = let e = a .1 in let z : _≡_ {A = ℕ} 0 1 = cc in absurd (omega arith)
+accepts-levels es (suc levels) n s a = omega arith
 
-module _ (es : List Entry) (room n : ℕ) (s before : List ℕ) (to : ℕ) where
+module _ (es : List Entry) (levels n : ℕ) (s before : List ℕ) (to : ℕ) where
   -- After i octets the buffer holds what has been passed, from `to` up to `end`.
   pub record Progress (i end : ℕ) (out : List ℕ) : Type 0 where
     pub written : List ℕ
-    pub passed : Passed es room n s i written
+    pub passed : Passed es levels n s i written
     pub place : end ≡ to + length written
     pub buffer : out ≡ stored before to written
 
-  pub begun : Accepts es (suc room) n s → Progress 0 to before
-  begun a = record { written = []; passed = nothing-passed es room n s a; place = omega arith; buffer = sym (stored-nothing before to) }
+  pub begun : Accepts es (suc levels) n s → Progress 0 to before
+  begun a = record { written = []; passed = nothing-passed es levels n s a; place = omega arith; buffer = sym (stored-nothing before to) }
 
-  pub ended : (i end : ℕ) (out : List ℕ) → Progress i end out → length s ≤ i → Put before to (short es (suc room) n s) end out
+  pub ended : (i end : ℕ) (out : List ℕ) → Progress i end out → length s ≤ i → Put before to (short es (suc levels) n s) end out
   ended i end out p h =
-      let e = all-passed es room n s i (p .written) (p .passed) h in
+      let e = all-passed es levels n s i (p .written) (p .passed) h in
       record { place = rw e (p .place); buffer = rw e (p .buffer) }
 
   pub same-length : (i end : ℕ) (out : List ℕ) → Progress i end out → length out ≡ length before
   same-length i end out p = ap length (p .buffer) ∙ length-stored before to (p .written)
 
-  module _ (fits : to + length (short es (suc room) n s) ≤ length before) (i end : ℕ) (out : List ℕ) (p : Progress i end out) where
+  module _ (fits : to + length (short es (suc levels) n s) ≤ length before) (i end : ℕ) (out : List ℕ) (p : Progress i end out) where
     -- One more part, stored where the buffer's part ends.
-    stored-next : (j r : ℕ) (xs after : List ℕ) → Passed es room n s j (p .written ++ xs) → Put out end xs r after → Progress j r after
+    stored-next : (j r : ℕ) (xs after : List ℕ) → Passed es levels n s j (p .written ++ xs) → Put out end xs r after → Progress j r after
     stored-next j r xs after q put =
         let e = p .place in
-        let k = passed-length es room n s j (p .written ++ xs) q in
+        let k = passed-length es levels n s j (p .written ++ xs) q in
         let l = length-append (p .written) xs in
         let x = put .place in
         record {
@@ -64,56 +64,56 @@ module _ (es : List Entry) (room n : ℕ) (s before : List ℕ) (to : ℕ) where
         }
 
     -- One more part has room.
-    next-fits : (j : ℕ) (xs : List ℕ) → Passed es room n s j (p .written ++ xs) → end + length xs ≤ length out
+    next-fits : (j : ℕ) (xs : List ℕ) → Passed es levels n s j (p .written ++ xs) → end + length xs ≤ length out
     next-fits j xs q =
         let e = p .place in
-        let k = passed-length es room n s j (p .written ++ xs) q in
+        let k = passed-length es levels n s j (p .written ++ xs) q in
         let l = length-append (p .written) xs in
         let m = same-length i end out p in
         omega arith
 
     module _ (more : i < length s) (o : Octets s) (f : Field) (found : f ≡ front es n (drop i s)) where
       abbrev pub contents : List ℕ
-      contents = part es room n s i (p .written) (p .passed) more f found
+      contents = part es levels n s i (p .written) (p .passed) more f found
 
       abbrev pub next : ℕ
       next = i + f .control + f .contents
 
       small : f .tag % 65536 ≡ f .tag
-      small = ends es room n s i (p .written) (p .passed) more f found o .tag-small
+      small = ends es levels n s i (p .written) (p .passed) more f found o .tag-small
 
       pub next-onward : (i < next) × (next ≤ length s)
       next-onward =
-          let h = ends es room n s i (p .written) (p .passed) more f found o in
+          let h = ends es levels n s i (p .written) (p .passed) more f found o in
           (h .onward, h .inside)
 
       pub leaf-fits : Plain (f .kind) → end + length (field (f .tag % 65536) (leastContents (value (f .kind) contents))) ≤ length out
-      leaf-fits q = rw small (next-fits next (field (f .tag) (leastContents (value (f .kind) contents))) (leaf-passed es room n s i (p .written) (p .passed) more f found q))
+      leaf-fits q = rw small (next-fits next (field (f .tag) (leastContents (value (f .kind) contents))) (leaf-passed es levels n s i (p .written) (p .passed) more f found q))
 
       pub leaf-written : (r : ℕ) (after : List ℕ) → Plain (f .kind)
           → Put out end (field (f .tag % 65536) (leastContents (value (f .kind) contents))) r after → Progress next r after
       leaf-written r after q put =
           stored-next next r (field (f .tag) (leastContents (value (f .kind) contents))) after
-          (leaf-passed es room n s i (p .written) (p .passed) more f found q)
+          (leaf-passed es levels n s i (p .written) (p .passed) more f found q)
           (subst (λ (t : ℕ). Put out end (field t (leastContents (value (f .kind) contents))) r after) small put)
 
       module _ (m : ℕ) (q : f .kind ≡ Message m) where
-        pub nested-accepts : (1 ≤ room) × Accepts es room m contents
+        pub nested-accepts : (1 ≤ levels) × Accepts es levels m contents
         nested-accepts =
-            let h = nested-passed es room n s i (p .written) (p .passed) more f found m q in
+            let h = nested-passed es levels n s i (p .written) (p .passed) more f found m q in
             (h .positive, h .accepts)
 
-        whole-fits : end + (length (leastControl (f .tag) (length (short es room m contents))) + length (short es room m contents)) ≤ length out
+        whole-fits : end + (length (leastControl (f .tag) (length (short es levels m contents))) + length (short es levels m contents)) ≤ length out
         whole-fits =
-            let h = nested-passed es room n s i (p .written) (p .passed) more f found m q in
-            subst (λ (l : ℕ). end + l ≤ length out) (field-length (f .tag) (short es room m contents))
-            (next-fits next (field (f .tag) (short es room m contents)) (h .passed))
+            let h = nested-passed es levels n s i (p .written) (p .passed) more f found m q in
+            subst (λ (l : ℕ). end + l ≤ length out) (field-length (f .tag) (short es levels m contents))
+            (next-fits next (field (f .tag) (short es levels m contents)) (h .passed))
 
-        pub nested-fits : end + length (short es room m contents) ≤ length out
+        pub nested-fits : end + length (short es levels m contents) ≤ length out
         nested-fits = let h = whole-fits in omega arith
 
-        module _ (x : ℕ) (between : List ℕ) (put : Put out end (short es room m contents) x between) where
-          inner-length : x - end ≡ length (short es room m contents)
+        module _ (x : ℕ) (between : List ℕ) (put : Put out end (short es levels m contents) x between) where
+          inner-length : x - end ≡ length (short es levels m contents)
           inner-length = let h = put .place in omega arith
 
           pub inner-after : end ≤ x
@@ -122,7 +122,7 @@ module _ (es : List Entry) (room n : ℕ) (s before : List ℕ) (to : ℕ) where
           pub wrap-fits : end + length (leastControl (f .tag % 65536) (x - end)) + (x - end) ≤ length between
           wrap-fits =
               let h = whole-fits in
-              let l = ap length (put .buffer) ∙ length-stored out end (short es room m contents) in
+              let l = ap length (put .buffer) ∙ length-stored out end (short es levels m contents) in
               rw (small, inner-length) (omega arith)
 
           pub nested-written : (r : ℕ) (after : List ℕ) → r ≡ end + length (leastControl (f .tag % 65536) (x - end)) + (x - end)
@@ -130,8 +130,8 @@ module _ (es : List Entry) (room n : ℕ) (s before : List ℕ) (to : ℕ) where
               → Progress next r after
           unfolding field
           nested-written r after a b =
-              let h = nested-passed es room n s i (p .written) (p .passed) more f found m q in
-              let xs = short es room m contents in
+              let h = nested-passed es levels n s i (p .written) (p .passed) more f found m q in
+              let xs = short es levels m contents in
               let k = whole-fits in
               let fl = field-length (f .tag) xs in
               let a′ : r ≡ end + length (leastControl (f .tag) (length xs)) + length xs = rw (small, inner-length) at a in

@@ -7,7 +7,9 @@ use mathlib.Core.Logic.{_↔_}
 use lib.ListN.{length, drop}
 use Rattle.octets.specs.Number.{Octets}
 use Rattle.hproto_table.specs.Entry.{entries}
+use Rattle.hproto_table.specs.Load.{load}
 use Rattle.hproto_table.specs.declared.Table.{Table}
+use Rattle.hproto_table.specs.declared.Loaded.{Loaded}
 use Rattle.hproto_message.specs.Cut.{Cut, Good}
 use Rattle.hproto_message.specs.Tree.{tree}
 use Rattle.hproto_check.specs.Check.{check}
@@ -45,3 +47,10 @@ pub record Demand3 (t : Table) (n : ℕ) (s out : List ℕ) : Type 0 where
   -- Without room it refuses with 9 and leaves every octet.
   pub without-room : HasCut t n s → length out < length (shortForm t n s)
       → (answer t n s out ≡ record { refusal = 9; place = 0; length = 0 }) × (buffer t n s out ≡ out)
+
+-- Demand 3 of the order: this holds for all table octets that the loader does not refuse, all message numbers up to 15, all messages of
+-- at most 65,536 octets and all second buffers.
+abbrev pub Demand3Holds : Type 0
+Demand3Holds =
+    (octets : List ℕ) → Octets octets → load octets .refusal ≡ 0
+    → (n : ℕ) → n ≤ 15 → (s : List ℕ) → Octets s → length s ≤ 65536 → (out : List ℕ) → Demand3 (load octets .table) n s out

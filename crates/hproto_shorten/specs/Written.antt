@@ -19,22 +19,22 @@ unfoldable pub shortestOf : List Entry → ℕ → Reading → List ℕ
 shortestOf es n (accepted cut) = shortest (tree es n cut)
 shortestOf es n (refused number place) = []
 
--- The shortest form of a message of a number, at most `room` messages deep.
+-- The shortest form of a message of a number, at most `levels` messages deep.
 unfoldable pub short : List Entry → ℕ → ℕ → List ℕ → List ℕ
-short es room n s = shortestOf es n (messageFrom es room n 0 0 s)
+short es levels n s = shortestOf es n (messageFrom es levels n 0 0 s)
 
 -- The message is accepted.
 unfoldable pub Accepts : List Entry → ℕ → ℕ → List ℕ → Type 0
-Accepts es room n s = (cut : Cut) × (messageFrom es room n 0 0 s ≡ accepted cut)
+Accepts es levels n s = (cut : Cut) × (messageFrom es levels n 0 0 s ≡ accepted cut)
 
 -- The number of the message that a field of a kind holds, if it holds one.
-unfoldable pub innerOf : Meaning → Inner
-innerOf Raw = None
-innerOf Uint = None
-innerOf Int = None
-innerOf String = None
-innerOf Text = None
-innerOf (Message m) = Number m
+unfoldable pub heldIn : Meaning → Inner
+heldIn Raw = None
+heldIn Uint = None
+heldIn Int = None
+heldIn String = None
+heldIn Text = None
+heldIn (Message m) = Number m
 
 -- A store of octets from a place on: the place after them, and the buffer afterwards.
 pub record Put (before : List ℕ) (to : ℕ) (octets : List ℕ) (end : ℕ) (after : List ℕ) : Type 0 where

@@ -18,7 +18,7 @@ ghost use Rattle.hproto_message.specs.Tree.{value};
 ghost use Rattle.hproto_message.specs.Shortest.{field, leastContents};
 ghost use lib.Dec.{leb};
 ghost use Rattle.hproto_shorten.specs.Shorten.{answer, buffer, answerUnder, bufferUnder, refusal};
-ghost use Rattle.hproto_shorten.specs.Written.{short, Accepts, innerOf, Put};
+ghost use Rattle.hproto_shorten.specs.Written.{short, Accepts, heldIn, Put};
 
 // The number of the message that a field holds, if it holds one.
 enum Inner {
@@ -34,7 +34,7 @@ pub struct Shortened {
 }
 
 fn held(kind: Meaning) -> Inner
-    ensures { λ r. ⌜ r ≡ innerOf kind ⌝ }
+    ensures { λ r. ⌜ r ≡ heldIn kind ⌝ }
 {
     match kind {
         Meaning::Raw => Inner::None,
@@ -127,15 +127,15 @@ fn write(
     words: &[u64],
     count: usize,
     number: u64,
-    room: u64,
+    levels: u64,
     s: &[u8],
     out: &mut [u8],
     to: usize,
 ) -> usize
     requires { ⌜ Octets (now s) ⌝ }
-    requires { ⌜ Accepts (map entry (take count (now words))) room number (now s) ⌝ }
-    requires { ⌜ to + length (short (map entry (take count (now words))) room number (now s)) ≤ length (now out) ⌝ }
-    ensures { λ r. ⌜ Put (now (out .entry)) to (short (map entry (take count (now (words .entry)))) room number (now (s .entry))) r (now (out .exit)) ⌝ }
+    requires { ⌜ Accepts (map entry (take count (now words))) levels number (now s) ⌝ }
+    requires { ⌜ to + length (short (map entry (take count (now words))) levels number (now s)) ≤ length (now out) ⌝ }
+    ensures { λ r. ⌜ Put (now (out .entry)) to (short (map entry (take count (now (words .entry)))) levels number (now (s .entry))) r (now (out .exit)) ⌝ }
 {
     let mut i: usize = 0;
     let mut end = to;
@@ -144,6 +144,7 @@ fn write(
         let kind = f.kind;
         let a = i + f.control;
         let e = a + f.contents;
+        // The tag of a field is below 65,536.
         let tag = (f.tag % 65536) as u16;
         match held(kind) {
             Inner::None => {
@@ -151,7 +152,7 @@ fn write(
                 i = e;
             }
             Inner::Number(m) => {
-                let after = write(words, count, m, room - 1, &s[a..e], out, end);
+                let after = write(words, count, m, levels - 1, &s[a..e], out, end);
                 end = wrap(tag, out, end, after - end);
                 i = e;
             }
@@ -206,11 +207,11 @@ fn value_size(kind: Meaning, tag: u16, s: &[u8]) -> usize
 }
 
 // How many octets the shortest form of an accepted message takes.
-fn measure(words: &[u64], count: usize, number: u64, room: u64, s: &[u8]) -> usize
+fn measure(words: &[u64], count: usize, number: u64, levels: u64, s: &[u8]) -> usize
     requires { ⌜ length (now s) ≤ 65536 ⌝ }
     requires { ⌜ Octets (now s) ⌝ }
-    requires { ⌜ Accepts (map entry (take count (now words))) room number (now s) ⌝ }
-    ensures { λ r. ⌜ r ≡ length (short (map entry (take count (now (words .entry)))) room number (now (s .entry))) ⌝ }
+    requires { ⌜ Accepts (map entry (take count (now words))) levels number (now s) ⌝ }
+    ensures { λ r. ⌜ r ≡ length (short (map entry (take count (now (words .entry)))) levels number (now (s .entry))) ⌝ }
 {
     let mut i: usize = 0;
     let mut size: usize = 0;
@@ -226,7 +227,7 @@ fn measure(words: &[u64], count: usize, number: u64, room: u64, s: &[u8]) -> usi
                 i = e;
             }
             Inner::Number(m) => {
-                let n = measure(words, count, m, room - 1, &s[a..e]);
+                let n = measure(words, count, m, levels - 1, &s[a..e]);
                 size = size + (hproto_put::control_size(tag, n as u64) + n);
                 i = e;
             }
@@ -260,7 +261,8 @@ fn refused(number: u64, place: u64) -> Shortened
 }
 
 // Writes the shortest octets that read the same as a message at the front of a second buffer and answers their length, under the first
-// words of a table, whatever they are. A caller that has just loaded the table, or tested it, need not have it tested again.
+// words of a table, whatever they are: no entry, since an entry refuses words that no loader gives with 2. A caller that has just loaded
+// the table, or tested it, need not have it tested again.
 pub fn shorten_under(
     words: &[u64],
     count: usize,

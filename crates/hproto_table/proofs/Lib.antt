@@ -3,3 +3,4 @@ pub mod Lists
 pub mod Repeat
 pub mod Load
 pub mod Valid
+pub mod Placed

@@ -24,6 +24,24 @@ meaning e =
     (cond (eqb (e .kind) 4) Text
     (cond (eqb (e .kind) 5) (Message (e .inner)) Raw))))
 
+-- The number of a kind; 0 for a tag that the table does not have.
+unfoldable pub kindNumber : Meaning → ℕ
+kindNumber Raw = 0
+kindNumber Uint = 1
+kindNumber Int = 2
+kindNumber String = 3
+kindNumber Text = 4
+kindNumber (Message m) = 5
+
+-- The number of the message that a kind holds; 0 where it holds none.
+unfoldable pub innerOf : Meaning → ℕ
+innerOf Raw = 0
+innerOf Uint = 0
+innerOf Int = 0
+innerOf String = 0
+innerOf Text = 0
+innerOf (Message m) = m
+
 -- What a tag means in messages of a number.
 unfoldable pub find : List Entry → ℕ → ℕ → Meaning
 find [] number tag = Raw

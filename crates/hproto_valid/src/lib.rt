@@ -1,4 +1,4 @@
-// Whether a table value is one that the loader can give. Every public entry that takes a table value asks this before it reads anything under the table.
+// Whether a table value is one that the loader can give. No entry accepts a call with a table value that is not.
 use hproto_table::Table;
 ghost use mathlib.Core.Path.{_≡_};
 ghost use mathlib.Core.Bool.{_&&_};

@@ -13,7 +13,7 @@ use Rattle.hproto_message.specs.Shortest.{field}
 use Rattle.hproto_put.specs.Store.{stored}
 use Rattle.hproto_put.proofs.Stores.{drop-stored}
 use Rattle.hproto_writer.specs.Sound.{sound}
-use Rattle.hproto_writer.specs.Calls.{demand, answered, left, back, put, putLeft, putRefusal, closingPart, closeEarly, closeRefusal, closing, closingLeft, outer}
+use Rattle.hproto_writer.specs.Calls.{orRefuse, answered, left, back, put, putBuffer, putRefusal, closingPart, closeEarly, closeRefusal, closing, closeBuffer, outer}
 use Rattle.hproto_writer.specs.declared.State.{State}
 use Rattle.hproto_writer.proofs.Refusals.{put-met, sound-within}
 
@@ -30,16 +30,16 @@ module _ (t : Table) (s : State) (tag : ℕ) (agrees reads : Bool) (xs d : List 
   unfolding put answered back
   put-start = rw e refl
 
-  pub put-adds : drop (s .start - length (field tag xs)) (putLeft t s tag agrees reads xs d) ≡ field tag xs ++ drop (s .start) d
-  unfolding putLeft left
+  pub put-adds : drop (s .start - length (field tag xs)) (putBuffer t s tag agrees reads xs d) ≡ field tag xs ++ drop (s .start) d
+  unfolding putBuffer left
   put-adds =
       let m = put-met t s (length d) agrees reads (length (field tag xs)) e in
       let w = sound-within s (m .good) in
       let l = m .same in
       rw e (before-others d (s .start) (field tag xs) (m .room) (omega arith))
 
-all-met : (a b d f g : Bool) → demand a 10 (demand b 10 (demand d 2 (demand f 11 (demand g 9 0)))) ≡ 0 → (a ≡ true) × (b ≡ true) × (g ≡ true)
-unfolding demand
+all-met : (a b d f g : Bool) → orRefuse a 10 (orRefuse b 10 (orRefuse d 2 (orRefuse f 11 (orRefuse g 9 0)))) ≡ 0 → (a ≡ true) × (b ≡ true) × (g ≡ true)
+unfolding orRefuse
 all-met false b d f g e = absurd (omega arith)
 all-met true false d f g e = absurd (omega arith)
 all-met true true false f g e = absurd (omega arith)
@@ -57,8 +57,8 @@ module _ (t : Table) (s : State) (d : List ℕ) (e : closeRefusal t s (length d)
   unfolding closing answered outer back
   close-start = rw e refl
 
-  pub close-adds : drop (s .start - length (closingPart s)) (closingLeft t s d) ≡ closingPart s ++ drop (s .start) d
-  unfolding closingLeft left
+  pub close-adds : drop (s .start - length (closingPart s)) (closeBuffer t s d) ≡ closingPart s ++ drop (s .start) d
+  unfolding closeBuffer left
   close-adds =
       let l = eqb-true (length d) (s .length) (close-all .0) in
       let w = sound-within s (close-all .1) in

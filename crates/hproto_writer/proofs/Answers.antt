@@ -8,8 +8,8 @@ use lib.ListN.{length, length-append}
 use lib.Dec.{leb, eqb}
 use lib.IntN.{ℤ}
 use borrow.Author.Tests.{le-leb, lt-leb, leb-true, eqb-true, ne-eqb}
-use Rattle.octets.specs.Number.{octetsOf, leastUint, uintLeast}
-use Rattle.octets.specs.Signed.{leastInt, intLeast}
+use Rattle.octets.specs.Number.{octetsOf, leastUint, uintWidthBits}
+use Rattle.octets.specs.Signed.{leastInt, intWidthBits}
 use Rattle.octets.specs.Control.{leastControl}
 use Rattle.octets.specs.declared.Least.{Least}
 use Rattle.hproto_table.specs.declared.Table.{Table}
@@ -19,7 +19,7 @@ use Rattle.hproto_put.specs.Store.{stored}
 use Rattle.hproto_put.proofs.Stores.{stored-after}
 use Rattle.hproto_writer.specs.Sound.{sound}
 use Rattle.hproto_writer.specs.Stores.{Before}
-use Rattle.hproto_writer.specs.Calls.{demand, answered, left, back, put, putLeft, putRefusal, closingPart, closeEarly, closeRefusal, closing, closingLeft, outer, finishRefusal, finished}
+use Rattle.hproto_writer.specs.Calls.{orRefuse, answered, left, back, put, putBuffer, putRefusal, closingPart, closeEarly, closeRefusal, closing, closeBuffer, outer, finishRefusal, finished}
 use Rattle.hproto_writer.specs.declared.State.{State}
 use Rattle.hproto_writer.specs.declared.Written.{Written}
 use Rattle.hproto_writer.specs.declared.Finished.{Finished}
@@ -73,12 +73,12 @@ field-before d start tag n size xs after en es h k s =
     }
 
 -- The octets of a least form are the least octets.
-pub uint-octets : (r : Least) (v : ℕ) → r ≡ uintLeast v → octetsOf (r .width) (r .bits) ≡ leastUint v
-unfolding uintLeast leastUint
+pub uint-octets : (r : Least) (v : ℕ) → r ≡ uintWidthBits v → octetsOf (r .width) (r .bits) ≡ leastUint v
+unfolding uintWidthBits leastUint
 uint-octets r v e = rw e
 
-pub int-octets : (r : Least) (z : ℤ) → r ≡ intLeast z → octetsOf (r .width) (r .bits) ≡ leastInt z
-unfolding intLeast leastInt
+pub int-octets : (r : Least) (z : ℤ) → r ≡ intWidthBits z → octetsOf (r .width) (r .bits) ≡ leastInt z
+unfolding intWidthBits leastInt
 int-octets r z e = rw e
 
 -- ---- put
@@ -87,7 +87,7 @@ module _ (t : Table) (s : State) (tag : ℕ) (agrees reads : Bool) (xs d : List 
   -- What is promised of the answer r and of the buffer afterwards.
   pub record PutDone (r : Written) (after : List ℕ) : Type 0 where
     pub answer : r ≡ put t s tag agrees reads xs (length d)
-    pub buffer : after ≡ putLeft t s tag agrees reads xs d
+    pub buffer : after ≡ putBuffer t s tag agrees reads xs d
 
   sized : (n got : ℕ) → n ≡ length xs → got ≡ putRefusal t s (length d) agrees reads (length (leastControl tag n) + n)
       → got ≡ putRefusal t s (length d) agrees reads (length (field tag xs))
@@ -95,7 +95,7 @@ module _ (t : Table) (s : State) (tag : ℕ) (agrees reads : Bool) (xs d : List 
 
   pub put-refused : (n got : ℕ) → n ≡ length xs → got ≡ putRefusal t s (length d) agrees reads (length (leastControl tag n) + n)
       → (got ≡ 0 → ⊥) → PutDone (record { refusal = got; place = 0; state = s }) d
-  unfolding put putLeft
+  unfolding put putBuffer
   put-refused n got en e ne =
       let size = length (field tag xs) in
       let f = sized n got en e in
@@ -107,7 +107,7 @@ module _ (t : Table) (s : State) (tag : ℕ) (agrees reads : Bool) (xs d : List 
   pub put-accepted : (n got at : ℕ) (after : List ℕ) → n ≡ length xs
       → got ≡ putRefusal t s (length d) agrees reads (length (leastControl tag n) + n) → got ≡ 0 → Before d (s .start) (field tag xs) at after
       → PutDone (record { refusal = 0; place = 0; state = record { length = s .length; start = at; opened = s .opened; numbers = s .numbers; marks = s .marks; tags = s .tags } }) after
-  unfolding put putLeft back
+  unfolding put putBuffer back
   put-accepted n got at after en e z b =
       let size = length (field tag xs) in
       let f = sym (sized n got en e) ∙ z in
@@ -119,18 +119,18 @@ module _ (t : Table) (s : State) (tag : ℕ) (agrees reads : Bool) (xs d : List 
 
 -- ---- close
 
-kept : (a b d f : Bool) (got next : ℕ) → got ≡ demand a 10 (demand b 10 (demand d 2 (demand f 11 0))) → (got ≡ 0 → ⊥)
-    → got ≡ demand a 10 (demand b 10 (demand d 2 (demand f 11 next)))
-unfolding demand
+kept : (a b d f : Bool) (got next : ℕ) → got ≡ orRefuse a 10 (orRefuse b 10 (orRefuse d 2 (orRefuse f 11 0))) → (got ≡ 0 → ⊥)
+    → got ≡ orRefuse a 10 (orRefuse b 10 (orRefuse d 2 (orRefuse f 11 next)))
+unfolding orRefuse
 kept false b d f got next e ne = e
 kept true false d f got next e ne = e
 kept true true false f got next e ne = e
 kept true true true false got next e ne = e
 kept true true true true got next e ne = absurd (ne e)
 
-met : (a b d f : Bool) (next : ℕ) → demand a 10 (demand b 10 (demand d 2 (demand f 11 0))) ≡ 0
-    → (a ≡ true) × (b ≡ true) × (f ≡ true) × (demand a 10 (demand b 10 (demand d 2 (demand f 11 next))) ≡ next)
-unfolding demand
+met : (a b d f : Bool) (next : ℕ) → orRefuse a 10 (orRefuse b 10 (orRefuse d 2 (orRefuse f 11 0))) ≡ 0
+    → (a ≡ true) × (b ≡ true) × (f ≡ true) × (orRefuse a 10 (orRefuse b 10 (orRefuse d 2 (orRefuse f 11 next))) ≡ next)
+unfolding orRefuse
 met false b d f next e = absurd (omega arith)
 met true false d f next e = absurd (omega arith)
 met true true false f next e = absurd (omega arith)
@@ -166,10 +166,10 @@ module _ (t : Table) (s : State) (d : List ℕ) where
   -- What is promised of the answer r and of the buffer afterwards.
   pub record CloseDone (r : Written) (after : List ℕ) : Type 0 where
     pub answer : r ≡ closing t s (length d)
-    pub buffer : after ≡ closingLeft t s d
+    pub buffer : after ≡ closeBuffer t s d
 
   close-refused : (got : ℕ) → got ≡ closeRefusal t s (length d) → (got ≡ 0 → ⊥) → CloseDone (record { refusal = got; place = 0; state = s }) d
-  unfolding closing closingLeft
+  unfolding closing closeBuffer
   close-refused got e ne =
       let size = length (closingPart s) in
       record {
@@ -179,14 +179,14 @@ module _ (t : Table) (s : State) (d : List ℕ) where
 
   pub close-early : (got : ℕ) → got ≡ closeEarly t s (length d) 0 → (got ≡ 0 → ⊥) → CloseDone (record { refusal = got; place = 0; state = s }) d
   unfolding closeRefusal
-  close-early got e ne = close-refused got (close-kept t s (length d) got e (demand (leb (length (closingPart s)) (s .start)) 9 0) ne) ne
+  close-early got e ne = close-refused got (close-kept t s (length d) got e (orRefuse (leb (length (closingPart s)) (s .start)) 9 0) ne) ne
 
   module _ (m : (next : ℕ) → closeEarly t s (length d) next ≡ next) where
     no-room : s .start < length (closingPart s) → 9 ≡ closeRefusal t s (length d)
-    unfolding closeRefusal demand
+    unfolding closeRefusal orRefuse
     no-room h =
-        let f : demand (leb (length (closingPart s)) (s .start)) 9 0 ≡ 9 = rw (lt-leb (length (closingPart s)) (s .start) h) refl in
-        sym (m (demand (leb (length (closingPart s)) (s .start)) 9 0) ∙ f)
+        let f : orRefuse (leb (length (closingPart s)) (s .start)) 9 0 ≡ 9 = rw (lt-leb (length (closingPart s)) (s .start) h) refl in
+        sym (m (orRefuse (leb (length (closingPart s)) (s .start)) 9 0) ∙ f)
 
     pub close-long : s .start < length (closingPart s) → CloseDone (record { refusal = 9; place = 0; state = s }) d
     close-long h = close-refused 9 (no-room h) (λ z. omega arith)
@@ -194,10 +194,10 @@ module _ (t : Table) (s : State) (d : List ℕ) where
     pub close-accepted : (after : List ℕ) (size : ℕ) → size ≡ length (closingPart s) → size ≤ s .start
         → after ≡ stored d (s .start - size) (closingPart s)
         → CloseDone (record { refusal = 0; place = 0; state = record { length = s .length; start = s .start - size; opened = s .opened - 1; numbers = s .numbers; marks = s .marks; tags = s .tags } }) after
-    unfolding closing closingLeft closeRefusal demand outer back
+    unfolding closing closeBuffer closeRefusal orRefuse outer back
     close-accepted after size e h b =
         let part = length (closingPart s) in
-        let z : closeRefusal t s (length d) ≡ 0 = m (demand (leb part (s .start)) 9 0) ∙ rw (le-leb part (s .start) (omega arith)) refl in
+        let z : closeRefusal t s (length d) ≡ 0 = m (orRefuse (leb part (s .start)) 9 0) ∙ rw (le-leb part (s .start) (omega arith)) refl in
         let r : State = record { length = s .length; start = s .start - size; opened = s .opened - 1; numbers = s .numbers; marks = s .marks; tags = s .tags } in
         record {
           answer = accepted-answer (closeRefusal t s (length d)) s (outer (back s part)) r z (rw e refl);

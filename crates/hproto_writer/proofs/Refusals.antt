@@ -9,18 +9,18 @@ use lib.Seq.{getD-take, length-take-le}
 use lib.Dec.{leb, eqb}
 use borrow.Author.Tests.{le-leb, lt-leb, leb-true, leb-false, eq-eqb, ne-eqb, eqb-true}
 use Rattle.octets.specs.Text.{text}
-use Rattle.hproto_table.specs.Entry.{entries}
+use Rattle.hproto_table.specs.Entry.{entries, kindNumber}
 use Rattle.hproto_table.specs.Valid.{valid}
 use Rattle.hproto_table.specs.declared.Table.{Table}
 use Rattle.hproto_table.proofs.Bools.{and-left, and-right}
 use Rattle.hproto_find.proofs.Finding.{large-tag}
 use Rattle.hproto_writer.specs.Sound.{falling, small, sound}
-use Rattle.hproto_writer.specs.Calls.{demand, level, meant, kindOf, ofOctets, readable, putRefusal, openRefusal, closeEarly, startRefusal, finishRefusal}
+use Rattle.hproto_writer.specs.Calls.{orRefuse, level, meant, ofOctets, readable, putRefusal, openRefusal, closeEarly, startRefusal, finishRefusal}
 use Rattle.hproto_writer.specs.declared.State.{State}
 
--- A demand that is met, where its refusal is a number and no refusal came.
-passed : (t : Bool) (n next : ℕ) → (n ≡ 0 → ⊥) → demand t n next ≡ 0 → (t ≡ true) × (next ≡ 0)
-unfolding demand
+-- A orRefuse that is met, where its refusal is a number and no refusal came.
+passed : (t : Bool) (n next : ℕ) → (n ≡ 0 → ⊥) → orRefuse t n next ≡ 0 → (t ≡ true) × (next ≡ 0)
+unfolding orRefuse
 passed true n next ne e = (refl, e)
 passed false n next ne e = absurd (ne e)
 
@@ -28,36 +28,36 @@ passed false n next ne e = absurd (ne e)
 
 module _ (t : Table) (s : State) (len : ℕ) (agrees reads : Bool) (size : ℕ) where
   pub put-other : (len ≡ s .length → ⊥) → 10 ≡ putRefusal t s len agrees reads size
-  unfolding putRefusal demand
+  unfolding putRefusal orRefuse
   put-other ne = rw (ne-eqb len (s .length) ne) refl
 
   module _ (a : len ≡ s .length) where
     pub put-unsound : false ≡ sound s → 10 ≡ putRefusal t s len agrees reads size
-    unfolding putRefusal demand
+    unfolding putRefusal orRefuse
     put-unsound e = rw (eq-eqb len (s .length) a, ← e) refl
 
     module _ (b : true ≡ sound s) where
       pub put-table : false ≡ valid t → 2 ≡ putRefusal t s len agrees reads size
-      unfolding putRefusal demand
+      unfolding putRefusal orRefuse
       put-table e = rw (eq-eqb len (s .length) a, ← b, ← e) refl
 
       module _ (d : true ≡ valid t) where
         pub put-kind : agrees ≡ false → 8 ≡ putRefusal t s len agrees reads size
-        unfolding putRefusal demand
+        unfolding putRefusal orRefuse
         put-kind e = rw (eq-eqb len (s .length) a, ← b, ← d, e) refl
 
         module _ (f : agrees ≡ true) where
           pub put-text : reads ≡ false → 7 ≡ putRefusal t s len agrees reads size
-          unfolding putRefusal demand
+          unfolding putRefusal orRefuse
           put-text e = rw (eq-eqb len (s .length) a, ← b, ← d, f, e) refl
 
           module _ (g : reads ≡ true) where
             pub put-long : false ≡ leb size (s .start) → 9 ≡ putRefusal t s len agrees reads size
-            unfolding putRefusal demand
+            unfolding putRefusal orRefuse
             put-long e = rw (eq-eqb len (s .length) a, ← b, ← d, f, g, ← e) refl
 
             pub put-taken : true ≡ leb size (s .start) → 0 ≡ putRefusal t s len agrees reads size
-            unfolding putRefusal demand
+            unfolding putRefusal orRefuse
             put-taken e = rw (eq-eqb len (s .length) a, ← b, ← d, f, g, ← e) refl
 
   -- What a put that is not refused has met.
@@ -70,11 +70,11 @@ module _ (t : Table) (s : State) (len : ℕ) (agrees reads : Bool) (size : ℕ) 
   pub put-met : putRefusal t s len agrees reads size ≡ 0 → Taken
   unfolding putRefusal
   put-met e =
-      let n5 = demand (leb size (s .start)) 9 0 in
-      let n4 = demand reads 7 n5 in
-      let n3 = demand agrees 8 n4 in
-      let n2 = demand (valid t) 2 n3 in
-      let n1 = demand (sound s) 10 n2 in
+      let n5 = orRefuse (leb size (s .start)) 9 0 in
+      let n4 = orRefuse reads 7 n5 in
+      let n3 = orRefuse agrees 8 n4 in
+      let n2 = orRefuse (valid t) 2 n3 in
+      let n1 = orRefuse (sound s) 10 n2 in
       let a = passed (eqb len (s .length)) 10 n1 (λ z. omega arith) e in
       let b = passed (sound s) 10 n2 (λ z. omega arith) (a .1) in
       let d = passed (valid t) 2 n3 (λ z. omega arith) (b .1) in
@@ -87,34 +87,34 @@ module _ (t : Table) (s : State) (len : ℕ) (agrees reads : Bool) (size : ℕ) 
 
 module _ (t : Table) (s : State) (agrees : Bool) where
   pub open-unsound : false ≡ sound s → 10 ≡ openRefusal t s agrees
-  unfolding openRefusal demand
+  unfolding openRefusal orRefuse
   open-unsound e = rw (← e) refl
 
   module _ (b : true ≡ sound s) where
     pub open-table : false ≡ valid t → 2 ≡ openRefusal t s agrees
-    unfolding openRefusal demand
+    unfolding openRefusal orRefuse
     open-table e = rw (← b, ← e) refl
 
     module _ (d : true ≡ valid t) where
       pub open-kind : agrees ≡ false → 8 ≡ openRefusal t s agrees
-      unfolding openRefusal demand
+      unfolding openRefusal orRefuse
       open-kind e = rw (← b, ← d, e) refl
 
       module _ (f : agrees ≡ true) where
         pub open-deep : 6 < s .opened → 5 ≡ openRefusal t s agrees
-        unfolding openRefusal demand
+        unfolding openRefusal orRefuse
         open-deep h = rw (← b, ← d, f, lt-leb (s .opened) 6 h) refl
 
         pub open-taken : s .opened ≤ 6 → 0 ≡ openRefusal t s agrees
-        unfolding openRefusal demand
+        unfolding openRefusal orRefuse
         open-taken h = rw (← b, ← d, f, le-leb (s .opened) 6 h) refl
 
   pub open-met : openRefusal t s agrees ≡ 0 → (agrees ≡ true) × (s .opened ≤ 6)
   unfolding openRefusal
   open-met e =
-      let n3 = demand (leb (s .opened) 6) 5 0 in
-      let n2 = demand agrees 8 n3 in
-      let n1 = demand (valid t) 2 n2 in
+      let n3 = orRefuse (leb (s .opened) 6) 5 0 in
+      let n2 = orRefuse agrees 8 n3 in
+      let n1 = orRefuse (valid t) 2 n2 in
       let b = passed (sound s) 10 n1 (λ z. omega arith) e in
       let d = passed (valid t) 2 n2 (λ z. omega arith) (b .1) in
       let f = passed agrees 8 n3 (λ z. omega arith) (d .1) in
@@ -125,61 +125,61 @@ module _ (t : Table) (s : State) (agrees : Bool) where
 
 module _ (t : Table) (s : State) (len next : ℕ) where
   pub close-other : (len ≡ s .length → ⊥) → 10 ≡ closeEarly t s len next
-  unfolding closeEarly demand
+  unfolding closeEarly orRefuse
   close-other ne = rw (ne-eqb len (s .length) ne) refl
 
   module _ (a : len ≡ s .length) where
     pub close-unsound : false ≡ sound s → 10 ≡ closeEarly t s len next
-    unfolding closeEarly demand
+    unfolding closeEarly orRefuse
     close-unsound e = rw (eq-eqb len (s .length) a, ← e) refl
 
     module _ (b : true ≡ sound s) where
       pub close-table : false ≡ valid t → 2 ≡ closeEarly t s len next
-      unfolding closeEarly demand
+      unfolding closeEarly orRefuse
       close-table e = rw (eq-eqb len (s .length) a, ← b, ← e) refl
 
       module _ (d : true ≡ valid t) where
         pub close-none : s .opened < 1 → 11 ≡ closeEarly t s len next
-        unfolding closeEarly demand
+        unfolding closeEarly orRefuse
         close-none h = rw (eq-eqb len (s .length) a, ← b, ← d, lt-leb 1 (s .opened) h) refl
 
         pub close-some : 1 ≤ s .opened → next ≡ closeEarly t s len next
-        unfolding closeEarly demand
+        unfolding closeEarly orRefuse
         close-some h = rw (eq-eqb len (s .length) a, ← b, ← d, le-leb 1 (s .opened) h) refl
 
 -- ---- start and finish
 
 module _ (t : Table) (number len : ℕ) where
   pub start-long : 65536 < len → 1 ≡ startRefusal t number len
-  unfolding startRefusal demand
+  unfolding startRefusal orRefuse
   start-long h = rw (lt-leb len 65536 h) refl
 
   module _ (a : len ≤ 65536) where
     pub start-table : false ≡ valid t → 2 ≡ startRefusal t number len
-    unfolding startRefusal demand
+    unfolding startRefusal orRefuse
     start-table e = rw (le-leb len 65536 a, ← e) refl
 
     module _ (b : true ≡ valid t) where
       pub start-number : 15 < number → 2 ≡ startRefusal t number len
-      unfolding startRefusal demand
+      unfolding startRefusal orRefuse
       start-number h = rw (le-leb len 65536 a, ← b, lt-leb number 15 h) refl
 
       pub start-taken : number ≤ 15 → 0 ≡ startRefusal t number len
-      unfolding startRefusal demand
+      unfolding startRefusal orRefuse
       start-taken h = rw (le-leb len 65536 a, ← b, le-leb number 15 h) refl
 
 module _ (s : State) where
   pub finish-unsound : false ≡ sound s → 10 ≡ finishRefusal s
-  unfolding finishRefusal demand
+  unfolding finishRefusal orRefuse
   finish-unsound e = rw (← e) refl
 
   module _ (b : true ≡ sound s) where
     pub finish-open : (s .opened ≡ 0 → ⊥) → 12 ≡ finishRefusal s
-    unfolding finishRefusal demand
+    unfolding finishRefusal orRefuse
     finish-open ne = rw (← b, ne-eqb (s .opened) 0 ne) refl
 
     pub finish-taken : s .opened ≡ 0 → 0 ≡ finishRefusal s
-    unfolding finishRefusal demand
+    unfolding finishRefusal orRefuse
     finish-taken e = rw (← b, eq-eqb (s .opened) 0 e) refl
 
 -- ---- kinds
@@ -209,22 +209,22 @@ unfolding readable
 reads-any k xs ne = rw (ne-eqb k 4 ne) refl
 
 -- A tag that the table does not have, as one that is out of range, has no kind.
-pub absent : (t : Table) (s : State) (tag : ℕ) → 65535 < tag → kindOf (meant t s tag) ≡ 0
-unfolding meant kindOf entries
+pub absent : (t : Table) (s : State) (tag : ℕ) → 65535 < tag → kindNumber (meant t s tag) ≡ 0
+unfolding meant kindNumber entries
 absent t s tag h = rw (← large-tag (t .words) (t .count) (level s) tag h) refl
 
 -- A tag that has a kind is in range.
-pub narrow : (t : Table) (s : State) (tag : ℕ) → (kindOf (meant t s tag) ≡ 0 → ⊥) → tag < 65536
+pub narrow : (t : Table) (s : State) (tag : ℕ) → (kindNumber (meant t s tag) ≡ 0 → ⊥) → tag < 65536
 narrow t s tag ne = go (leb tag 65535) refl
   where
     go : (b : Bool) → leb tag 65535 ≡ b → tag < 65536
     go true e = let h = leb-true tag 65535 e in omega arith
     go false e = absurd (ne (absent t s tag (leb-false tag 65535 e)))
 
-pub narrow-kind : (t : Table) (s : State) (tag k : ℕ) → (k ≡ 0 → ⊥) → (m : ℕ) → m ≡ kindOf (meant t s tag) → eqb m k ≡ true → tag < 65536
+pub narrow-kind : (t : Table) (s : State) (tag k : ℕ) → (k ≡ 0 → ⊥) → (m : ℕ) → m ≡ kindNumber (meant t s tag) → eqb m k ≡ true → tag < 65536
 narrow-kind t s tag k ne m e f = narrow t s tag (λ z. ne (omega (arith, eqb-true m k f)))
 
-pub narrow-octets : (t : Table) (s : State) (tag m : ℕ) → m ≡ kindOf (meant t s tag) → ofOctets m ≡ true → tag < 65536
+pub narrow-octets : (t : Table) (s : State) (tag m : ℕ) → m ≡ kindNumber (meant t s tag) → ofOctets m ≡ true → tag < 65536
 unfolding ofOctets
 narrow-octets t s tag m e f = narrow t s tag (λ z. none (e ∙ z))
   where

@@ -6,7 +6,7 @@ use lib.ListN.{length, getD, set, replicate}
 use lib.Dec.{eqb, leb}
 use Rattle.octets.specs.Text.{text}
 use Rattle.octets.specs.Control.{leastControl}
-use Rattle.hproto_table.specs.Entry.{entries, find}
+use Rattle.hproto_table.specs.Entry.{entries, find, kindNumber, innerOf}
 use Rattle.hproto_table.specs.Valid.{valid}
 use Rattle.hproto_table.specs.declared.Meaning.{Meaning}
 use Rattle.hproto_table.specs.declared.Meaning.the-variants.{Raw, Uint, Int, String, Text, Message}
@@ -19,8 +19,8 @@ use Rattle.hproto_writer.specs.declared.Written.{Written}
 use Rattle.hproto_writer.specs.declared.Finished.{Finished}
 
 -- A test that has to hold, the refusal where it does not, and what comes where it does. A chain of these ends with 0, no refusal.
-unfoldable pub demand : Bool → ℕ → ℕ → ℕ
-demand test refusal next = cond test next refusal
+unfoldable pub orRefuse : Bool → ℕ → ℕ → ℕ
+orRefuse test refusal next = cond test next refusal
 
 -- A refusal, with the state as it was given; or none, with the state after the call.
 unfoldable pub answered : ℕ → State → State → Written
@@ -46,7 +46,7 @@ back s n =
 -- ---- start
 
 unfoldable pub startRefusal : Table → ℕ → ℕ → ℕ
-startRefusal t number len = demand (leb len 65536) 1 (demand (valid t) 2 (demand (leb number 15) 2 0))
+startRefusal t number len = orRefuse (leb len 65536) 1 (orRefuse (valid t) 2 (orRefuse (leb number 15) 2 0))
 
 -- The state over a buffer of a length, with nothing stored yet and nothing open.
 unfoldable pub begun : ℕ → ℕ → State
@@ -60,31 +60,22 @@ started t number len = answered (startRefusal t number len) (begun 0 0) (begun l
 
 unfoldable pub putRefusal : Table → State → ℕ → Bool → Bool → ℕ → ℕ
 putRefusal t s len agrees readable size =
-    demand (eqb len (s .length)) 10
-    (demand (sound s) 10
-    (demand (valid t) 2
-    (demand agrees 8
-    (demand readable 7
-    (demand (leb size (s .start)) 9 0)))))
+    orRefuse (eqb len (s .length)) 10
+    (orRefuse (sound s) 10
+    (orRefuse (valid t) 2
+    (orRefuse agrees 8
+    (orRefuse readable 7
+    (orRefuse (leb size (s .start)) 9 0)))))
 
 unfoldable pub put : Table → State → ℕ → Bool → Bool → List ℕ → ℕ → Written
 put t s tag agrees readable contents len =
     let size = length (field tag contents) in
     answered (putRefusal t s len agrees readable size) s (back s size)
 
-unfoldable pub putLeft : Table → State → ℕ → Bool → Bool → List ℕ → List ℕ → List ℕ
-putLeft t s tag agrees readable contents d =
+unfoldable pub putBuffer : Table → State → ℕ → Bool → Bool → List ℕ → List ℕ → List ℕ
+putBuffer t s tag agrees readable contents d =
     let octets = field tag contents in
     left (putRefusal t s (length d) agrees readable (length octets)) d (stored d (s .start - length octets) octets)
-
--- The number that document 01 gives a kind; 0 for a tag that the table does not have.
-unfoldable pub kindOf : Meaning → ℕ
-kindOf Raw = 0
-kindOf Uint = 1
-kindOf Int = 2
-kindOf String = 3
-kindOf Text = 4
-kindOf (Message m) = 5
 
 -- Whether the values of a kind are octets.
 unfoldable pub ofOctets : ℕ → Bool
@@ -96,17 +87,8 @@ readable kind xs = cond (eqb kind 4) (text xs) true
 
 -- ---- open
 
--- The number of the message that a kind holds.
-unfoldable pub inner : Meaning → ℕ
-inner Raw = 0
-inner Uint = 0
-inner Int = 0
-inner String = 0
-inner Text = 0
-inner (Message m) = m
-
 unfoldable pub openRefusal : Table → State → Bool → ℕ
-openRefusal t s agrees = demand (sound s) 10 (demand (valid t) 2 (demand agrees 8 (demand (leb (s .opened) 6) 5 0)))
+openRefusal t s agrees = orRefuse (sound s) 10 (orRefuse (valid t) 2 (orRefuse agrees 8 (orRefuse (leb (s .opened) 6) 5 0)))
 
 -- The state one level deeper. The mark is where the contents of the field end.
 unfoldable pub deeper : State → ℕ → ℕ → State
@@ -123,7 +105,7 @@ deeper s tag number =
 unfoldable pub opening : Table → State → ℕ → Written
 opening t s tag =
     let m = meant t s tag in
-    answered (openRefusal t s (eqb (kindOf m) 5)) s (deeper s tag (inner m))
+    answered (openRefusal t s (eqb (kindNumber m) 5)) s (deeper s tag (innerOf m))
 
 -- ---- close
 
@@ -134,10 +116,10 @@ closingPart s = leastControl (getD (s .tags) (s .opened - 1) 0) (getD (s .marks)
 -- What comes before the refusal for want of room.
 unfoldable pub closeEarly : Table → State → ℕ → ℕ → ℕ
 closeEarly t s len next =
-    demand (eqb len (s .length)) 10 (demand (sound s) 10 (demand (valid t) 2 (demand (leb 1 (s .opened)) 11 next)))
+    orRefuse (eqb len (s .length)) 10 (orRefuse (sound s) 10 (orRefuse (valid t) 2 (orRefuse (leb 1 (s .opened)) 11 next)))
 
 unfoldable pub closeRefusal : Table → State → ℕ → ℕ
-closeRefusal t s len = closeEarly t s len (demand (leb (length (closingPart s)) (s .start)) 9 0)
+closeRefusal t s len = closeEarly t s len (orRefuse (leb (length (closingPart s)) (s .start)) 9 0)
 
 -- The state one level less deep.
 unfoldable pub outer : State → State
@@ -147,15 +129,15 @@ outer s =
 unfoldable pub closing : Table → State → ℕ → Written
 closing t s len = answered (closeRefusal t s len) s (outer (back s (length (closingPart s))))
 
-unfoldable pub closingLeft : Table → State → List ℕ → List ℕ
-closingLeft t s d =
+unfoldable pub closeBuffer : Table → State → List ℕ → List ℕ
+closeBuffer t s d =
     let octets = closingPart s in
     left (closeRefusal t s (length d)) d (stored d (s .start - length octets) octets)
 
 -- ---- finish
 
 unfoldable pub finishRefusal : State → ℕ
-finishRefusal s = demand (sound s) 10 (demand (eqb (s .opened) 0) 12 0)
+finishRefusal s = orRefuse (sound s) 10 (orRefuse (eqb (s .opened) 0) 12 0)
 
 -- Where the message starts, and the state as it was given.
 unfoldable pub finished : State → Finished

@@ -1,3 +1,4 @@
 pub mod Sound
 pub mod Calls
 pub mod Stores
+pub mod Answer

@@ -10,13 +10,15 @@ ghost use lib.ListN.{length as length-of, take};
 ghost use Rattle.octets.specs.Number.{octetsOf, leastUint};
 ghost use Rattle.octets.specs.Signed.{leastInt};
 ghost use Rattle.octets.specs.Control.{leastControl};
+ghost use Rattle.hproto_table.specs.Entry.{kindNumber, innerOf};
 ghost use Rattle.hproto_writer.specs.Sound.{falling, small, sound as sound-of};
 ghost use Rattle.hproto_message.specs.Shortest.{field};
-ghost use Rattle.hproto_writer.specs.Calls.{level as level-of, meant, kindOf, ofOctets, readable as readable-of, inner as inner-of};
-ghost use Rattle.hproto_writer.specs.Calls.{put, putLeft, putRefusal, openRefusal, opening, closeEarly, closing, closingLeft, started, startRefusal, begun, finishRefusal, finished};
+ghost use Rattle.hproto_writer.specs.Answer.{answer, buffer, putUint, putInt, putOctets};
+ghost use Rattle.hproto_writer.specs.Calls.{level as level-of, meant, ofOctets, readable as readable-of};
+ghost use Rattle.hproto_writer.specs.Calls.{put, putBuffer, putRefusal, openRefusal, opening, closeEarly, closing, closeBuffer, started, startRefusal, begun, finishRefusal, finished};
 ghost use Rattle.hproto_writer.specs.Stores.{Before};
 
-// What is written so far: the buffer's length, the place of the first octet stored, and how many message fields are open. For each
+// What is written so far: the buffer's length, where the octets stored so far start, and how many message fields are open. For each
 // level a message number; for each open field the place where its contents end, and its tag.
 pub struct State {
     pub length: usize,
@@ -27,14 +29,16 @@ pub struct State {
     pub tags: [u16; 7],
 }
 
-// The answer of start, put, open and close: a refusal number (0 where the call is accepted), the place 0, and the state afterwards.
+// The answer of start, put, open and close: a refusal number (0 where the call is accepted), the place 0, and the state afterwards. A
+// refused call hands the state back as it was given, a refused start one of zeros.
 pub struct Written {
     pub refusal: u64,
     pub place: u64,
     pub state: State,
 }
 
-// The answer of finish: where the message starts, and the state as it was given.
+// The answer of finish: a refusal number (0 where it is accepted), the place 0, where the message starts (0 in a refusal), and the state
+// as it was given.
 pub struct Finished {
     pub refusal: u64,
     pub place: u64,
@@ -124,21 +128,8 @@ fn meaning(t: Table, s: State, tag: u64) -> Meaning
     hproto_find::find(&t.words, count, level(s), tag)
 }
 
-fn kind_number(kind: Meaning) -> u64
-    ensures { λ r. ⌜ r ≡ kindOf kind ⌝ }
-{
-    match kind {
-        Meaning::Raw => 0,
-        Meaning::Uint => 1,
-        Meaning::Int => 2,
-        Meaning::String => 3,
-        Meaning::Text => 4,
-        Meaning::Message(_) => 5,
-    }
-}
-
 fn inner(kind: Meaning) -> u64
-    ensures { λ r. ⌜ r ≡ inner-of kind ⌝ }
+    ensures { λ r. ⌜ r ≡ innerOf kind ⌝ }
 {
     match kind {
         Meaning::Raw => 0,
@@ -229,7 +220,7 @@ fn store_plain(out: &mut [u8], start: usize, tag: u16, xs: &[u8]) -> usize
 fn put_least(t: Table, s: State, tag: u64, agrees: bool, least: Least, out: &mut [u8]) -> Written
     requires { ⌜ (agrees ≡ true → tag < 65536) ⌝ }
     ensures { λ r. ⌜ r ≡ put t s tag agrees true (octetsOf (least .width) (least .bits)) (length-of (now (out .entry))) ⌝ }
-    ensures { λ r. ⌜ now (out .exit) ≡ putLeft t s tag agrees true (octetsOf (least .width) (least .bits)) (now (out .entry)) ⌝ }
+    ensures { λ r. ⌜ now (out .exit) ≡ putBuffer t s tag agrees true (octetsOf (least .width) (least .bits)) (now (out .entry)) ⌝ }
 {
     let n = least.width as usize;
     let no = put_refusal(t, s, out.len(), agrees, true, tag, n);
@@ -249,27 +240,30 @@ fn put_least(t: Table, s: State, tag: u64, agrees: bool, least: Least, out: &mut
     }
 }
 
+// Puts a uint field before all that was put so far. Refusals, all at 0: 10, 2, 8, 9.
 pub fn put_uint(t: Table, s: State, tag: u64, v: u64, out: &mut [u8]) -> Written
-    ensures { λ r. ⌜ r ≡ put t s tag (eqb (kindOf (meant t s tag)) 1) true (leastUint v) (length-of (now (out .entry))) ⌝ }
-    ensures { λ r. ⌜ now (out .exit) ≡ putLeft t s tag (eqb (kindOf (meant t s tag)) 1) true (leastUint v) (now (out .entry)) ⌝ }
+    ensures { λ r. ⌜ r ≡ answer t s (now (out .entry)) (putUint tag v) ⌝ }
+    ensures { λ r. ⌜ now (out .exit) ≡ buffer t s (now (out .entry)) (putUint tag v) ⌝ }
 {
-    let k = kind_number(meaning(t, s, tag));
+    let k = hproto_find::kind_number(meaning(t, s, tag));
     put_least(t, s, tag, k == 1, octets_least::uint_least(v), out)
 }
 
+// Puts an int field. Refusals as for a uint.
 pub fn put_int(t: Table, s: State, tag: u64, v: i64, out: &mut [u8]) -> Written
-    ensures { λ r. ⌜ r ≡ put t s tag (eqb (kindOf (meant t s tag)) 2) true (leastInt v) (length-of (now (out .entry))) ⌝ }
-    ensures { λ r. ⌜ now (out .exit) ≡ putLeft t s tag (eqb (kindOf (meant t s tag)) 2) true (leastInt v) (now (out .entry)) ⌝ }
+    ensures { λ r. ⌜ r ≡ answer t s (now (out .entry)) (putInt tag v) ⌝ }
+    ensures { λ r. ⌜ now (out .exit) ≡ buffer t s (now (out .entry)) (putInt tag v) ⌝ }
 {
-    let k = kind_number(meaning(t, s, tag));
+    let k = hproto_find::kind_number(meaning(t, s, tag));
     put_least(t, s, tag, k == 2, octets_least::int_least(v), out)
 }
 
+// Puts a string or a text field. Refusals, all at 0: 10, 2, 8, 7 for octets that are no text but have to be, 9.
 pub fn put_octets(t: Table, s: State, tag: u64, xs: &[u8], out: &mut [u8]) -> Written
-    ensures { λ r. ⌜ r ≡ put t s tag (ofOctets (kindOf (meant t s tag))) (readable-of (kindOf (meant t s tag)) (now (xs .entry))) (now (xs .entry)) (length-of (now (out .entry))) ⌝ }
-    ensures { λ r. ⌜ now (out .exit) ≡ putLeft t s tag (ofOctets (kindOf (meant t s tag))) (readable-of (kindOf (meant t s tag)) (now (xs .entry))) (now (xs .entry)) (now (out .entry)) ⌝ }
+    ensures { λ r. ⌜ r ≡ answer t s (now (out .entry)) (putOctets tag (now (xs .entry))) ⌝ }
+    ensures { λ r. ⌜ now (out .exit) ≡ buffer t s (now (out .entry)) (putOctets tag (now (xs .entry))) ⌝ }
 {
-    let k = kind_number(meaning(t, s, tag));
+    let k = hproto_find::kind_number(meaning(t, s, tag));
     let no = put_refusal(
         t,
         s,
@@ -313,12 +307,13 @@ fn open_refusal(t: Table, s: State, agrees: bool) -> u64
     0
 }
 
-// The mark is the place where the contents of the field will end: all that is put until its close lies before it.
+// Opens a message field. The mark is the place where the contents of the field will end: all that is put until its close lies before
+// it. Refusals, all at 0: 10, 2, 8, 5 at the eighth level.
 pub fn open_field(t: Table, s: State, tag: u64) -> Written
     ensures { λ r. ⌜ r ≡ opening t s tag ⌝ }
 {
     let kind = meaning(t, s, tag);
-    let no = open_refusal(t, s, kind_number(kind) == 5);
+    let no = open_refusal(t, s, hproto_find::kind_number(kind) == 5);
     if no != 0 {
         return Written {
             refusal: no,
@@ -369,10 +364,11 @@ fn less(a: usize, b: usize) -> usize
     d
 }
 
-// The contents are final by now: the length is chosen last.
+// Closes the field that was opened last: puts its control part before all that was put since. The contents are final by now: the length
+// is chosen last. Refusals, all at 0: 10, 2, 11 where nothing is open, 9.
 pub fn close_field(t: Table, s: State, out: &mut [u8]) -> Written
     ensures { λ r. ⌜ r ≡ closing t s (length-of (now (out .entry))) ⌝ }
-    ensures { λ r. ⌜ now (out .exit) ≡ closingLeft t s (now (out .entry)) ⌝ }
+    ensures { λ r. ⌜ now (out .exit) ≡ closeBuffer t s (now (out .entry)) ⌝ }
 {
     let no = close_early(t, s, out.len());
     if no != 0 {
@@ -436,6 +432,7 @@ fn fresh(len: usize, number: u64) -> State
     }
 }
 
+// Starts a message of a number at the end of a lent buffer. Refusals, all at 0: 1 for a buffer over 65,536 octets, 2.
 pub fn start(t: Table, number: u64, out: &[u8]) -> Written
     ensures { λ r. ⌜ r ≡ started t number (length-of (now (out .entry))) ⌝ }
 {
@@ -466,6 +463,7 @@ fn finish_refusal(s: State) -> u64
     0
 }
 
+// Where the message starts. Refusals, all at 0: 10, 12 where a field is open.
 pub fn finish(s: State) -> Finished
     ensures { λ r. ⌜ r ≡ finished s ⌝ }
 {

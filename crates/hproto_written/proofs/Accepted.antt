@@ -9,17 +9,18 @@ use lib.Dec.{leb, eqb}
 use borrow.Author.Tests.{leb-true}
 use Rattle.octets.specs.Number.{leastUint}
 use Rattle.octets.specs.Signed.{leastInt}
-use Rattle.hproto_table.specs.Entry.{entries, find}
+use Rattle.hproto_table.specs.Entry.{entries, find, kindNumber, innerOf}
 use Rattle.hproto_table.specs.declared.Meaning.{Meaning}
 use Rattle.hproto_table.specs.declared.Table.{Table}
 use Rattle.hproto_message.specs.Tree.{Tree, end, leaf, Value, uint, int}
 use Rattle.hproto_message.specs.Shortest.{field, shortest}
-use Rattle.hproto_writer.specs.Calls.{demand, answered, left, meant, kindOf, ofOctets, readable, started, put, putLeft, putRefusal, inner, opening, closing, closingLeft, closingPart, closeRefusal}
+use Rattle.hproto_writer.specs.Calls.{orRefuse, answered, left, meant, ofOctets, readable, started, put, putBuffer, putRefusal, opening, closing, closeBuffer, closingPart, closeRefusal}
 use Rattle.hproto_writer.specs.declared.State.{State}
 use Rattle.hproto_writer.proofs.Answers.{field-length}
 use Rattle.hproto_writer.proofs.Refusals.{narrow}
 use Rattle.hproto_written.specs.Given.{Given, message, opened, onFields, closed, openFields, innermost}
-use Rattle.hproto_written.specs.Run.{Call, putUint, putInt, putOctets, openField, closeField, InRange, answer, buffer, octetsAs, kindIn, giving, Run, start, next}
+use Rattle.hproto_written.specs.Run.{InRange, octetsAs, kindIn, giving, Run, start, next}
+use Rattle.hproto_writer.specs.Answer.{Call, putUint, putInt, putOctets, openField, closeField, answer, buffer}
 use Rattle.hproto_written.proofs.ReadsBack.{reads-leaf}
 use Rattle.hproto_written.proofs.Fields.{read-more}
 use Rattle.hproto_written.proofs.Suits.{Suits, is-message, suits-uint, suits-int, suits-octets}
@@ -42,22 +43,22 @@ module _ (t : Table) (number : ℕ) (lent : List ℕ) (s : State) (d : List ℕ)
     -- What a put that is accepted has met.
     put-met : (agrees reads : Bool) (size : ℕ) → putRefusal t s (length d) agrees reads size ≡ 0 → (agrees ≡ true) × (reads ≡ true) × (size ≤ s .start)
     put-met agrees reads size e =
-        let c = demand (leb size (s .start)) 9 0 in
-        let x = met agrees 7 (demand reads 7 c) (sym (put-decided t number lent s d g r agrees reads size) ∙ e) in
+        let c = orRefuse (leb size (s .start)) 9 0 in
+        let x = met agrees 7 (orRefuse reads 7 c) (sym (put-decided t number lent s d g r agrees reads size) ∙ e) in
         let y = met reads 6 c (x .1) in
         let z = met (leb size (s .start)) 8 0 (y .1) in
         (x .0, y .0, leb-true size (s .start) (z .0))
 
     reached-put : (agrees reads : Bool) (xs : List ℕ) (v : Value) → Suits means v xs → putRefusal t s (length d) agrees reads (length (field tag xs)) ≡ 0
-        → Reached t number lent (put t s tag agrees reads xs (length d) .state) (putLeft t s tag agrees reads xs d) (onFields (leaf tag v) g)
-    unfolding put putLeft answered left
+        → Reached t number lent (put t s tag agrees reads xs (length d) .state) (putBuffer t s tag agrees reads xs d) (onFields (leaf tag v) g)
+    unfolding put putBuffer answered left
     reached-put agrees reads xs v f e =
         let h = put-met agrees reads (length (field tag xs)) e .2 in
         let l = field-length tag xs in
         let p = r .filled .place in
         let limit = r .limit in
         let n = ap length (f .least) in
-        let k = narrow t s tag (λ z. f .some-kind (sym (ap kindOf (reached-meant t number lent s d g r tag)) ∙ z)) in
+        let k = narrow t s tag (λ z. f .some-kind (sym (ap kindNumber (reached-meant t number lent s d g r tag)) ∙ z)) in
         rw e
         (reached-stored t number lent s d g r (field tag xs) (leaf tag v) h (λ (w : Tree). unfold shortest in rw (f .least) refl)
         (read-more (entries t) number (leaf tag v) g
@@ -71,29 +72,29 @@ module _ (t : Table) (number : ℕ) (lent : List ℕ) (s : State) (d : List ℕ)
     reached-open : opening t s tag .refusal ≡ 0 → Reached t number lent (opening t s tag .state) d (opened tag end g)
     unfolding opening answered
     reached-open e =
-        let agrees = eqb (kindOf (meant t s tag)) 5 in
-        let x = met agrees 7 (demand (leb (s .opened) 6) 5 0) (sym (open-decided t number lent s d g r agrees) ∙ e) in
+        let agrees = eqb (kindNumber (meant t s tag)) 5 in
+        let x = met agrees 7 (orRefuse (leb (s .opened) 6) 5 0) (sym (open-decided t number lent s d g r agrees) ∙ e) in
         let y = met (leb (s .opened) 6) 4 0 (x .1) in
-        let i = is-message means (by-given (λ (k : Meaning). eqb (kindOf k) 5) (x .0)) in
+        let i = is-message means (by-given (λ (k : Meaning). eqb (kindNumber k) 5) (x .0)) in
         let m = reached-meant t number lent s d g r tag in
         let k = leb-true (s .opened) 6 (y .0) in
         let c = r .count in
-        let five : kindOf (meant t s tag) ≡ 5 = ap kindOf (m ∙ i .1) ∙ (unfold kindOf in refl) in
+        let five : kindNumber (meant t s tag) ≡ 5 = ap kindNumber (m ∙ i .1) ∙ (unfold kindNumber in refl) in
         let h = narrow t s tag (λ z. omega arith) in
-        let in-it : inner (meant t s tag) ≡ i .0 = ap inner (m ∙ i .1) ∙ (unfold inner in refl) in
+        let in-it : innerOf (meant t s tag) ≡ i .0 = ap innerOf (m ∙ i .1) ∙ (unfold innerOf in refl) in
         rw (e, in-it) (reached-deeper t number lent s d g r tag (i .0) h (i .1) (omega arith))
 
   -- What a close that is accepted has met.
   close-met : (g : Given) → Reached t number lent s d g → closeRefusal t s (length d) ≡ 0 → (1 ≤ s .opened) × (length (closingPart s) ≤ s .start)
   close-met g r e =
       let room = leb (length (closingPart s)) (s .start) in
-      let x = met (leb 1 (s .opened)) 10 (demand room 9 0) (sym (close-decided t number lent s d g r) ∙ e) in
+      let x = met (leb 1 (s .opened)) 10 (orRefuse room 9 0) (sym (close-decided t number lent s d g r) ∙ e) in
       let y = met room 8 0 (x .1) in
       (leb-true 1 (s .opened) (x .0), leb-true (length (closingPart s)) (s .start) (y .0))
 
   reached-close : (g : Given) → Reached t number lent s d g → closing t s (length d) .refusal ≡ 0
-      → Reached t number lent (closing t s (length d) .state) (closingLeft t s d) (closed g)
-  unfolding closing closingLeft answered left closed openFields
+      → Reached t number lent (closing t s (length d) .state) (closeBuffer t s d) (closed g)
+  unfolding closing closeBuffer answered left closed openFields
   reached-close (message w) r e =
       let m = close-met (message w) r e in
       let h = m .0 in
@@ -108,22 +109,22 @@ module _ (t : Table) (number : ℕ) (lent : List ℕ) (s : State) (d : List ℕ)
       → Reached t number lent (answer t s d c .state) (buffer t s d c) (giving t number c g)
   unfolding InRange answer buffer kindIn giving put answered
   reached-next g r (putUint tag v) h e =
-      let agrees = eqb (kindOf (meant t s tag)) 1 in
+      let agrees = eqb (kindNumber (meant t s tag)) 1 in
       let m = put-met g r tag agrees true (length (field tag (leastUint v))) e in
       reached-put g r tag agrees true (leastUint v) (uint v)
-      (suits-uint (means g r tag) v h (by-given g r tag (λ (k : Meaning). eqb (kindOf k) 1) (m .0))) e
+      (suits-uint (means g r tag) v h (by-given g r tag (λ (k : Meaning). eqb (kindNumber k) 1) (m .0))) e
   reached-next g r (putInt tag z) h e =
-      let agrees = eqb (kindOf (meant t s tag)) 2 in
+      let agrees = eqb (kindNumber (meant t s tag)) 2 in
       let m = put-met g r tag agrees true (length (field tag (leastInt z))) e in
       reached-put g r tag agrees true (leastInt z) (int z)
-      (suits-int (means g r tag) z h (by-given g r tag (λ (k : Meaning). eqb (kindOf k) 2) (m .0))) e
+      (suits-int (means g r tag) z h (by-given g r tag (λ (k : Meaning). eqb (kindNumber k) 2) (m .0))) e
   reached-next g r (putOctets tag xs) h e =
-      let agrees = ofOctets (kindOf (meant t s tag)) in
-      let reads = readable (kindOf (meant t s tag)) xs in
+      let agrees = ofOctets (kindNumber (meant t s tag)) in
+      let reads = readable (kindNumber (meant t s tag)) xs in
       let m = put-met g r tag agrees reads (length (field tag xs)) e in
-      reached-put g r tag agrees reads xs (octetsAs (kindOf (means g r tag)) xs)
-      (suits-octets (means g r tag) xs (by-given g r tag (λ (k : Meaning). ofOctets (kindOf k)) (m .0))
-      (by-given g r tag (λ (k : Meaning). readable (kindOf k) xs) (m .1))) e
+      reached-put g r tag agrees reads xs (octetsAs (kindNumber (means g r tag)) xs)
+      (suits-octets (means g r tag) xs (by-given g r tag (λ (k : Meaning). ofOctets (kindNumber k)) (m .0))
+      (by-given g r tag (λ (k : Meaning). readable (kindNumber k) xs) (m .1))) e
   reached-next g r (openField tag) h e = reached-open g r tag e
   reached-next g r closeField h e = reached-close g r e
 

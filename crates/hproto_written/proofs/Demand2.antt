@@ -17,7 +17,7 @@ use Rattle.hproto_writer.specs.declared.State.{State}
 use Rattle.hproto_written.specs.Given.{Given, message, opened, written}
 use Rattle.hproto_written.specs.Run.{Run}
 use Rattle.hproto_written.specs.Refusal.{refusalOfFinish}
-use Rattle.hproto_written.specs.Demand2.{Demand2}
+use Rattle.hproto_written.specs.Demand2.{Demand2, Demand2Holds}
 use Rattle.hproto_written.proofs.Fields.{AllRead}
 use Rattle.hproto_written.proofs.Reached.{Reached}
 use Rattle.hproto_written.proofs.Accepted.{run-reached}
@@ -58,9 +58,7 @@ module _ (t : Table) (number : ℕ) (lent : List ℕ) (s : State) (d : List ℕ)
   unfolding finished
   finish-place e = rw e refl
 
--- For every table, number and lent buffer, and every run over them whose finish is accepted.
-pub demand-2 : (t : Table) (number : ℕ) (lent : List ℕ) (s : State) (after : List ℕ) (given : Given) → Run t number lent s after given
-    → finished s .refusal ≡ 0 → Demand2 t number lent (finished s .start) after given
+pub demand-2 : Demand2Holds
 demand-2 t number lent s after given run e =
     let r = run-reached t number lent s after given run in
     let f = refusals t number lent s after given run .finish in

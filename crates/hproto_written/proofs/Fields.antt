@@ -3,9 +3,9 @@ use Prim.Native.Nat.{ℕ, suc, _-_, _≤_, _<_}
 use native.Mathlib.Omega.{arith}
 use mathlib.Core.Path.{_≡_, refl, ap, _∙_}
 use mathlib.Core.List.{List, _++_, append-assoc}
-use Rattle.hproto_table.specs.Entry.{Entry, find}
+use Rattle.hproto_table.specs.Entry.{Entry, find, innerOf}
 use Rattle.hproto_table.specs.declared.Meaning.the-variants.{Message}
-use Rattle.hproto_message.specs.Tree.{Tree, end, innerOf}
+use Rattle.hproto_message.specs.Tree.{Tree, end}
 use Rattle.hproto_message.specs.Shortest.{shortest}
 use Rattle.hproto_written.specs.Given.{Given, message, opened, onFields, openFields, innermost, written}
 use Rattle.hproto_written.proofs.ReadsBack.{ReadsBack, reads-end}

@@ -6,11 +6,11 @@ use mathlib.Core.List.{List, _++_}
 use lib.ListN.{length}
 use Rattle.octets.specs.Control.{control, leastControl}
 use Rattle.octets.proofs.ControlPart.{control-leastControl}
-use Rattle.hproto_table.specs.Entry.{Entry, find}
+use Rattle.hproto_table.specs.Entry.{Entry, find, innerOf}
 use Rattle.hproto_table.specs.declared.Meaning.the-variants.{Message}
 use Rattle.hproto_message.specs.Cut as cuts
 use Rattle.hproto_message.specs.Cut.{Cut, joined, WholeField, Contents, NestedField, Allowed, Good}
-use Rattle.hproto_message.specs.Tree.{Tree, Value, tagOf, innerOf, value, tree}
+use Rattle.hproto_message.specs.Tree.{Tree, Value, tagOf, value, tree}
 use Rattle.hproto_message.specs.Shortest.{leastContents, field, shortest}
 
 -- The shortest form of a tree, as a message of a number and at most so many levels deep, reads back as the tree.

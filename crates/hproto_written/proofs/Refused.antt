@@ -13,37 +13,39 @@ use Rattle.octets.specs.Control.{leastControl}
 use Rattle.hproto_table.specs.declared.Table.{Table}
 use Rattle.hproto_message.specs.Shortest.{field, shortest}
 use Rattle.hproto_put.proofs.Room.{left-enough}
-use Rattle.hproto_writer.specs.Calls.{demand, answered, meant, kindOf, ofOctets, readable, put, putRefusal, opening, closing, closeRefusal, finished}
+use Rattle.hproto_writer.specs.Calls.{orRefuse, answered, meant, ofOctets, readable, put, putRefusal, opening, closing, closeRefusal, finished}
 use Rattle.hproto_writer.specs.declared.State.{State}
 use Rattle.hproto_written.specs.Given.{Given, message, opened, openFields, written}
-use Rattle.hproto_written.specs.Run.{Call, putUint, putInt, putOctets, openField, closeField, answer, kindIn, Run}
+use Rattle.hproto_written.specs.Run.{kindIn, Run}
+use Rattle.hproto_writer.specs.Answer.{Call, putUint, putInt, putOctets, openField, closeField, answer}
 use Rattle.hproto_written.specs.Refusal.{refusalForRoom, refusalOfClose, refusalOfCall, refusalOfFinish, Refusals}
 use Rattle.hproto_written.proofs.Reached.{Reached, reached-meant}
 use Rattle.hproto_written.proofs.Moves.{closing-part}
 use Rattle.hproto_written.proofs.Decided.{put-decided, open-decided, close-decided, finish-decided}
 use Rattle.hproto_written.proofs.Accepted.{run-reached}
+use Rattle.hproto_table.specs.Entry.{kindNumber}
 
 module _ (t : Table) (number : ℕ) (lent : List ℕ) (s : State) (d : List ℕ) where
   module _ (g : Given) (r : Reached t number lent s d g) where
     -- The free octets are those of the lent buffer beside what is written.
-    room-decided : (size : ℕ) → demand (leb size (s .start)) 9 0 ≡ refusalForRoom (length lent) g size
+    room-decided : (size : ℕ) → orRefuse (leb size (s .start)) 9 0 ≡ refusalForRoom (length lent) g size
     unfolding refusalForRoom
     room-decided size =
         let p = r .filled .place in
         let e : s .start ≡ length lent - length (written g) = omega arith in
-        ap (λ (b : Bool). demand b 9 0) (ap (leb size) e ∙ left-enough (length lent) (length (written g)) size (omega arith))
+        ap (λ (b : Bool). orRefuse b 9 0) (ap (leb size) e ∙ left-enough (length lent) (length (written g)) size (omega arith))
 
-    kind-decided : (tag : ℕ) → kindOf (meant t s tag) ≡ kindIn t number g tag
+    kind-decided : (tag : ℕ) → kindNumber (meant t s tag) ≡ kindIn t number g tag
     unfolding kindIn
-    kind-decided tag = ap kindOf (reached-meant t number lent s d g r tag)
+    kind-decided tag = ap kindNumber (reached-meant t number lent s d g r tag)
 
     put-refused : (agrees reads : Bool) (size : ℕ)
-        → putRefusal t s (length d) agrees reads size ≡ demand agrees 8 (demand reads 7 (refusalForRoom (length lent) g size))
+        → putRefusal t s (length d) agrees reads size ≡ orRefuse agrees 8 (orRefuse reads 7 (refusalForRoom (length lent) g size))
     put-refused agrees reads size =
-        put-decided t number lent s d g r agrees reads size ∙ ap (λ (n : ℕ). demand agrees 8 (demand reads 7 n)) (room-decided size)
+        put-decided t number lent s d g r agrees reads size ∙ ap (λ (n : ℕ). orRefuse agrees 8 (orRefuse reads 7 n)) (room-decided size)
 
   close-refused : (g : Given) → Reached t number lent s d g → closeRefusal t s (length d) ≡ refusalOfClose (length lent) g
-  unfolding refusalOfClose demand openFields
+  unfolding refusalOfClose orRefuse openFields
   close-refused (message w) r =
       close-decided t number lent s d (message w) r ∙ rw (r .count) refl
   close-refused (opened tag w around) r =
@@ -53,20 +55,20 @@ module _ (t : Table) (number : ℕ) (lent : List ℕ) (s : State) (d : List ℕ)
       (room-decided (opened tag w around) r (length (leastControl tag (length (shortest w)))))
 
   call-refused : (g : Given) → Reached t number lent s d g → (c : Call) → answer t s d c .refusal ≡ refusalOfCall t number (length lent) g c
-  unfolding answer refusalOfCall put opening closing answered demand
+  unfolding answer refusalOfCall put opening closing answered orRefuse
   call-refused g r (putUint tag v) =
-      put-refused g r (eqb (kindOf (meant t s tag)) 1) true (length (field tag (leastUint v))) ∙ rw (kind-decided g r tag) refl
+      put-refused g r (eqb (kindNumber (meant t s tag)) 1) true (length (field tag (leastUint v))) ∙ rw (kind-decided g r tag) refl
   call-refused g r (putInt tag z) =
-      put-refused g r (eqb (kindOf (meant t s tag)) 2) true (length (field tag (leastInt z))) ∙ rw (kind-decided g r tag) refl
+      put-refused g r (eqb (kindNumber (meant t s tag)) 2) true (length (field tag (leastInt z))) ∙ rw (kind-decided g r tag) refl
   call-refused g r (putOctets tag xs) =
-      put-refused g r (ofOctets (kindOf (meant t s tag))) (readable (kindOf (meant t s tag)) xs) (length (field tag xs))
+      put-refused g r (ofOctets (kindNumber (meant t s tag))) (readable (kindNumber (meant t s tag)) xs) (length (field tag xs))
       ∙ rw (kind-decided g r tag) refl
   call-refused g r (openField tag) =
-      open-decided t number lent s d g r (eqb (kindOf (meant t s tag)) 5) ∙ rw (kind-decided g r tag, r .count) refl
+      open-decided t number lent s d g r (eqb (kindNumber (meant t s tag)) 5) ∙ rw (kind-decided g r tag, r .count) refl
   call-refused g r closeField = close-refused g r
 
   finish-refused : (g : Given) → Reached t number lent s d g → finished s .refusal ≡ refusalOfFinish g
-  unfolding finished refusalOfFinish demand openFields
+  unfolding finished refusalOfFinish orRefuse openFields
   finish-refused (message w) r = finish-decided t number lent s d (message w) r ∙ rw (r .count) refl
   finish-refused (opened tag w around) r =
       let c = r .count in

@@ -16,18 +16,19 @@ use Rattle.hproto_table.specs.declared.Meaning.the-variants.{Raw, Uint, Int, St
 use Rattle.hproto_message.specs.Cut.{Contents}
 use Rattle.hproto_message.specs.Tree.{Value, uint, int, value}
 use Rattle.hproto_message.specs.Shortest.{leastContents}
-use Rattle.hproto_writer.specs.Calls.{kindOf, ofOctets, readable}
+use Rattle.hproto_writer.specs.Calls.{ofOctets, readable}
 use Rattle.hproto_written.specs.Run.{octetsAs}
+use Rattle.hproto_table.specs.Entry.{kindNumber}
 
 -- The least contents of a value, as those of a field that means k.
 pub record Suits (k : Meaning) (v : Value) (xs : List ℕ) : Type 0 where
   pub least : leastContents v ≡ xs
   pub allowed : Contents k (leastContents v)
   pub same : value k (leastContents v) ≡ v
-  pub some-kind : kindOf k ≡ 0 → ⊥
+  pub some-kind : kindNumber k ≡ 0 → ⊥
 
-pub is-message : (k : Meaning) → eqb (kindOf k) 5 ≡ true → (m : ℕ) × (k ≡ Message m)
-unfolding kindOf
+pub is-message : (k : Meaning) → eqb (kindNumber k) 5 ≡ true → (m : ℕ) × (k ≡ Message m)
+unfolding kindNumber
 is-message Raw e = absurd (false≢true e)
 is-message Uint e = absurd (false≢true e)
 is-message Int e = absurd (false≢true e)
@@ -35,8 +36,8 @@ is-message String e = absurd (false≢true e)
 is-message Text e = absurd (false≢true e)
 is-message (Message m) e = (m, refl)
 
-pub suits-uint : (k : Meaning) (v : ℕ) → v < 2 ^ 64 → eqb (kindOf k) 1 ≡ true → Suits k (uint v) (leastUint v)
-unfolding kindOf leastContents Contents value
+pub suits-uint : (k : Meaning) (v : ℕ) → v < 2 ^ 64 → eqb (kindNumber k) 1 ≡ true → Suits k (uint v) (leastUint v)
+unfolding kindNumber leastContents Contents value
 suits-uint Raw v h e = absurd (false≢true e)
 suits-uint Uint v h e =
     let l = length-leastUint v in
@@ -47,8 +48,8 @@ suits-uint String v h e = absurd (false≢true e)
 suits-uint Text v h e = absurd (false≢true e)
 suits-uint (Message m) v h e = absurd (false≢true e)
 
-pub suits-int : (k : Meaning) (z : ℤ) → mag z < 2 ^ 63 → eqb (kindOf k) 2 ≡ true → Suits k (int z) (leastInt z)
-unfolding kindOf leastContents Contents value
+pub suits-int : (k : Meaning) (z : ℤ) → mag z < 2 ^ 63 → eqb (kindNumber k) 2 ≡ true → Suits k (int z) (leastInt z)
+unfolding kindNumber leastContents Contents value
 suits-int Raw z h e = absurd (false≢true e)
 suits-int Uint z h e = absurd (false≢true e)
 suits-int Int z h e =
@@ -59,8 +60,8 @@ suits-int String z h e = absurd (false≢true e)
 suits-int Text z h e = absurd (false≢true e)
 suits-int (Message m) z h e = absurd (false≢true e)
 
-pub suits-octets : (k : Meaning) (xs : List ℕ) → ofOctets (kindOf k) ≡ true → readable (kindOf k) xs ≡ true → Suits k (octetsAs (kindOf k) xs) xs
-unfolding kindOf leastContents Contents value ofOctets readable octetsAs
+pub suits-octets : (k : Meaning) (xs : List ℕ) → ofOctets (kindNumber k) ≡ true → readable (kindNumber k) xs ≡ true → Suits k (octetsAs (kindNumber k) xs) xs
+unfolding kindNumber leastContents Contents value ofOctets readable octetsAs
 suits-octets Raw xs e f = absurd (false≢true e)
 suits-octets Uint xs e f = absurd (false≢true e)
 suits-octets Int xs e f = absurd (false≢true e)

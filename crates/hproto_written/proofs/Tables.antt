@@ -7,7 +7,7 @@ use mathlib.Core.List.{List, [], _∷_, map}
 use lib.ListN.{take, drop}
 use lib.Dec.{eqb, leb, ltb}
 use borrow.Author.Tests.{ltb-true}
-use Rattle.hproto_table.specs.Entry.{Entry, meaning, entry, find, entries}
+use Rattle.hproto_table.specs.Entry.{Entry, meaning, entry, find, entries, innerOf}
 use Rattle.hproto_table.specs.Load.{inRange}
 use Rattle.hproto_table.specs.Repeat.{distinct}
 use Rattle.hproto_table.specs.Valid.{allInRange, allZero, valid}
@@ -15,7 +15,6 @@ use Rattle.hproto_table.specs.declared.Meaning.{Meaning}
 use Rattle.hproto_table.specs.declared.Meaning.the-variants.{Raw, Uint, Int, String, Text, Message}
 use Rattle.hproto_table.specs.declared.Table.{Table}
 use Rattle.hproto_table.proofs.Bools.{and-left, and-right}
-use Rattle.hproto_message.specs.Tree.{innerOf}
 
 -- The inner number of an entry in range is at most 15, of whatever kind it is.
 entry-small : (e : Entry) → inRange e ≡ true → innerOf (meaning e) ≤ 15

@@ -11,9 +11,10 @@ use Rattle.octets.specs.Number.{leastUint}
 use Rattle.octets.specs.Signed.{leastInt}
 use Rattle.hproto_table.specs.declared.Table.{Table}
 use Rattle.hproto_message.specs.Shortest.{field}
-use Rattle.hproto_writer.specs.Calls.{answered, left, meant, kindOf, ofOctets, readable, put, putLeft, putRefusal, opening, openRefusal, closing, closingLeft, closeRefusal}
+use Rattle.hproto_writer.specs.Calls.{answered, left, meant, ofOctets, readable, put, putBuffer, putRefusal, opening, openRefusal, closing, closeBuffer, closeRefusal}
 use Rattle.hproto_writer.specs.declared.State.{State}
-use Rattle.hproto_written.specs.Run.{Call, putUint, putInt, putOctets, openField, closeField, answer, buffer}
+use Rattle.hproto_writer.specs.Answer.{Call, putUint, putInt, putOctets, openField, closeField, answer, buffer}
+use Rattle.hproto_table.specs.Entry.{kindNumber}
 
 -- What a refused call leaves.
 pub record Unchanged (s : State) (d : List ℕ) (state : State) (after : List ℕ) : Type 0 where
@@ -22,20 +23,20 @@ pub record Unchanged (s : State) (d : List ℕ) (state : State) (after : List �
 
 module _ (t : Table) (s : State) (d : List ℕ) where
   put-unchanged : (tag : ℕ) (agrees reads : Bool) (xs : List ℕ) → (put t s tag agrees reads xs (length d) .refusal ≡ 0 → ⊥)
-      → Unchanged s d (put t s tag agrees reads xs (length d) .state) (putLeft t s tag agrees reads xs d)
-  unfolding put putLeft answered left
+      → Unchanged s d (put t s tag agrees reads xs (length d) .state) (putBuffer t s tag agrees reads xs d)
+  unfolding put putBuffer answered left
   put-unchanged tag agrees reads xs ne =
       let e = ne-eqb (putRefusal t s (length d) agrees reads (length (field tag xs))) 0 ne in
       record { same-state = rw e refl; same-buffer = rw e refl }
 
   pub refused-unchanged : (c : Call) → (answer t s d c .refusal ≡ 0 → ⊥) → Unchanged s d (answer t s d c .state) (buffer t s d c)
-  unfolding answer buffer opening closing closingLeft answered left
-  refused-unchanged (putUint tag v) ne = put-unchanged tag (eqb (kindOf (meant t s tag)) 1) true (leastUint v) ne
-  refused-unchanged (putInt tag z) ne = put-unchanged tag (eqb (kindOf (meant t s tag)) 2) true (leastInt z) ne
+  unfolding answer buffer opening closing closeBuffer answered left
+  refused-unchanged (putUint tag v) ne = put-unchanged tag (eqb (kindNumber (meant t s tag)) 1) true (leastUint v) ne
+  refused-unchanged (putInt tag z) ne = put-unchanged tag (eqb (kindNumber (meant t s tag)) 2) true (leastInt z) ne
   refused-unchanged (putOctets tag xs) ne =
-      put-unchanged tag (ofOctets (kindOf (meant t s tag))) (readable (kindOf (meant t s tag)) xs) xs ne
+      put-unchanged tag (ofOctets (kindNumber (meant t s tag))) (readable (kindNumber (meant t s tag)) xs) xs ne
   refused-unchanged (openField tag) ne =
-      let e = ne-eqb (openRefusal t s (eqb (kindOf (meant t s tag)) 5)) 0 ne in
+      let e = ne-eqb (openRefusal t s (eqb (kindNumber (meant t s tag)) 5)) 0 ne in
       record { same-state = rw e refl; same-buffer = refl }
   refused-unchanged closeField ne =
       let e = ne-eqb (closeRefusal t s (length d)) 0 ne in

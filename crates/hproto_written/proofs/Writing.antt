@@ -6,17 +6,18 @@ use mathlib.Core.List.{List, _++_, append-assoc}
 use lib.ListN.{length, length-append}
 use borrow.Author.Tests.{le-leb}
 use Rattle.octets.specs.Control.{leastControl}
-use Rattle.hproto_table.specs.Entry.{entries, find}
+use Rattle.hproto_table.specs.Entry.{entries, find, kindNumber}
 use Rattle.hproto_table.specs.declared.Meaning.{Meaning}
 use Rattle.hproto_table.specs.declared.Meaning.the-variants.{Uint, Int, String, Text, Message}
 use Rattle.hproto_table.specs.declared.Table.{Table}
 use Rattle.hproto_message.specs.Tree.{Tree, end, leaf, nested, Value, raw, uint, int, string, text, depth}
 use Rattle.hproto_message.specs.Shortest.{leastContents, field, shortest}
-use Rattle.hproto_writer.specs.Calls.{demand, kindOf, ofOctets, readable, started}
+use Rattle.hproto_writer.specs.Calls.{orRefuse, ofOctets, readable, started}
 use Rattle.hproto_writer.specs.declared.State.{State}
 use Rattle.hproto_writer.proofs.Answers.{field-length}
 use Rattle.hproto_written.specs.Given.{Given, message, opened, onFields, closed, openFields, innermost, written}
-use Rattle.hproto_written.specs.Run.{Call, putUint, putInt, putOctets, openField, closeField, InRange, octetsAs, kindIn, giving, Run, start, next}
+use Rattle.hproto_written.specs.Run.{InRange, octetsAs, kindIn, giving, Run, start, next}
+use Rattle.hproto_writer.specs.Answer.{Call, putUint, putInt, putOctets, openField, closeField}
 use Rattle.hproto_written.specs.Refusal.{refusalForRoom, refusalOfClose, refusalOfCall, refusalOfFinish}
 use Rattle.hproto_written.specs.Writable.{OfKind, Writable, Writes}
 use Rattle.hproto_written.proofs.Fields.{same-open, same-innermost, opened-innermost, written-before}
@@ -83,16 +84,16 @@ module _ (t : Table) (number : ℕ) (lent : List ℕ) where
 
   module _ (g : Given) where
     has-room : (size : ℕ) → length (written g) + size ≤ length lent → refusalForRoom (length lent) g size ≡ 0
-    unfolding refusalForRoom demand
+    unfolding refusalForRoom orRefuse
     has-room size h = rw (le-leb (length (written g) + size) (length lent) h) refl
 
-    of-kind : (tag : ℕ) (k : Meaning) → find (entries t) (innermost (entries t) number g) tag ≡ k → kindIn t number g tag ≡ kindOf k
+    of-kind : (tag : ℕ) (k : Meaning) → find (entries t) (innermost (entries t) number g) tag ≡ k → kindIn t number g tag ≡ kindNumber k
     unfolding kindIn
-    of-kind tag k e = ap kindOf e
+    of-kind tag k e = ap kindNumber e
 
     more-leaf : RunTo g → (tag : ℕ) (v : Value) → OfKind (find (entries t) (innermost (entries t) number g) tag) v
         → length (written g) + length (field tag (leastContents v)) ≤ length lent → RunTo (onFields (leaf tag v) g)
-    unfolding OfKind leastContents InRange refusalOfCall giving demand kindOf ofOctets readable octetsAs
+    unfolding OfKind leastContents InRange refusalOfCall giving orRefuse kindNumber ofOctets readable octetsAs
     more-leaf r tag (raw xs) h l = absurd h
     more-leaf r tag (uint v) h l = one-more g r (putUint tag v) (h .1) (rw (of-kind tag Uint (h .0)) (has-room (length (field tag (leastContents (uint v)))) l))
     more-leaf r tag (int z) h l = one-more g r (putInt tag z) (h .1) (rw (of-kind tag Int (h .0)) (has-room (length (field tag (leastContents (int z)))) l))
@@ -104,7 +105,7 @@ module _ (t : Table) (number : ℕ) (lent : List ℕ) where
         subst RunTo (rw e refl) (one-more g r (putOctets tag xs) tt (rw (e, h .1) (has-room (length (field tag xs)) l)))
 
     more-open : RunTo g → (tag m : ℕ) → find (entries t) (innermost (entries t) number g) tag ≡ Message m → openFields g ≤ 6 → RunTo (opened tag end g)
-    unfolding InRange refusalOfCall giving demand kindOf
+    unfolding InRange refusalOfCall giving orRefuse kindNumber
     more-open r tag m e h = one-more g r (openField tag) tt (rw (of-kind tag (Message m) e, le-leb (openFields g) 6 h) refl)
 
   more-close : (tag : ℕ) (w : Tree) (g : Given) → RunTo (opened tag w g)

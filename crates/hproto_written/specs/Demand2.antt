@@ -10,7 +10,10 @@ use Rattle.hproto_message.specs.Cut.{Cut, Good}
 use Rattle.hproto_message.specs.Tree.{Tree, tree, fields, depth}
 use Rattle.hproto_message.specs.Shortest.{shortest}
 use Rattle.hproto_check.specs.Check.{check}
+use Rattle.hproto_writer.specs.Calls.{finished}
+use Rattle.hproto_writer.specs.declared.State.{State}
 use Rattle.hproto_written.specs.Given.{Given, message}
+use Rattle.hproto_written.specs.Run.{Run}
 
 -- What holds after a run (specs/Run.antt) over a lent buffer, which left the buffer `after` and gave the fields `given`, last given
 -- first, where finish is accepted and answers the place `from`.
@@ -28,3 +31,10 @@ pub record Demand2 (t : Table) (number : ℕ) (lent : List ℕ) (from : ℕ) (af
   pub is-shortest : drop from after ≡ shortest whole
   pub to-the-end : from + length (shortest whole) ≡ length lent
   pub others-kept : take from after ≡ take from lent
+
+-- Demand 2 of the order, its part about the writer: this holds for every table, number and lent buffer, and every run over them whose
+-- finish is accepted.
+abbrev pub Demand2Holds : Type 0
+Demand2Holds =
+    (t : Table) (number : ℕ) (lent : List ℕ) (s : State) (after : List ℕ) (given : Given) → Run t number lent s after given
+    → finished s .refusal ≡ 0 → Demand2 t number lent (finished s .start) after given

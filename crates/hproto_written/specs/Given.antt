@@ -1,8 +1,8 @@
 -- The fields that calls of the writer give.
 use Prim.Native.Nat.{ℕ, suc}
 use mathlib.Core.List.{List, _++_}
-use Rattle.hproto_table.specs.Entry.{Entry, find}
-use Rattle.hproto_message.specs.Tree.{Tree, nested, innerOf}
+use Rattle.hproto_table.specs.Entry.{Entry, find, innerOf}
+use Rattle.hproto_message.specs.Tree.{Tree, nested}
 use Rattle.hproto_message.specs.Shortest.{shortest}
 
 -- The fields given so far. `message w`: nothing is open, and w holds the fields of the outermost message. `opened tag w around`: a

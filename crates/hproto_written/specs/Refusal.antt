@@ -10,14 +10,15 @@ use Rattle.octets.specs.Signed.{leastInt}
 use Rattle.octets.specs.Control.{leastControl}
 use Rattle.hproto_table.specs.declared.Table.{Table}
 use Rattle.hproto_message.specs.Shortest.{field, shortest}
-use Rattle.hproto_writer.specs.Calls.{demand, ofOctets, readable, finished}
+use Rattle.hproto_writer.specs.Calls.{orRefuse, ofOctets, readable, finished}
 use Rattle.hproto_writer.specs.declared.State.{State}
 use Rattle.hproto_written.specs.Given.{Given, message, opened, openFields, written}
-use Rattle.hproto_written.specs.Run.{Call, putUint, putInt, putOctets, openField, closeField, answer, kindIn}
+use Rattle.hproto_written.specs.Run.{kindIn}
+use Rattle.hproto_writer.specs.Answer.{Call, putUint, putInt, putOctets, openField, closeField, answer}
 
 -- 9 where so many octets are more than the lent buffer has beside those written.
 unfoldable pub refusalForRoom : ℕ → Given → ℕ → ℕ
-refusalForRoom len g size = demand (leb (length (written g) + size) len) 9 0
+refusalForRoom len g size = orRefuse (leb (length (written g) + size) len) 9 0
 
 -- 11 where nothing is open, 9 where there is no room for the control part.
 unfoldable pub refusalOfClose : ℕ → Given → ℕ
@@ -26,11 +27,11 @@ refusalOfClose len (opened tag w around) = refusalForRoom len (opened tag w arou
 
 -- 8 where the tag has another kind or none at this level, 7 where octets are no text but have to be, 5 where 7 fields are open already.
 unfoldable pub refusalOfCall : Table → ℕ → ℕ → Given → Call → ℕ
-refusalOfCall t number len g (putUint tag v) = demand (eqb (kindIn t number g tag) 1) 8 (refusalForRoom len g (length (field tag (leastUint v))))
-refusalOfCall t number len g (putInt tag z) = demand (eqb (kindIn t number g tag) 2) 8 (refusalForRoom len g (length (field tag (leastInt z))))
+refusalOfCall t number len g (putUint tag v) = orRefuse (eqb (kindIn t number g tag) 1) 8 (refusalForRoom len g (length (field tag (leastUint v))))
+refusalOfCall t number len g (putInt tag z) = orRefuse (eqb (kindIn t number g tag) 2) 8 (refusalForRoom len g (length (field tag (leastInt z))))
 refusalOfCall t number len g (putOctets tag xs) =
-    demand (ofOctets (kindIn t number g tag)) 8 (demand (readable (kindIn t number g tag) xs) 7 (refusalForRoom len g (length (field tag xs))))
-refusalOfCall t number len g (openField tag) = demand (eqb (kindIn t number g tag) 5) 8 (demand (leb (openFields g) 6) 5 0)
+    orRefuse (ofOctets (kindIn t number g tag)) 8 (orRefuse (readable (kindIn t number g tag) xs) 7 (refusalForRoom len g (length (field tag xs))))
+refusalOfCall t number len g (openField tag) = orRefuse (eqb (kindIn t number g tag) 5) 8 (orRefuse (leb (openFields g) 6) 5 0)
 refusalOfCall t number len g closeField = refusalOfClose len g
 
 -- 12 where something is open.

@@ -1,29 +1,19 @@
 -- Runs of the writer: a start and the calls after it, each on the state and the buffer that the last one left, all accepted.
 use Prim.Native.Nat.{ℕ, _^_, _<_}
 use mathlib.Core.Path.{_≡_}
-use mathlib.Core.Bool.{true, cond}
+use mathlib.Core.Bool.{cond}
 use mathlib.Core.List.{List}
 use lib.ListN.{length}
 use lib.Dec.{eqb}
 use lib.IntN.{ℤ}
 use lib.Signed.{mag}
-use Rattle.octets.specs.Number.{leastUint}
-use Rattle.octets.specs.Signed.{leastInt}
-use Rattle.hproto_table.specs.Entry.{entries, find}
+use Rattle.hproto_table.specs.Entry.{entries, find, kindNumber}
 use Rattle.hproto_table.specs.declared.Table.{Table}
 use Rattle.hproto_message.specs.Tree.{end, leaf, Value, uint, int, string, text}
-use Rattle.hproto_writer.specs.Calls.{meant, kindOf, ofOctets, readable, started, put, putLeft, opening, closing, closingLeft}
+use Rattle.hproto_writer.specs.Calls.{started}
+use Rattle.hproto_writer.specs.Answer.{Call, putUint, putInt, putOctets, openField, closeField, answer, buffer}
 use Rattle.hproto_writer.specs.declared.State.{State}
-use Rattle.hproto_writer.specs.declared.Written.{Written}
 use Rattle.hproto_written.specs.Given.{Given, message, opened, onFields, closed, innermost}
-
--- The calls between start and finish, with what the caller gives beside the table, the state and the buffer: a tag, and a value.
-pub data Call : Type 0 where
-  putUint : ℕ → ℕ → Call
-  putInt : ℕ → ℤ → Call
-  putOctets : ℕ → List ℕ → Call
-  openField : ℕ → Call
-  closeField : Call
 
 -- The values that the calls take: a uint of 64 bits, and an int of 64 bits, from minus 2 to the power 63 on (`mag` of a number below
 -- zero is one less than its size). Octets are taken whatever they are.
@@ -34,28 +24,9 @@ InRange (putOctets tag xs) = Unit {0}
 InRange (openField tag) = Unit {0}
 InRange closeField = Unit {0}
 
--- What each call answers on a table, a state and a buffer: the words of the contracts of put_uint, put_int, put_octets, open_field and
--- close_field.
-unfoldable pub answer : Table → State → List ℕ → Call → Written
-answer t s d (putUint tag v) = put t s tag (eqb (kindOf (meant t s tag)) 1) true (leastUint v) (length d)
-answer t s d (putInt tag z) = put t s tag (eqb (kindOf (meant t s tag)) 2) true (leastInt z) (length d)
-answer t s d (putOctets tag xs) =
-    put t s tag (ofOctets (kindOf (meant t s tag))) (readable (kindOf (meant t s tag)) xs) xs (length d)
-answer t s d (openField tag) = opening t s tag
-answer t s d closeField = closing t s (length d)
-
--- The buffer after each call, in the words of the same contracts. A call of open_field gets no buffer.
-unfoldable pub buffer : Table → State → List ℕ → Call → List ℕ
-buffer t s d (putUint tag v) = putLeft t s tag (eqb (kindOf (meant t s tag)) 1) true (leastUint v) d
-buffer t s d (putInt tag z) = putLeft t s tag (eqb (kindOf (meant t s tag)) 2) true (leastInt z) d
-buffer t s d (putOctets tag xs) =
-    putLeft t s tag (ofOctets (kindOf (meant t s tag))) (readable (kindOf (meant t s tag)) xs) xs d
-buffer t s d (openField tag) = d
-buffer t s d closeField = closingLeft t s d
-
 -- The number of the kind that a tag has in the innermost message, under a table and the number of the outermost message.
 unfoldable pub kindIn : Table → ℕ → Given → ℕ → ℕ
-kindIn t number g tag = kindOf (find (entries t) (innermost (entries t) number g) tag)
+kindIn t number g tag = kindNumber (find (entries t) (innermost (entries t) number g) tag)
 
 -- Octets as a value of a kind: text for kind 4, else string.
 unfoldable pub octetsAs : ℕ → List ℕ → Value

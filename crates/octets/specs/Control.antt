@@ -59,8 +59,8 @@ leastControl tag len =
     (t .0 * 16 + l .0) ∷ t .1 ++ l .1
 
 -- The same as three numbers: the control octet, and how many octets of the tag and of the length follow it.
-unfoldable pub controlLeast : ℕ → ℕ → LeastControl
-controlLeast tag len =
+unfoldable pub controlWidths : ℕ → ℕ → LeastControl
+controlWidths tag len =
     let t = leastCode tagCode tag in
     let l = leastCode lengthCode len in
     record { octet = t .0 * 16 + l .0; «tag_width» = length (t .1); «length_width» = length (l .1) }

@@ -41,5 +41,5 @@ unfoldable pub leastUint : ℕ → List ℕ
 leastUint v = octetsOf (width v) v
 
 -- The same as a pair of numbers.
-unfoldable pub uintLeast : ℕ → Least
-uintLeast v = record { width = width v; bits = v }
+unfoldable pub uintWidthBits : ℕ → Least
+uintWidthBits v = record { width = width v; bits = v }

@@ -45,5 +45,5 @@ unfoldable pub leastInt : ℤ → List ℕ
 leastInt z = octetsOf (signedWidth z) (signedBits (signedWidth z) z)
 
 -- The same as a pair of numbers.
-unfoldable pub intLeast : ℤ → Least
-intLeast z = record { width = signedWidth z; bits = signedBits (signedWidth z) z }
+unfoldable pub intWidthBits : ℤ → Least
+intWidthBits z = record { width = signedWidth z; bits = signedBits (signedWidth z) z }

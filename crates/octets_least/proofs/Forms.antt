@@ -5,7 +5,7 @@ use native.Mathlib.Omega.{arith}
 use mathlib.Core.Path.{_≡_}
 use borrow.Author.Tests.{lt-ltb, le-ltb}
 use Rattle.octets.specs.Number.{octetsOf}
-use Rattle.octets.specs.Control.{Code, tagCode, lengthCode, firstFit, leastCode, controlLeast}
+use Rattle.octets.specs.Control.{Code, tagCode, lengthCode, firstFit, leastCode, controlWidths}
 use Rattle.octets.specs.declared.LeastControl.{LeastControl}
 use Rattle.octets.proofs.Number.{length-octetsOf}
 use Rattle.octets_least.specs.Lead.{LeastLead}
@@ -49,8 +49,8 @@ length-eight v a b =
 
 -- The two leads as one octet, by a shift and a sum.
 pub control-is : (tag len t n l m : ℕ) → LeastLead tagCode tag t n → LeastLead lengthCode len l m
-    → _≡_ {A = LeastControl} (record { octet = t * 16 % 256 + l; «tag_width» = n; «length_width» = m }) (controlLeast tag len)
-unfolding controlLeast
+    → _≡_ {A = LeastControl} (record { octet = t * 16 % 256 + l; «tag_width» = n; «length_width» = m }) (controlWidths tag len)
+unfolding controlWidths
 control-is tag len t n l m p q =
     let b = p .nybble in
     let e : t * 16 % 256 ≡ t * 16 = mod-eq-of-lt (omega arith) in

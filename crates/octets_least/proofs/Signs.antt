@@ -14,7 +14,7 @@ use mir.Val.{Fits, SFits, toZ, ofZ}
 use mir.ValLaws.{toZ-ofZ, toZ-pos}
 use borrow.Author.Tests.{le-ltb}
 use Rattle.octets.specs.Number.{width}
-use Rattle.octets.specs.Signed.{lowest, signedWidth, signedBits, intLeast}
+use Rattle.octets.specs.Signed.{lowest, signedWidth, signedBits, intWidthBits}
 use Rattle.octets.specs.declared.Least.{Least}
 use Rattle.octets.proofs.Number.{power-grows, power-positive}
 use Rattle.octets.proofs.Integer.{lowest-half}
@@ -43,12 +43,12 @@ unfolding lowest
 masked k n = and-mask (k + 1) (8 * n - 1) ∙ rw (add-one k)
 
 pub below-is : (k n low : ℕ) → n ≡ width (2 * k + 1) → low ≡ lowest n
-    → _≡_ {A = Least} (record { width = n; bits = low + bitAnd (k + 1) (low - 1) }) (intLeast (negsuc k))
-unfolding intLeast signedWidth signedBits
+    → _≡_ {A = Least} (record { width = n; bits = low + bitAnd (k + 1) (low - 1) }) (intWidthBits (negsuc k))
+unfolding intWidthBits signedWidth signedBits
 below-is k n low e f = rw (f, masked k n, e)
 
-pub above-is : (z : ℤ) (v n : ℕ) → z ≡ pos v → n ≡ width (2 * v) → _≡_ {A = Least} (record { width = n; bits = v }) (intLeast z)
-unfolding intLeast signedWidth signedBits
+pub above-is : (z : ℤ) (v n : ℕ) → z ≡ pos v → n ≡ width (2 * v) → _≡_ {A = Least} (record { width = n; bits = v }) (intWidthBits z)
+unfolding intWidthBits signedWidth signedBits
 above-is z v n e f = rw (e, f)
 
 -- What the machine makes of `-1 - z`, for z below zero.

@@ -5,9 +5,9 @@ ghost use mathlib.Core.Path.{_≡_};
 ghost use Prim.Native.Nat.{_<_, _≤_, _^_};
 ghost use lib.IntN.{pos, negsuc};
 ghost use lib.Signed.{_<ℤ_};
-ghost use Rattle.octets.specs.Number.{uintLeast, width as width-of};
-ghost use Rattle.octets.specs.Signed.{intLeast, lowest};
-ghost use Rattle.octets.specs.Control.{controlLeast, tagCode, lengthCode};
+ghost use Rattle.octets.specs.Number.{uintWidthBits, width as width-of};
+ghost use Rattle.octets.specs.Signed.{intWidthBits, lowest};
+ghost use Rattle.octets.specs.Control.{controlWidths, tagCode, lengthCode};
 ghost use Rattle.octets_least.specs.Lead.{LeastLead};
 
 // How many octets a number needs.
@@ -43,7 +43,7 @@ fn width(v: u64) -> u64
 
 // The least octets of an unsigned number.
 pub fn uint_least(v: u64) -> Least
-    ensures { λ r. ⌜ r ≡ uintLeast v ⌝ }
+    ensures { λ r. ⌜ r ≡ uintWidthBits v ⌝ }
 {
     Least {
         width: width(v),
@@ -70,7 +70,7 @@ fn under_zero(z: i64) -> u64
 // The least octets of the number below zero whose magnitude is k + 1. The mask drops the magnitude where it is the sign bit itself.
 fn least_below(k: u64) -> Least
     requires { ⌜ k < 2 ^ 63 ⌝ }
-    ensures { λ r. ⌜ r ≡ intLeast (negsuc k) ⌝ }
+    ensures { λ r. ⌜ r ≡ intWidthBits (negsuc k) ⌝ }
 {
     let n = width(2 * k + 1);
     let low = sign_bit(n);
@@ -82,7 +82,7 @@ fn least_below(k: u64) -> Least
 
 // The least octets of a signed number.
 pub fn int_least(z: i64) -> Least
-    ensures { λ r. ⌜ r ≡ intLeast z ⌝ }
+    ensures { λ r. ⌜ r ≡ intWidthBits z ⌝ }
 {
     if z < 0 {
         return least_below(under_zero(z));
@@ -158,7 +158,7 @@ fn length_lead(length: u64) -> Lead
 
 // The least control part of a tag and a length.
 pub fn control_least(tag: u16, length: u64) -> LeastControl
-    ensures { λ r. ⌜ r ≡ controlLeast tag length ⌝ }
+    ensures { λ r. ⌜ r ≡ controlWidths tag length ⌝ }
 {
     let t = tag_lead(tag);
     let l = length_lead(length);

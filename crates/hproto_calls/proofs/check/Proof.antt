@@ -6,8 +6,9 @@ use Rattle.hproto_table.specs.declared.Table.{Table}
 use Rattle.hproto_check.specs.Check.{check, refusal}
 use Rattle.hproto_check.proofs.Counts.{under-valid}
 use Rattle.hproto_shorten.proofs.Passing.{octets-each}
+use Rattle.hproto_table.proofs.Placed.{loaded-valid}
 use Rattle.hproto_calls.specs.Calls.{checkOctets}
-use Rattle.hproto_calls.proofs.Loading.{message-too-long, table-refused, table-loaded, loaded-valid}
+use Rattle.hproto_calls.proofs.Loading.{message-too-long, table-refused, table-loaded}
 use Rattle.hproto_calls.proofs.check.Statement.{statement}
 use Rattle.hproto_calls.proofs.check.Tie as tie
 use Rattle.hproto_calls.proofs.check.Reads as reads

@@ -8,8 +8,9 @@ use Rattle.hproto_table.specs.declared.Table.{Table}
 use Rattle.hproto_shorten.specs.Shorten.{answer, buffer, refusal}
 use Rattle.hproto_shorten.proofs.Answers.{answer-under, buffer-under}
 use Rattle.hproto_shorten.proofs.Passing.{octets-each}
+use Rattle.hproto_table.proofs.Placed.{loaded-valid}
 use Rattle.hproto_calls.specs.Calls.{shortenOctets, shortenBuffer}
-use Rattle.hproto_calls.proofs.Loading.{message-too-long, table-refused, table-loaded, loaded-valid}
+use Rattle.hproto_calls.proofs.Loading.{message-too-long, table-refused, table-loaded}
 use Rattle.hproto_calls.proofs.shorten.Statement.{statement}
 use Rattle.hproto_calls.proofs.shorten.Tie as tie
 use Rattle.hproto_calls.proofs.shorten.Reads as reads

@@ -14,7 +14,7 @@ use Rattle.hproto_lookup.proofs.look.Lts as lts
 use Rattle.hproto_check.proofs.check.Reads as check-reads
 use Rattle.hproto_find.proofs.find.Reads as find-reads
 use Rattle.hproto_lookup.proofs.contents.Reads as contents-reads
-use Rattle.hproto_lookup.proofs.kind_number.Reads as kind-number-reads
+use Rattle.hproto_find.proofs.kind_number.Reads as kind-number-reads
 use Rattle.hproto_lookup.proofs.pick.Reads as pick-reads
 use Rattle.hproto_lookup.proofs.refused.Reads as refused-reads
 

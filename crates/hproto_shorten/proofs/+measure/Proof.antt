@@ -11,7 +11,7 @@ use Rattle.hproto_table.specs.Entry.{Entry, entry}
 use Rattle.hproto_field.specs.Fronts.{front}
 use Rattle.hproto_shorten.specs.Written.{short, Accepts}
 use Rattle.hproto_shorten.proofs.Passing.{plain-of, message-of, octets-part, leaf-contents}
-use Rattle.hproto_shorten.proofs.Writing.{accepts-room}
+use Rattle.hproto_shorten.proofs.Writing.{accepts-levels}
 use Rattle.hproto_shorten.proofs.Measuring.{Counted, counted-none, counted-all, counted-few, short-few, control-few, next-onward, leaf-counted, nested-accepts, nested-counted}
 use borrow.Fn.Kinds.{In}
 use borrow.Fn.PlainCycle.{Measures, is, falls, and}
@@ -35,10 +35,10 @@ abbrev measure-below : ℕ → In 2 measure-kinds.ps
 measure-below t = and 2 measure-kinds.ps (falls 2 measure-kinds.ps _<_ μ-measure t) measure.Pre
 
 abbrev measure-Inv-loop : measure-lts.InvT-loop
-measure-Inv-loop words count number room s i₀ size₀ i size = Counted (map entry (take count words)) (room - 1) number s i size
+measure-Inv-loop words count number levels s i₀ size₀ i size = Counted (map entry (take count words)) (levels - 1) number s i size
 
 abbrev measure-μ-loop : measure-lts.MeasureT-loop
-measure-μ-loop words count number room s i₀ size₀ i size = length s - i
+measure-μ-loop words count number levels s i₀ size₀ i size = length s - i
 
 -- The place after the field at the front of the octets that are left was found.
 abbrev Found : ℕ → Type 0
@@ -57,18 +57,18 @@ module _ (t : ℕ) (b : At-start t) where
   abbrev octets : Octets (now (b .args .s))
   octets = b .pre .1 .1 .0
 
-  room-is : suc (b .args .room - 1) ≡ b .args .room
-  room-is = accepts-room es (b .args .room) (b .args .number) (now (b .args .s)) (b .pre .1 .1 .1)
+  levels-is : suc (b .args .levels - 1) ≡ b .args .levels
+  levels-is = accepts-levels es (b .args .levels) (b .args .number) (now (b .args .s)) (b .pre .1 .1 .1)
 
-  accepts : Accepts es (suc (b .args .room - 1)) (b .args .number) (now (b .args .s))
-  accepts = subst (λ (r : ℕ). Accepts es r (b .args .number) (now (b .args .s))) (sym room-is) (b .pre .1 .1 .1)
+  accepts : Accepts es (suc (b .args .levels - 1)) (b .args .number) (now (b .args .s))
+  accepts = subst (λ (r : ℕ). Accepts es r (b .args .number) (now (b .args .s))) (sym levels-is) (b .pre .1 .1 .1)
 
-  whole-few : length (short es (suc (b .args .room - 1)) (b .args .number) (now (b .args .s))) ≤ 65536
-  whole-few = let h = short-few es (suc (b .args .room - 1)) (b .args .number) (now (b .args .s)) octets accepts in let k = few in omega arith
+  whole-few : length (short es (suc (b .args .levels - 1)) (b .args .number) (now (b .args .s))) ≤ 65536
+  whole-few = let h = short-few es (suc (b .args .levels - 1)) (b .args .number) (now (b .args .s)) octets accepts in let k = few in omega arith
 
   -- What has been counted so far is small.
-  counted-small : (i size : ℕ) → Counted es (b .args .room - 1) (b .args .number) (now (b .args .s)) i size → size ≤ 65536
-  counted-small i size p = let h = counted-few es (b .args .room - 1) (b .args .number) (now (b .args .s)) i size p in let k = whole-few in omega arith
+  counted-small : (i size : ℕ) → Counted es (b .args .levels - 1) (b .args .number) (now (b .args .s)) i size → size ≤ 65536
+  counted-small i size p = let h = counted-few es (b .args .levels - 1) (b .args .number) (now (b .args .s)) i size p in let k = whole-few in omega arith
 
 module _ (t : ℕ) (c : Found t) where
   abbrev b : At-start t
@@ -77,7 +77,7 @@ module _ (t : ℕ) (c : Found t) where
   abbrev i : ℕ
   i = c .before .before .before .loop .i
 
-  abbrev state : Counted (es t b) (b .args .room - 1) (b .args .number) (now (b .args .s)) i (c .before .before .before .loop .size)
+  abbrev state : Counted (es t b) (b .args .levels - 1) (b .args .number) (now (b .args .s)) i (c .before .before .before .loop .size)
   state = c .before .before .before .loop .inv
 
   abbrev more : i < length (now (b .args .s))
@@ -94,7 +94,7 @@ module _ (t : ℕ) (c : Found t) where
 measure-loop-holds : (t : ℕ) → measure-lts.Need-loop-holds (field-at-reads.Asked, field-at-reads.Learnt, held-reads.Asked, held-reads.Learnt, value-size-reads.Asked, value-size-reads.Learnt, measure-below t, measure.Post, control-size-reads.Asked, control-size-reads.Learnt) (measure-at t) measure.Post measure-Inv-loop measure-μ-loop
 measure-loop-holds t c =
     let s = c .before .before in
-    counted-none (es t s) (s .args .room - 1) (s .args .number) (now (s .args .s)) (accepts t s)
+    counted-none (es t s) (s .args .levels - 1) (s .args .number) (now (s .args .s)) (accepts t s)
 
 -- src/lib.rt:216:62
 measure-sub-field-at : (t : ℕ) → measure-lts.Need-sub-field-at (field-at-reads.Asked, field-at-reads.Learnt, held-reads.Asked, held-reads.Learnt, value-size-reads.Asked, value-size-reads.Learnt, measure-below t, measure.Post, control-size-reads.Asked, control-size-reads.Learnt) (measure-at t) measure.Post measure-Inv-loop measure-μ-loop
@@ -114,11 +114,11 @@ measure-field-at-requires t c κs = search needs
 
 -- src/lib.rt:218:17
 measure-add-a : (t : ℕ) → measure-lts.Need-add-a (field-at-reads.Asked, field-at-reads.Learnt, held-reads.Asked, held-reads.Learnt, value-size-reads.Asked, value-size-reads.Learnt, measure-below t, measure.Post, control-size-reads.Asked, control-size-reads.Learnt) (measure-at t) measure.Post measure-Inv-loop measure-μ-loop
-measure-add-a t c = let f = c .before in let h = next-onward (es t (b t f)) (b t f .args .room - 1) (b t f .args .number) (now (b t f .args .s)) (i t f) (f .before .before .before .loop .size) (state t f) (more t f) (octets t (b t f)) (f .field-at .result) (found t f) .1 in let g = b t f .good in omega arith
+measure-add-a t c = let f = c .before in let h = next-onward (es t (b t f)) (b t f .args .levels - 1) (b t f .args .number) (now (b t f .args .s)) (i t f) (f .before .before .before .loop .size) (state t f) (more t f) (octets t (b t f)) (f .field-at .result) (found t f) .1 in let g = b t f .good in omega arith
 
 -- src/lib.rt:219:17
 measure-add-e : (t : ℕ) → measure-lts.Need-add-e (field-at-reads.Asked, field-at-reads.Learnt, held-reads.Asked, held-reads.Learnt, value-size-reads.Asked, value-size-reads.Learnt, measure-below t, measure.Post, control-size-reads.Asked, control-size-reads.Learnt) (measure-at t) measure.Post measure-Inv-loop measure-μ-loop
-measure-add-e t c = let f = c .before .before in let h = next-onward (es t (b t f)) (b t f .args .room - 1) (b t f .args .number) (now (b t f .args .s)) (i t f) (f .before .before .before .loop .size) (state t f) (more t f) (octets t (b t f)) (f .field-at .result) (found t f) .1 in let g = b t f .good in omega arith
+measure-add-e t c = let f = c .before .before in let h = next-onward (es t (b t f)) (b t f .args .levels - 1) (b t f .args .number) (now (b t f .args .s)) (i t f) (f .before .before .before .loop .size) (state t f) (more t f) (octets t (b t f)) (f .field-at .result) (found t f) .1 in let g = b t f .good in omega arith
 
 -- src/lib.rt:220:19
 measure-cast-tag : (t : ℕ) → measure-lts.Need-cast-tag (field-at-reads.Asked, field-at-reads.Learnt, held-reads.Asked, held-reads.Learnt, value-size-reads.Asked, value-size-reads.Learnt, measure-below t, measure.Post, control-size-reads.Asked, control-size-reads.Learnt) (measure-at t) measure.Post measure-Inv-loop measure-μ-loop
@@ -142,14 +142,14 @@ measure-part-value-size-start t c = search needs
 
 -- src/lib.rt:223:53
 measure-part-value-size-end : (t : ℕ) → measure-lts.Need-part-value-size-end (field-at-reads.Asked, field-at-reads.Learnt, held-reads.Asked, held-reads.Learnt, value-size-reads.Asked, value-size-reads.Learnt, measure-below t, measure.Post, control-size-reads.Asked, control-size-reads.Learnt) (measure-at t) measure.Post measure-Inv-loop measure-μ-loop
-measure-part-value-size-end t c = let f = c .before .before .before .before .before .before in let h = next-onward (es t (b t f)) (b t f .args .room - 1) (b t f .args .number) (now (b t f .args .s)) (i t f) (f .before .before .before .loop .size) (state t f) (more t f) (octets t (b t f)) (f .field-at .result) (found t f) .1 in omega arith
+measure-part-value-size-end t c = let f = c .before .before .before .before .before .before in let h = next-onward (es t (b t f)) (b t f .args .levels - 1) (b t f .args .number) (now (b t f .args .s)) (i t f) (f .before .before .before .loop .size) (state t f) (more t f) (octets t (b t f)) (f .field-at .result) (found t f) .1 in omega arith
 
 -- src/lib.rt:223:31
 measure-value-size-requires : (t : ℕ) → measure-lts.Need-value-size-requires (field-at-reads.Asked, field-at-reads.Learnt, held-reads.Asked, held-reads.Learnt, value-size-reads.Asked, value-size-reads.Learnt, measure-below t, measure.Post, control-size-reads.Asked, control-size-reads.Learnt) (measure-at t) measure.Post measure-Inv-loop measure-μ-loop
 measure-value-size-requires t c κs =
     let f = c .before .before .before .before .before .before .before in
     let q = plain-of (f .field-at .result .kind) (sym (c .before .before .before .held .ensures) ∙ c .before .enum-told .given .1) in (
-      leaf-contents (es t (b t f)) (b t f .args .room - 1) (b t f .args .number) (now (b t f .args .s)) (i t f) (state t f .written) (state t f .passed) (more t f)
+      leaf-contents (es t (b t f)) (b t f .args .levels - 1) (b t f .args .number) (now (b t f .args .s)) (i t f) (state t f .written) (state t f .passed) (more t f)
           (f .field-at .result) (found t f) q,
       part-few t f (i t f + f .field-at .result .control) (i t f + f .field-at .result .control + f .field-at .result .contents - (i t f + f .field-at .result .control)),
     )
@@ -159,18 +159,18 @@ measure-add-size : (t : ℕ) → measure-lts.Need-add-size (field-at-reads.Asked
 measure-add-size t c =
     let f = c .before .before .before .before .before .before .before .before in
     let x = f .field-at .result in
-    let h = counted-small t (b t f) (i t f + x .control + x .contents) (f .before .before .before .loop .size + c .value-size .result) (leaf-counted (es t (b t f)) (b t f .args .room - 1) (b t f .args .number) (now (b t f .args .s)) (i t f) (f .before .before .before .loop .size) (state t f) (more t f) (octets t (b t f)) (f .field-at .result) (found t f) (c .value-size .result) (plain-of (f .field-at .result .kind) (sym (c .before .before .before .before .held .ensures) ∙ c .before .before .enum-told .given .1)) (c .value-size .ensures)) in
+    let h = counted-small t (b t f) (i t f + x .control + x .contents) (f .before .before .before .loop .size + c .value-size .result) (leaf-counted (es t (b t f)) (b t f .args .levels - 1) (b t f .args .number) (now (b t f .args .s)) (i t f) (f .before .before .before .loop .size) (state t f) (more t f) (octets t (b t f)) (f .field-at .result) (found t f) (c .value-size .result) (plain-of (f .field-at .result .kind) (sym (c .before .before .before .before .held .ensures) ∙ c .before .before .enum-told .given .1)) (c .value-size .ensures)) in
     omega arith
 
 -- src/lib.rt:215:5
 measure-loop-less : (t : ℕ) → measure-lts.Need-loop-less (field-at-reads.Asked, field-at-reads.Learnt, held-reads.Asked, held-reads.Learnt, value-size-reads.Asked, value-size-reads.Learnt, measure-below t, measure.Post, control-size-reads.Asked, control-size-reads.Learnt) (measure-at t) measure.Post measure-Inv-loop measure-μ-loop
-measure-loop-less t c = let f = c .before .before .before .before .before .before .before .before in let h = next-onward (es t (b t f)) (b t f .args .room - 1) (b t f .args .number) (now (b t f .args .s)) (i t f) (f .before .before .before .loop .size) (state t f) (more t f) (octets t (b t f)) (f .field-at .result) (found t f) in let p = h .0 in let q = h .1 in omega arith
+measure-loop-less t c = let f = c .before .before .before .before .before .before .before .before in let h = next-onward (es t (b t f)) (b t f .args .levels - 1) (b t f .args .number) (now (b t f .args .s)) (i t f) (f .before .before .before .loop .size) (state t f) (more t f) (octets t (b t f)) (f .field-at .result) (found t f) in let p = h .0 in let q = h .1 in omega arith
 
 -- src/lib.rt:215:5
 measure-loop-again : (t : ℕ) → measure-lts.Need-loop-again (field-at-reads.Asked, field-at-reads.Learnt, held-reads.Asked, held-reads.Learnt, value-size-reads.Asked, value-size-reads.Learnt, measure-below t, measure.Post, control-size-reads.Asked, control-size-reads.Learnt) (measure-at t) measure.Post measure-Inv-loop measure-μ-loop
 measure-loop-again t c =
     let f = c .before .before .before .before .before .before .before .before in
-    leaf-counted (es t (b t f)) (b t f .args .room - 1) (b t f .args .number) (now (b t f .args .s)) (i t f) (f .before .before .before .loop .size) (state t f) (more t f) (octets t (b t f)) (f .field-at .result) (found t f) (c .value-size .result) (plain-of (f .field-at .result .kind) (sym (c .before .before .before .before .held .ensures) ∙ c .before .before .enum-told .given .1)) (c .value-size .ensures)
+    leaf-counted (es t (b t f)) (b t f .args .levels - 1) (b t f .args .number) (now (b t f .args .s)) (i t f) (f .before .before .before .loop .size) (state t f) (more t f) (octets t (b t f)) (f .field-at .result) (found t f) (c .value-size .result) (plain-of (f .field-at .result .kind) (sym (c .before .before .before .before .held .ensures) ∙ c .before .before .enum-told .given .1)) (c .value-size .ensures)
 
 -- src/lib.rt:226:27
 measure-enum-known-m : (t : ℕ) → measure-lts.Need-enum-known-m (field-at-reads.Asked, field-at-reads.Learnt, held-reads.Asked, held-reads.Learnt, value-size-reads.Asked, value-size-reads.Learnt, measure-below t, measure.Post, control-size-reads.Asked, control-size-reads.Learnt) (measure-at t) measure.Post measure-Inv-loop measure-μ-loop
@@ -180,7 +180,7 @@ measure-enum-known-m t c = search needs
 measure-sub-measure : (t : ℕ) → measure-lts.Need-sub-measure (field-at-reads.Asked, field-at-reads.Learnt, held-reads.Asked, held-reads.Learnt, value-size-reads.Asked, value-size-reads.Learnt, measure-below t, measure.Post, control-size-reads.Asked, control-size-reads.Learnt) (measure-at t) measure.Post measure-Inv-loop measure-μ-loop
 measure-sub-measure t c =
     let f = c .before .before .before .before .before .before .before in
-    let h = nested-accepts (es t (b t f)) (b t f .args .room - 1) (b t f .args .number) (now (b t f .args .s)) (i t f) (f .before .before .before .loop .size) (state t f) (more t f) (octets t (b t f)) (f .field-at .result) (found t f) (c .before .m .given .0 .0) (message-of (f .field-at .result .kind) (c .before .m .given .0 .0) (sym (c .before .before .before .held .ensures) ∙ c .before .m .given .1)) .0 in
+    let h = nested-accepts (es t (b t f)) (b t f .args .levels - 1) (b t f .args .number) (now (b t f .args .s)) (i t f) (f .before .before .before .loop .size) (state t f) (more t f) (octets t (b t f)) (f .field-at .result) (found t f) (c .before .m .given .0 .0) (message-of (f .field-at .result .kind) (c .before .m .given .0 .0) (sym (c .before .before .before .held .ensures) ∙ c .before .m .given .1)) .0 in
     omega arith
 
 -- src/lib.rt:227:60
@@ -193,7 +193,7 @@ measure-part-measure-start t c = search needs
 
 -- src/lib.rt:227:60
 measure-part-measure-end : (t : ℕ) → measure-lts.Need-part-measure-end (field-at-reads.Asked, field-at-reads.Learnt, held-reads.Asked, held-reads.Learnt, value-size-reads.Asked, value-size-reads.Learnt, measure-below t, measure.Post, control-size-reads.Asked, control-size-reads.Learnt) (measure-at t) measure.Post measure-Inv-loop measure-μ-loop
-measure-part-measure-end t c = let f = c .before .before .before .before .before .before .before in let h = next-onward (es t (b t f)) (b t f .args .room - 1) (b t f .args .number) (now (b t f .args .s)) (i t f) (f .before .before .before .loop .size) (state t f) (more t f) (octets t (b t f)) (f .field-at .result) (found t f) .1 in omega arith
+measure-part-measure-end t c = let f = c .before .before .before .before .before .before .before in let h = next-onward (es t (b t f)) (b t f .args .levels - 1) (b t f .args .number) (now (b t f .args .s)) (i t f) (f .before .before .before .loop .size) (state t f) (more t f) (octets t (b t f)) (f .field-at .result) (found t f) .1 in omega arith
 
 -- src/lib.rt:227:21
 measure-measure-requires : (t : ℕ) → measure-lts.Need-measure-requires (field-at-reads.Asked, field-at-reads.Learnt, held-reads.Asked, held-reads.Learnt, value-size-reads.Asked, value-size-reads.Learnt, measure-below t, measure.Post, control-size-reads.Asked, control-size-reads.Learnt) (measure-at t) measure.Post measure-Inv-loop measure-μ-loop
@@ -201,7 +201,7 @@ measure-measure-requires t c κs =
     let f = c .before .before .before .before .before .before .before .before in
     let m = c .before .before .m .given .0 .0 in
     let x = f .field-at .result in
-    let h = nested-accepts (es t (b t f)) (b t f .args .room - 1) (b t f .args .number) (now (b t f .args .s)) (i t f) (f .before .before .before .loop .size) (state t f) (more t f) (octets t (b t f)) (f .field-at .result) (found t f) m (message-of (f .field-at .result .kind) (c .before .before .m .given .0 .0) (sym (c .before .before .before .before .held .ensures) ∙ c .before .before .m .given .1)) in
+    let h = nested-accepts (es t (b t f)) (b t f .args .levels - 1) (b t f .args .number) (now (b t f .args .s)) (i t f) (f .before .before .before .loop .size) (state t f) (more t f) (octets t (b t f)) (f .field-at .result) (found t f) m (message-of (f .field-at .result .kind) (c .before .before .m .given .0 .0) (sym (c .before .before .before .before .held .ensures) ∙ c .before .before .m .given .1)) in
     let k = h .0 in
     let p = b t f .pre .0 in
     let j = i t f + x .control in
@@ -216,7 +216,7 @@ measure-add-size-2 : (t : ℕ) → measure-lts.Need-add-size-2 (field-at-reads.A
 measure-add-size-2 t c =
     let f = c .before .before .before .before .before .before .before .before .before .before in
     let x = f .field-at .result in
-    let h = counted-small t (b t f) (i t f + x .control + x .contents) (f .before .before .before .loop .size + (c .control-size .result + c .before .measure .result)) (nested-counted (es t (b t f)) (b t f .args .room - 1) (b t f .args .number) (now (b t f .args .s)) (i t f) (f .before .before .before .loop .size) (state t f) (more t f) (octets t (b t f)) (f .field-at .result) (found t f) (c .before .before .before .before .m .given .0 .0) (message-of (f .field-at .result .kind) (c .before .before .before .before .m .given .0 .0) (sym (c .before .before .before .before .before .before .held .ensures) ∙ c .before .before .before .before .m .given .1)) (c .before .measure .result) (c .control-size .result) (c .before .measure .ensures) (c .control-size .ensures)) in
+    let h = counted-small t (b t f) (i t f + x .control + x .contents) (f .before .before .before .loop .size + (c .control-size .result + c .before .measure .result)) (nested-counted (es t (b t f)) (b t f .args .levels - 1) (b t f .args .number) (now (b t f .args .s)) (i t f) (f .before .before .before .loop .size) (state t f) (more t f) (octets t (b t f)) (f .field-at .result) (found t f) (c .before .before .before .before .m .given .0 .0) (message-of (f .field-at .result .kind) (c .before .before .before .before .m .given .0 .0) (sym (c .before .before .before .before .before .before .held .ensures) ∙ c .before .before .before .before .m .given .1)) (c .before .measure .result) (c .control-size .result) (c .before .measure .ensures) (c .control-size .ensures)) in
     omega arith
 
 -- src/lib.rt:228:24
@@ -224,25 +224,25 @@ measure-add-size-3 : (t : ℕ) → measure-lts.Need-add-size-3 (field-at-reads.A
 measure-add-size-3 t c =
     let f = c .before .before .before .before .before .before .before .before .before .before in
     let x = f .field-at .result in
-    let h = counted-small t (b t f) (i t f + x .control + x .contents) (f .before .before .before .loop .size + (c .control-size .result + c .before .measure .result)) (nested-counted (es t (b t f)) (b t f .args .room - 1) (b t f .args .number) (now (b t f .args .s)) (i t f) (f .before .before .before .loop .size) (state t f) (more t f) (octets t (b t f)) (f .field-at .result) (found t f) (c .before .before .before .before .m .given .0 .0) (message-of (f .field-at .result .kind) (c .before .before .before .before .m .given .0 .0) (sym (c .before .before .before .before .before .before .held .ensures) ∙ c .before .before .before .before .m .given .1)) (c .before .measure .result) (c .control-size .result) (c .before .measure .ensures) (c .control-size .ensures)) in
+    let h = counted-small t (b t f) (i t f + x .control + x .contents) (f .before .before .before .loop .size + (c .control-size .result + c .before .measure .result)) (nested-counted (es t (b t f)) (b t f .args .levels - 1) (b t f .args .number) (now (b t f .args .s)) (i t f) (f .before .before .before .loop .size) (state t f) (more t f) (octets t (b t f)) (f .field-at .result) (found t f) (c .before .before .before .before .m .given .0 .0) (message-of (f .field-at .result .kind) (c .before .before .before .before .m .given .0 .0) (sym (c .before .before .before .before .before .before .held .ensures) ∙ c .before .before .before .before .m .given .1)) (c .before .measure .result) (c .control-size .result) (c .before .measure .ensures) (c .control-size .ensures)) in
     omega arith
 
 -- src/lib.rt:215:5
 measure-loop-less-2 : (t : ℕ) → measure-lts.Need-loop-less-2 (field-at-reads.Asked, field-at-reads.Learnt, held-reads.Asked, held-reads.Learnt, value-size-reads.Asked, value-size-reads.Learnt, measure-below t, measure.Post, control-size-reads.Asked, control-size-reads.Learnt) (measure-at t) measure.Post measure-Inv-loop measure-μ-loop
-measure-loop-less-2 t c = let f = c .before .before .before .before .before .before .before .before .before .before in let h = next-onward (es t (b t f)) (b t f .args .room - 1) (b t f .args .number) (now (b t f .args .s)) (i t f) (f .before .before .before .loop .size) (state t f) (more t f) (octets t (b t f)) (f .field-at .result) (found t f) in let p = h .0 in let q = h .1 in omega arith
+measure-loop-less-2 t c = let f = c .before .before .before .before .before .before .before .before .before .before in let h = next-onward (es t (b t f)) (b t f .args .levels - 1) (b t f .args .number) (now (b t f .args .s)) (i t f) (f .before .before .before .loop .size) (state t f) (more t f) (octets t (b t f)) (f .field-at .result) (found t f) in let p = h .0 in let q = h .1 in omega arith
 
 -- src/lib.rt:215:5
 measure-loop-again-2 : (t : ℕ) → measure-lts.Need-loop-again-2 (field-at-reads.Asked, field-at-reads.Learnt, held-reads.Asked, held-reads.Learnt, value-size-reads.Asked, value-size-reads.Learnt, measure-below t, measure.Post, control-size-reads.Asked, control-size-reads.Learnt) (measure-at t) measure.Post measure-Inv-loop measure-μ-loop
 measure-loop-again-2 t c =
     let f = c .before .before .before .before .before .before .before .before .before .before in
-    nested-counted (es t (b t f)) (b t f .args .room - 1) (b t f .args .number) (now (b t f .args .s)) (i t f) (f .before .before .before .loop .size) (state t f) (more t f) (octets t (b t f)) (f .field-at .result) (found t f) (c .before .before .before .before .m .given .0 .0) (message-of (f .field-at .result .kind) (c .before .before .before .before .m .given .0 .0) (sym (c .before .before .before .before .before .before .held .ensures) ∙ c .before .before .before .before .m .given .1)) (c .before .measure .result) (c .control-size .result) (c .before .measure .ensures) (c .control-size .ensures)
+    nested-counted (es t (b t f)) (b t f .args .levels - 1) (b t f .args .number) (now (b t f .args .s)) (i t f) (f .before .before .before .loop .size) (state t f) (more t f) (octets t (b t f)) (f .field-at .result) (found t f) (c .before .before .before .before .m .given .0 .0) (message-of (f .field-at .result .kind) (c .before .before .before .before .m .given .0 .0) (sym (c .before .before .before .before .before .before .held .ensures) ∙ c .before .before .before .before .m .given .1)) (c .before .measure .result) (c .control-size .result) (c .before .measure .ensures) (c .control-size .ensures)
 
 -- src/lib.rt:207:1
 measure-returns : (t : ℕ) → measure-lts.Need-returns (field-at-reads.Asked, field-at-reads.Learnt, held-reads.Asked, held-reads.Learnt, value-size-reads.Asked, value-size-reads.Learnt, measure-below t, measure.Post, control-size-reads.Asked, control-size-reads.Learnt) (measure-at t) measure.Post measure-Inv-loop measure-μ-loop
 measure-returns t c =
     let s = c .before .before .before .before in
-    counted-all (es t s) (s .args .room - 1) (s .args .number) (now (s .args .s)) (c .before .loop .i) (c .before .loop .size) (c .before .loop .inv) (c .loop-test .left)
-    ∙ ap (λ (r : ℕ). length (short (es t s) r (s .args .number) (now (s .args .s)))) (room-is t s)
+    counted-all (es t s) (s .args .levels - 1) (s .args .number) (now (s .args .s)) (c .before .loop .i) (c .before .loop .size) (c .before .loop .inv) (c .loop-test .left)
+    ∙ ap (λ (r : ℕ). length (short (es t s) r (s .args .number) (now (s .args .s)))) (levels-is t s)
 
 pub +measure-spec : {M : Type 1} → statement M
 +measure-spec = close μ-measure λ t. measure-lts.spec (field-at-reads.Asked, field-at-reads.Learnt, held-reads.Asked, held-reads.Learnt, value-size-reads.Asked, value-size-reads.Learnt, measure-below t, measure.Post, control-size-reads.Asked, control-size-reads.Learnt)

@@ -11,7 +11,7 @@ use Rattle.hproto_table.specs.Entry.{Entry, entry}
 use Rattle.hproto_field.specs.Fronts.{front}
 use Rattle.hproto_shorten.specs.Written.{short, Accepts, Put}
 use Rattle.hproto_shorten.proofs.Passing.{plain-of, message-of, octets-part, leaf-contents}
-use Rattle.hproto_shorten.proofs.Writing.{Progress, begun, ended, same-length, accepts-room, next-onward, leaf-fits, leaf-written, nested-accepts, nested-fits, inner-after, wrap-fits, nested-written}
+use Rattle.hproto_shorten.proofs.Writing.{Progress, begun, ended, same-length, accepts-levels, next-onward, leaf-fits, leaf-written, nested-accepts, nested-fits, inner-after, wrap-fits, nested-written}
 use borrow.Fn.Kinds.{In}
 use borrow.Fn.PlainCycle.{Measures, is, falls, and}
 use Rattle.hproto_shorten.proofs.write.Reads as write
@@ -34,10 +34,10 @@ abbrev write-below : ℕ → In 3 write-kinds.ps
 write-below t = and 3 write-kinds.ps (falls 3 write-kinds.ps _<_ μ-write t) write.Pre
 
 abbrev write-Inv-loop : write-lts.InvT-loop
-write-Inv-loop words count number room s out₀ to i₀ end₀ out i end = Progress (map entry (take count words)) (room - 1) number s out₀ to i end out
+write-Inv-loop words count number levels s out₀ to i₀ end₀ out i end = Progress (map entry (take count words)) (levels - 1) number s out₀ to i end out
 
 abbrev write-μ-loop : write-lts.MeasureT-loop
-write-μ-loop words count number room s out₀ to i₀ end₀ out i end = length s - i
+write-μ-loop words count number levels s out₀ to i₀ end₀ out i end = length s - i
 
 -- The place after the field at the front of the octets that are left was found.
 abbrev Found : ℕ → Type 0
@@ -53,14 +53,14 @@ module _ (t : ℕ) (b : At-start t) where
   abbrev octets : Octets (now (b .args .s))
   octets = b .pre .1 .0
 
-  room-is : suc (b .args .room - 1) ≡ b .args .room
-  room-is = accepts-room es (b .args .room) (b .args .number) (now (b .args .s)) (b .pre .1 .1 .0)
+  levels-is : suc (b .args .levels - 1) ≡ b .args .levels
+  levels-is = accepts-levels es (b .args .levels) (b .args .number) (now (b .args .s)) (b .pre .1 .1 .0)
 
-  accepts : Accepts es (suc (b .args .room - 1)) (b .args .number) (now (b .args .s))
-  accepts = subst (λ (r : ℕ). Accepts es r (b .args .number) (now (b .args .s))) (sym room-is) (b .pre .1 .1 .0)
+  accepts : Accepts es (suc (b .args .levels - 1)) (b .args .number) (now (b .args .s))
+  accepts = subst (λ (r : ℕ). Accepts es r (b .args .number) (now (b .args .s))) (sym levels-is) (b .pre .1 .1 .0)
 
-  fits : b .args .to + length (short es (suc (b .args .room - 1)) (b .args .number) (now (b .args .s))) ≤ length (now (b .args .out))
-  fits = rw room-is (b .pre .1 .1 .1)
+  fits : b .args .to + length (short es (suc (b .args .levels - 1)) (b .args .number) (now (b .args .s))) ≤ length (now (b .args .out))
+  fits = rw levels-is (b .pre .1 .1 .1)
 
 module _ (t : ℕ) (c : Found t) where
   abbrev b : At-start t
@@ -69,7 +69,7 @@ module _ (t : ℕ) (c : Found t) where
   abbrev i : ℕ
   i = c .before .before .before .loop .i
 
-  abbrev state : Progress (es t b) (b .args .room - 1) (b .args .number) (now (b .args .s)) (now (b .args .out)) (b .args .to) i (c .before .before .before .loop .end) (c .before .before .before .loop .out)
+  abbrev state : Progress (es t b) (b .args .levels - 1) (b .args .number) (now (b .args .s)) (now (b .args .out)) (b .args .to) i (c .before .before .before .loop .end) (c .before .before .before .loop .out)
   state = c .before .before .before .loop .inv
 
   abbrev more : i < length (now (b .args .s))
@@ -82,7 +82,7 @@ module _ (t : ℕ) (c : Found t) where
 write-loop-holds : (t : ℕ) → write-lts.Need-loop-holds (field-at-reads.Asked, field-at-reads.Learnt, held-reads.Asked, held-reads.Learnt, put-value-reads.Asked, put-value-reads.Learnt, write-below t, write.Post, wrap-reads.Asked, wrap-reads.Learnt) (write-at t) write.Post write-Inv-loop write-μ-loop
 write-loop-holds t c =
     let s = c .before .before .before in
-    begun (es t s) (s .args .room - 1) (s .args .number) (now (s .args .s)) (now (s .args .out)) (s .args .to) (accepts t s)
+    begun (es t s) (s .args .levels - 1) (s .args .number) (now (s .args .s)) (now (s .args .out)) (s .args .to) (accepts t s)
 
 -- src/lib.rt:141:62
 write-sub-field-at : (t : ℕ) → write-lts.Need-sub-field-at (field-at-reads.Asked, field-at-reads.Learnt, held-reads.Asked, held-reads.Learnt, put-value-reads.Asked, put-value-reads.Learnt, write-below t, write.Post, wrap-reads.Asked, wrap-reads.Learnt) (write-at t) write.Post write-Inv-loop write-μ-loop
@@ -102,11 +102,11 @@ write-field-at-requires t c κs = search needs
 
 -- src/lib.rt:143:17
 write-add-a : (t : ℕ) → write-lts.Need-add-a (field-at-reads.Asked, field-at-reads.Learnt, held-reads.Asked, held-reads.Learnt, put-value-reads.Asked, put-value-reads.Learnt, write-below t, write.Post, wrap-reads.Asked, wrap-reads.Learnt) (write-at t) write.Post write-Inv-loop write-μ-loop
-write-add-a t c = let f = c .before in let h = next-onward (es t (b t f)) (b t f .args .room - 1) (b t f .args .number) (now (b t f .args .s)) (now (b t f .args .out)) (b t f .args .to) (fits t (b t f)) (i t f) (f .before .before .before .loop .end) (f .before .before .before .loop .out) (state t f) (more t f) (octets t (b t f)) (f .field-at .result) (found t f) .1 in let g = b t f .good in omega arith
+write-add-a t c = let f = c .before in let h = next-onward (es t (b t f)) (b t f .args .levels - 1) (b t f .args .number) (now (b t f .args .s)) (now (b t f .args .out)) (b t f .args .to) (fits t (b t f)) (i t f) (f .before .before .before .loop .end) (f .before .before .before .loop .out) (state t f) (more t f) (octets t (b t f)) (f .field-at .result) (found t f) .1 in let g = b t f .good in omega arith
 
 -- src/lib.rt:144:17
 write-add-e : (t : ℕ) → write-lts.Need-add-e (field-at-reads.Asked, field-at-reads.Learnt, held-reads.Asked, held-reads.Learnt, put-value-reads.Asked, put-value-reads.Learnt, write-below t, write.Post, wrap-reads.Asked, wrap-reads.Learnt) (write-at t) write.Post write-Inv-loop write-μ-loop
-write-add-e t c = let f = c .before .before in let h = next-onward (es t (b t f)) (b t f .args .room - 1) (b t f .args .number) (now (b t f .args .s)) (now (b t f .args .out)) (b t f .args .to) (fits t (b t f)) (i t f) (f .before .before .before .loop .end) (f .before .before .before .loop .out) (state t f) (more t f) (octets t (b t f)) (f .field-at .result) (found t f) .1 in let g = b t f .good in omega arith
+write-add-e t c = let f = c .before .before in let h = next-onward (es t (b t f)) (b t f .args .levels - 1) (b t f .args .number) (now (b t f .args .s)) (now (b t f .args .out)) (b t f .args .to) (fits t (b t f)) (i t f) (f .before .before .before .loop .end) (f .before .before .before .loop .out) (state t f) (more t f) (octets t (b t f)) (f .field-at .result) (found t f) .1 in let g = b t f .good in omega arith
 
 -- src/lib.rt:145:19
 write-cast-tag : (t : ℕ) → write-lts.Need-cast-tag (field-at-reads.Asked, field-at-reads.Learnt, held-reads.Asked, held-reads.Learnt, put-value-reads.Asked, put-value-reads.Learnt, write-below t, write.Post, wrap-reads.Asked, wrap-reads.Learnt) (write-at t) write.Post write-Inv-loop write-μ-loop
@@ -130,28 +130,28 @@ write-part-put-value-start t c = search needs
 
 -- src/lib.rt:148:44
 write-part-put-value-end : (t : ℕ) → write-lts.Need-part-put-value-end (field-at-reads.Asked, field-at-reads.Learnt, held-reads.Asked, held-reads.Learnt, put-value-reads.Asked, put-value-reads.Learnt, write-below t, write.Post, wrap-reads.Asked, wrap-reads.Learnt) (write-at t) write.Post write-Inv-loop write-μ-loop
-write-part-put-value-end t c = let f = c .before .before .before .before .before .before in let h = next-onward (es t (b t f)) (b t f .args .room - 1) (b t f .args .number) (now (b t f .args .s)) (now (b t f .args .out)) (b t f .args .to) (fits t (b t f)) (i t f) (f .before .before .before .loop .end) (f .before .before .before .loop .out) (state t f) (more t f) (octets t (b t f)) (f .field-at .result) (found t f) .1 in omega arith
+write-part-put-value-end t c = let f = c .before .before .before .before .before .before in let h = next-onward (es t (b t f)) (b t f .args .levels - 1) (b t f .args .number) (now (b t f .args .s)) (now (b t f .args .out)) (b t f .args .to) (fits t (b t f)) (i t f) (f .before .before .before .loop .end) (f .before .before .before .loop .out) (state t f) (more t f) (octets t (b t f)) (f .field-at .result) (found t f) .1 in omega arith
 
 -- src/lib.rt:148:17
 write-put-value-requires : (t : ℕ) → write-lts.Need-put-value-requires (field-at-reads.Asked, field-at-reads.Learnt, held-reads.Asked, held-reads.Learnt, put-value-reads.Asked, put-value-reads.Learnt, write-below t, write.Post, wrap-reads.Asked, wrap-reads.Learnt) (write-at t) write.Post write-Inv-loop write-μ-loop
 write-put-value-requires t c κs =
     let f = c .before .before .before .before .before .before .before .before in
     let q = plain-of (f .field-at .result .kind) (sym (c .before .before .before .before .held .ensures) ∙ c .before .before .enum-told .given .1) in (
-      leaf-contents (es t (b t f)) (b t f .args .room - 1) (b t f .args .number) (now (b t f .args .s)) (i t f) (state t f .written) (state t f .passed) (more t f)
+      leaf-contents (es t (b t f)) (b t f .args .levels - 1) (b t f .args .number) (now (b t f .args .s)) (i t f) (state t f .written) (state t f .passed) (more t f)
           (f .field-at .result) (found t f) q,
-      leaf-fits (es t (b t f)) (b t f .args .room - 1) (b t f .args .number) (now (b t f .args .s)) (now (b t f .args .out)) (b t f .args .to) (fits t (b t f)) (i t f) (f .before .before .before .loop .end) (f .before .before .before .loop .out) (state t f) (more t f) (octets t (b t f)) (f .field-at .result) (found t f) q,
+      leaf-fits (es t (b t f)) (b t f .args .levels - 1) (b t f .args .number) (now (b t f .args .s)) (now (b t f .args .out)) (b t f .args .to) (fits t (b t f)) (i t f) (f .before .before .before .loop .end) (f .before .before .before .loop .out) (state t f) (more t f) (octets t (b t f)) (f .field-at .result) (found t f) q,
     )
 
 -- src/lib.rt:140:5
 write-loop-less : (t : ℕ) → write-lts.Need-loop-less (field-at-reads.Asked, field-at-reads.Learnt, held-reads.Asked, held-reads.Learnt, put-value-reads.Asked, put-value-reads.Learnt, write-below t, write.Post, wrap-reads.Asked, wrap-reads.Learnt) (write-at t) write.Post write-Inv-loop write-μ-loop
-write-loop-less t c = let f = c .before .before .before .before .before .before .before .before .before .before .before in let h = next-onward (es t (b t f)) (b t f .args .room - 1) (b t f .args .number) (now (b t f .args .s)) (now (b t f .args .out)) (b t f .args .to) (fits t (b t f)) (i t f) (f .before .before .before .loop .end) (f .before .before .before .loop .out) (state t f) (more t f) (octets t (b t f)) (f .field-at .result) (found t f) in let p = h .0 in let q = h .1 in omega arith
+write-loop-less t c = let f = c .before .before .before .before .before .before .before .before .before .before .before in let h = next-onward (es t (b t f)) (b t f .args .levels - 1) (b t f .args .number) (now (b t f .args .s)) (now (b t f .args .out)) (b t f .args .to) (fits t (b t f)) (i t f) (f .before .before .before .loop .end) (f .before .before .before .loop .out) (state t f) (more t f) (octets t (b t f)) (f .field-at .result) (found t f) in let p = h .0 in let q = h .1 in omega arith
 
 -- src/lib.rt:140:5
 write-loop-again : (t : ℕ) → write-lts.Need-loop-again (field-at-reads.Asked, field-at-reads.Learnt, held-reads.Asked, held-reads.Learnt, put-value-reads.Asked, put-value-reads.Learnt, write-below t, write.Post, wrap-reads.Asked, wrap-reads.Learnt) (write-at t) write.Post write-Inv-loop write-μ-loop
 write-loop-again t c =
     let f = c .before .before .before .before .before .before .before .before .before .before .before in
     let q = plain-of (f .field-at .result .kind) (sym (c .before .before .before .before .before .before .before .held .ensures) ∙ c .before .before .before .before .before .enum-told .given .1) in
-    leaf-written (es t (b t f)) (b t f .args .room - 1) (b t f .args .number) (now (b t f .args .s)) (now (b t f .args .out)) (b t f .args .to) (fits t (b t f)) (i t f) (f .before .before .before .loop .end) (f .before .before .before .loop .out) (state t f) (more t f) (octets t (b t f)) (f .field-at .result) (found t f) (c .before .before .put-value .result) (c .before .before .put-value .last .1 .1 .1 .0) q (c .before .before .put-value .ensures)
+    leaf-written (es t (b t f)) (b t f .args .levels - 1) (b t f .args .number) (now (b t f .args .s)) (now (b t f .args .out)) (b t f .args .to) (fits t (b t f)) (i t f) (f .before .before .before .loop .end) (f .before .before .before .loop .out) (state t f) (more t f) (octets t (b t f)) (f .field-at .result) (found t f) (c .before .before .put-value .result) (c .before .before .put-value .last .1 .1 .1 .0) q (c .before .before .put-value .ensures)
 
 -- src/lib.rt:151:27
 write-enum-known-m : (t : ℕ) → write-lts.Need-enum-known-m (field-at-reads.Asked, field-at-reads.Learnt, held-reads.Asked, held-reads.Learnt, put-value-reads.Asked, put-value-reads.Learnt, write-below t, write.Post, wrap-reads.Asked, wrap-reads.Learnt) (write-at t) write.Post write-Inv-loop write-μ-loop
@@ -161,7 +161,7 @@ write-enum-known-m t c = search needs
 write-sub-write : (t : ℕ) → write-lts.Need-sub-write (field-at-reads.Asked, field-at-reads.Learnt, held-reads.Asked, held-reads.Learnt, put-value-reads.Asked, put-value-reads.Learnt, write-below t, write.Post, wrap-reads.Asked, wrap-reads.Learnt) (write-at t) write.Post write-Inv-loop write-μ-loop
 write-sub-write t c =
     let f = c .before .before .before .before .before .before .before in
-    let h = nested-accepts (es t (b t f)) (b t f .args .room - 1) (b t f .args .number) (now (b t f .args .s)) (now (b t f .args .out)) (b t f .args .to) (fits t (b t f)) (i t f) (f .before .before .before .loop .end) (f .before .before .before .loop .out) (state t f) (more t f) (octets t (b t f)) (f .field-at .result) (found t f) (c .before .m .given .0 .0) (message-of (f .field-at .result .kind) (c .before .m .given .0 .0) (sym (c .before .before .before .held .ensures) ∙ c .before .m .given .1)) .0 in
+    let h = nested-accepts (es t (b t f)) (b t f .args .levels - 1) (b t f .args .number) (now (b t f .args .s)) (now (b t f .args .out)) (b t f .args .to) (fits t (b t f)) (i t f) (f .before .before .before .loop .end) (f .before .before .before .loop .out) (state t f) (more t f) (octets t (b t f)) (f .field-at .result) (found t f) (c .before .m .given .0 .0) (message-of (f .field-at .result .kind) (c .before .m .given .0 .0) (sym (c .before .before .before .held .ensures) ∙ c .before .m .given .1)) .0 in
     omega arith
 
 -- src/lib.rt:152:62
@@ -174,7 +174,7 @@ write-part-write-start t c = search needs
 
 -- src/lib.rt:152:62
 write-part-write-end : (t : ℕ) → write-lts.Need-part-write-end (field-at-reads.Asked, field-at-reads.Learnt, held-reads.Asked, held-reads.Learnt, put-value-reads.Asked, put-value-reads.Learnt, write-below t, write.Post, wrap-reads.Asked, wrap-reads.Learnt) (write-at t) write.Post write-Inv-loop write-μ-loop
-write-part-write-end t c = let f = c .before .before .before .before .before .before .before in let h = next-onward (es t (b t f)) (b t f .args .room - 1) (b t f .args .number) (now (b t f .args .s)) (now (b t f .args .out)) (b t f .args .to) (fits t (b t f)) (i t f) (f .before .before .before .loop .end) (f .before .before .before .loop .out) (state t f) (more t f) (octets t (b t f)) (f .field-at .result) (found t f) .1 in omega arith
+write-part-write-end t c = let f = c .before .before .before .before .before .before .before in let h = next-onward (es t (b t f)) (b t f .args .levels - 1) (b t f .args .number) (now (b t f .args .s)) (now (b t f .args .out)) (b t f .args .to) (fits t (b t f)) (i t f) (f .before .before .before .loop .end) (f .before .before .before .loop .out) (state t f) (more t f) (octets t (b t f)) (f .field-at .result) (found t f) .1 in omega arith
 
 -- src/lib.rt:152:21
 write-write-requires : (t : ℕ) → write-lts.Need-write-requires (field-at-reads.Asked, field-at-reads.Learnt, held-reads.Asked, held-reads.Learnt, put-value-reads.Asked, put-value-reads.Learnt, write-below t, write.Post, wrap-reads.Asked, wrap-reads.Learnt) (write-at t) write.Post write-Inv-loop write-μ-loop
@@ -182,46 +182,46 @@ write-write-requires t c κs =
     let f = c .before .before .before .before .before .before .before .before .before in
     let m = c .before .before .before .m .given .0 .0 in
     let q = message-of (f .field-at .result .kind) (c .before .before .before .m .given .0 .0) (sym (c .before .before .before .before .before .held .ensures) ∙ c .before .before .before .m .given .1) in
-    let h = nested-accepts (es t (b t f)) (b t f .args .room - 1) (b t f .args .number) (now (b t f .args .s)) (now (b t f .args .out)) (b t f .args .to) (fits t (b t f)) (i t f) (f .before .before .before .loop .end) (f .before .before .before .loop .out) (state t f) (more t f) (octets t (b t f)) (f .field-at .result) (found t f) m q in
+    let h = nested-accepts (es t (b t f)) (b t f .args .levels - 1) (b t f .args .number) (now (b t f .args .s)) (now (b t f .args .out)) (b t f .args .to) (fits t (b t f)) (i t f) (f .before .before .before .loop .end) (f .before .before .before .loop .out) (state t f) (more t f) (octets t (b t f)) (f .field-at .result) (found t f) m q in
     let k = h .0 in
     let p = b t f .pre .0 in
-    (omega arith, (octets-part (i t f + f .field-at .result .control + f .field-at .result .contents - (i t f + f .field-at .result .control)) (i t f + f .field-at .result .control) (now (b t f .args .s)) (octets t (b t f)), (h .1, nested-fits (es t (b t f)) (b t f .args .room - 1) (b t f .args .number) (now (b t f .args .s)) (now (b t f .args .out)) (b t f .args .to) (fits t (b t f)) (i t f) (f .before .before .before .loop .end) (f .before .before .before .loop .out) (state t f) (more t f) (octets t (b t f)) (f .field-at .result) (found t f) m q)))
+    (omega arith, (octets-part (i t f + f .field-at .result .control + f .field-at .result .contents - (i t f + f .field-at .result .control)) (i t f + f .field-at .result .control) (now (b t f .args .s)) (octets t (b t f)), (h .1, nested-fits (es t (b t f)) (b t f .args .levels - 1) (b t f .args .number) (now (b t f .args .s)) (now (b t f .args .out)) (b t f .args .to) (fits t (b t f)) (i t f) (f .before .before .before .loop .end) (f .before .before .before .loop .out) (state t f) (more t f) (octets t (b t f)) (f .field-at .result) (found t f) m q)))
 
 -- src/lib.rt:153:43
 write-sub-wrap : (t : ℕ) → write-lts.Need-sub-wrap (field-at-reads.Asked, field-at-reads.Learnt, held-reads.Asked, held-reads.Learnt, put-value-reads.Asked, put-value-reads.Learnt, write-below t, write.Post, wrap-reads.Asked, wrap-reads.Learnt) (write-at t) write.Post write-Inv-loop write-μ-loop
 write-sub-wrap t c =
     let f = c .before .before .before .before .before .before .before .before .before .before .before .before .before in
-    inner-after (es t (b t f)) (b t f .args .room - 1) (b t f .args .number) (now (b t f .args .s)) (now (b t f .args .out)) (b t f .args .to) (fits t (b t f)) (i t f) (f .before .before .before .loop .end) (f .before .before .before .loop .out) (state t f) (more t f) (octets t (b t f)) (f .field-at .result) (found t f) (c .before .before .before .before .before .before .before .m .given .0 .0) (message-of (f .field-at .result .kind) (c .before .before .before .before .before .before .before .m .given .0 .0) (sym (c .before .before .before .before .before .before .before .before .before .held .ensures) ∙ c .before .before .before .before .before .before .before .m .given .1)) (c .before .before .before .write .result) (c .before .before .before .write .last .1 .1 .1 .1 .1 .0) (c .before .before .before .write .ensures)
+    inner-after (es t (b t f)) (b t f .args .levels - 1) (b t f .args .number) (now (b t f .args .s)) (now (b t f .args .out)) (b t f .args .to) (fits t (b t f)) (i t f) (f .before .before .before .loop .end) (f .before .before .before .loop .out) (state t f) (more t f) (octets t (b t f)) (f .field-at .result) (found t f) (c .before .before .before .before .before .before .before .m .given .0 .0) (message-of (f .field-at .result .kind) (c .before .before .before .before .before .before .before .m .given .0 .0) (sym (c .before .before .before .before .before .before .before .before .before .held .ensures) ∙ c .before .before .before .before .before .before .before .m .given .1)) (c .before .before .before .write .result) (c .before .before .before .write .last .1 .1 .1 .1 .1 .0) (c .before .before .before .write .ensures)
 
 -- src/lib.rt:153:17
 write-wrap-requires : (t : ℕ) → write-lts.Need-wrap-requires (field-at-reads.Asked, field-at-reads.Learnt, held-reads.Asked, held-reads.Learnt, put-value-reads.Asked, put-value-reads.Learnt, write-below t, write.Post, wrap-reads.Asked, wrap-reads.Learnt) (write-at t) write.Post write-Inv-loop write-μ-loop
 write-wrap-requires t c κs =
     let f = c .before .before .before .before .before .before .before .before .before .before .before .before .before in
-    wrap-fits (es t (b t f)) (b t f .args .room - 1) (b t f .args .number) (now (b t f .args .s)) (now (b t f .args .out)) (b t f .args .to) (fits t (b t f)) (i t f) (f .before .before .before .loop .end) (f .before .before .before .loop .out) (state t f) (more t f) (octets t (b t f)) (f .field-at .result) (found t f) (c .before .before .before .before .before .before .before .m .given .0 .0) (message-of (f .field-at .result .kind) (c .before .before .before .before .before .before .before .m .given .0 .0) (sym (c .before .before .before .before .before .before .before .before .before .held .ensures) ∙ c .before .before .before .before .before .before .before .m .given .1)) (c .before .before .before .write .result) (c .before .before .before .write .last .1 .1 .1 .1 .1 .0) (c .before .before .before .write .ensures)
+    wrap-fits (es t (b t f)) (b t f .args .levels - 1) (b t f .args .number) (now (b t f .args .s)) (now (b t f .args .out)) (b t f .args .to) (fits t (b t f)) (i t f) (f .before .before .before .loop .end) (f .before .before .before .loop .out) (state t f) (more t f) (octets t (b t f)) (f .field-at .result) (found t f) (c .before .before .before .before .before .before .before .m .given .0 .0) (message-of (f .field-at .result .kind) (c .before .before .before .before .before .before .before .m .given .0 .0) (sym (c .before .before .before .before .before .before .before .before .before .held .ensures) ∙ c .before .before .before .before .before .before .before .m .given .1)) (c .before .before .before .write .result) (c .before .before .before .write .last .1 .1 .1 .1 .1 .0) (c .before .before .before .write .ensures)
 
 -- src/lib.rt:140:5
 write-loop-less-2 : (t : ℕ) → write-lts.Need-loop-less-2 (field-at-reads.Asked, field-at-reads.Learnt, held-reads.Asked, held-reads.Learnt, put-value-reads.Asked, put-value-reads.Learnt, write-below t, write.Post, wrap-reads.Asked, wrap-reads.Learnt) (write-at t) write.Post write-Inv-loop write-μ-loop
-write-loop-less-2 t c = let f = c .before .before .before .before .before .before .before .before .before .before .before .before .before .before .before .before in let h = next-onward (es t (b t f)) (b t f .args .room - 1) (b t f .args .number) (now (b t f .args .s)) (now (b t f .args .out)) (b t f .args .to) (fits t (b t f)) (i t f) (f .before .before .before .loop .end) (f .before .before .before .loop .out) (state t f) (more t f) (octets t (b t f)) (f .field-at .result) (found t f) in let p = h .0 in let q = h .1 in omega arith
+write-loop-less-2 t c = let f = c .before .before .before .before .before .before .before .before .before .before .before .before .before .before .before .before in let h = next-onward (es t (b t f)) (b t f .args .levels - 1) (b t f .args .number) (now (b t f .args .s)) (now (b t f .args .out)) (b t f .args .to) (fits t (b t f)) (i t f) (f .before .before .before .loop .end) (f .before .before .before .loop .out) (state t f) (more t f) (octets t (b t f)) (f .field-at .result) (found t f) in let p = h .0 in let q = h .1 in omega arith
 
 -- src/lib.rt:140:5
 write-loop-again-2 : (t : ℕ) → write-lts.Need-loop-again-2 (field-at-reads.Asked, field-at-reads.Learnt, held-reads.Asked, held-reads.Learnt, put-value-reads.Asked, put-value-reads.Learnt, write-below t, write.Post, wrap-reads.Asked, wrap-reads.Learnt) (write-at t) write.Post write-Inv-loop write-μ-loop
 write-loop-again-2 t c =
     let f = c .before .before .before .before .before .before .before .before .before .before .before .before .before .before .before .before in
-    nested-written (es t (b t f)) (b t f .args .room - 1) (b t f .args .number) (now (b t f .args .s)) (now (b t f .args .out)) (b t f .args .to) (fits t (b t f)) (i t f) (f .before .before .before .loop .end) (f .before .before .before .loop .out) (state t f) (more t f) (octets t (b t f)) (f .field-at .result) (found t f) (c .before .before .before .before .before .before .before .before .before .before .m .given .0 .0) (message-of (f .field-at .result .kind) (c .before .before .before .before .before .before .before .before .before .before .m .given .0 .0) (sym (c .before .before .before .before .before .before .before .before .before .before .before .before .held .ensures) ∙ c .before .before .before .before .before .before .before .before .before .before .m .given .1)) (c .before .before .before .before .before .before .write .result) (c .before .before .before .before .before .before .write .last .1 .1 .1 .1 .1 .0) (c .before .before .before .before .before .before .write .ensures)
+    nested-written (es t (b t f)) (b t f .args .levels - 1) (b t f .args .number) (now (b t f .args .s)) (now (b t f .args .out)) (b t f .args .to) (fits t (b t f)) (i t f) (f .before .before .before .loop .end) (f .before .before .before .loop .out) (state t f) (more t f) (octets t (b t f)) (f .field-at .result) (found t f) (c .before .before .before .before .before .before .before .before .before .before .m .given .0 .0) (message-of (f .field-at .result .kind) (c .before .before .before .before .before .before .before .before .before .before .m .given .0 .0) (sym (c .before .before .before .before .before .before .before .before .before .before .before .before .held .ensures) ∙ c .before .before .before .before .before .before .before .before .before .before .m .given .1)) (c .before .before .before .before .before .before .write .result) (c .before .before .before .before .before .before .write .last .1 .1 .1 .1 .1 .0) (c .before .before .before .before .before .before .write .ensures)
     (c .before .before .wrap .result) (c .before .before .wrap .last .1 .0) (c .before .before .wrap .ensures .0) (c .before .before .wrap .ensures .1)
 
 -- src/lib.rt:124:1
 write-same-length : (t : ℕ) → write-lts.Need-same-length (field-at-reads.Asked, field-at-reads.Learnt, held-reads.Asked, held-reads.Learnt, put-value-reads.Asked, put-value-reads.Learnt, write-below t, write.Post, wrap-reads.Asked, wrap-reads.Learnt) (write-at t) write.Post write-Inv-loop write-μ-loop
 write-same-length t c =
     let s = c .before .before .before .before .before in
-    same-length (es t s) (s .args .room - 1) (s .args .number) (now (s .args .s)) (now (s .args .out)) (s .args .to) (c .before .loop .i) (c .before .loop .end) (c .before .loop .out) (c .before .loop .inv)
+    same-length (es t s) (s .args .levels - 1) (s .args .number) (now (s .args .s)) (now (s .args .out)) (s .args .to) (c .before .loop .i) (c .before .loop .end) (c .before .loop .out) (c .before .loop .inv)
 
 -- src/lib.rt:124:1
 write-returns : (t : ℕ) → write-lts.Need-returns (field-at-reads.Asked, field-at-reads.Learnt, held-reads.Asked, held-reads.Learnt, put-value-reads.Asked, put-value-reads.Learnt, write-below t, write.Post, wrap-reads.Asked, wrap-reads.Learnt) (write-at t) write.Post write-Inv-loop write-μ-loop
 write-returns t c =
     let s = c .before .before .before .before .before in
-    subst (λ (r : ℕ). Put (now (s .args .out)) (s .args .to) (short (es t s) r (s .args .number) (now (s .args .s))) (c .before .loop .end) (c .before .loop .out)) (room-is t s)
-    (ended (es t s) (s .args .room - 1) (s .args .number) (now (s .args .s)) (now (s .args .out)) (s .args .to) (c .before .loop .i) (c .before .loop .end) (c .before .loop .out) (c .before .loop .inv) (c .loop-test .left))
+    subst (λ (r : ℕ). Put (now (s .args .out)) (s .args .to) (short (es t s) r (s .args .number) (now (s .args .s))) (c .before .loop .end) (c .before .loop .out)) (levels-is t s)
+    (ended (es t s) (s .args .levels - 1) (s .args .number) (now (s .args .s)) (now (s .args .out)) (s .args .to) (c .before .loop .i) (c .before .loop .end) (c .before .loop .out) (c .before .loop .inv) (c .loop-test .left))
 
 pub +write-spec : {M : Type 1} → statement M
 +write-spec = close μ-write λ t. write-lts.spec (field-at-reads.Asked, field-at-reads.Learnt, held-reads.Asked, held-reads.Learnt, put-value-reads.Asked, put-value-reads.Learnt, write-below t, write.Post, wrap-reads.Asked, wrap-reads.Learnt)

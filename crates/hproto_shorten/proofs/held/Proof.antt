@@ -1,5 +1,5 @@
 use borrow.Author.Needs.{needs}
-use Rattle.hproto_shorten.specs.Written.{innerOf}
+use Rattle.hproto_shorten.specs.Written.{heldIn}
 use Rattle.hproto_shorten.proofs.held.Statement.{statement}
 use Rattle.hproto_shorten.proofs.held.Tie as tie
 use Rattle.hproto_shorten.proofs.held.Reads as reads
@@ -31,32 +31,32 @@ enum-known-kind c = search needs
 
 -- src/lib.rt:32:1
 returns : tie.Need-returns
-unfolding innerOf
+unfolding heldIn
 returns c = rw (c .enum-told .given .1)
 
 -- src/lib.rt:32:1
 returns-2 : tie.Need-returns-2
-unfolding innerOf
+unfolding heldIn
 returns-2 c = rw (c .enum-told2 .given .1)
 
 -- src/lib.rt:32:1
 returns-3 : tie.Need-returns-3
-unfolding innerOf
+unfolding heldIn
 returns-3 c = rw (c .enum-told3 .given .1)
 
 -- src/lib.rt:32:1
 returns-4 : tie.Need-returns-4
-unfolding innerOf
+unfolding heldIn
 returns-4 c = rw (c .enum-told4 .given .1)
 
 -- src/lib.rt:32:1
 returns-5 : tie.Need-returns-5
-unfolding innerOf
+unfolding heldIn
 returns-5 c = rw (c .enum-told5 .given .1)
 
 -- src/lib.rt:32:1
 returns-6 : tie.Need-returns-6
-unfolding innerOf
+unfolding heldIn
 returns-6 c = rw (c .before .kind .given .1)
 
 pub held-spec : {M : Type 1} → statement M

@@ -4,7 +4,7 @@ use denote.Ref.{now}
 use lib.ListN.{length}
 use mir.Syntax.{w64}
 use mir.ValLaws.{toZ-ofZ}
-use Rattle.octets.specs.Signed.{leastInt, intLeast}
+use Rattle.octets.specs.Signed.{leastInt, intWidthBits}
 use Rattle.octets.proofs.Number.{length-octetsOf}
 use Rattle.hproto_shorten.proofs.Puts.{unsigned-value, unsigned-long, signed-value, signed-long, uint-octets, int-octets}
 use Rattle.hproto_shorten.proofs.int_size.Statement.{statement}
@@ -37,7 +37,7 @@ returns c =
     let a = c .before .before .before .before .before .before .args in
     let e = signed-value (now (a .s)) (k .0 .0) (sym (c .before .before .before .before .int .ensures) ∙ k .1) in
     let z = toZ-ofZ w64 (k .0 .0) (record { sfits = c .before .known-told .given .0 .1 }) in
-    let o = int-octets (c .int-least .result) (k .0 .0) (c .int-least .ensures ∙ ap intLeast z) in
+    let o = int-octets (c .int-least .result) (k .0 .0) (c .int-least .ensures ∙ ap intWidthBits z) in
     sym (length-octetsOf (c .int-least .result .width) (c .int-least .result .bits)) ∙ ap length (o ∙ ap leastInt e)
 
 -- src/lib.rt:171:1

@@ -7,7 +7,7 @@ use Rattle.octets.proofs.Number.{length-octetsOf}
 use Rattle.hproto_shorten.proofs.Puts.{field-length, field-put, number-length, unsigned-value, unsigned-long, signed-value, signed-long, uint-octets, int-octets}
 use mir.Syntax.{w64}
 use mir.ValLaws.{toZ-ofZ}
-use Rattle.octets.specs.Signed.{leastInt, intLeast}
+use Rattle.octets.specs.Signed.{leastInt, intWidthBits}
 use Rattle.hproto_shorten.proofs.put_int.Statement.{statement}
 use Rattle.hproto_shorten.proofs.put_int.Tie as tie
 use Rattle.hproto_shorten.proofs.put_int.Reads as reads
@@ -36,7 +36,7 @@ put-least-requires c κs =
     let v = k .before .before .v .given in
     let e = signed-value (now (a .s)) (v .0 .0) (sym (k .before .before .before .before .int .ensures) ∙ v .1) in
     let z = toZ-ofZ w64 (v .0 .0) (record { sfits = k .before .known-told .given .0 .1 }) in
-    let o = int-octets (k .int-least .result) (v .0 .0) (k .int-least .ensures ∙ ap intLeast z) ∙ ap leastInt e in
+    let o = int-octets (k .int-least .result) (v .0 .0) (k .int-least .ensures ∙ ap intWidthBits z) ∙ ap leastInt e in
     rw o (c .before .before .before .before .before .before .before .before .pre .1)
 
 -- src/lib.rt:88:25
@@ -55,7 +55,7 @@ returns c =
     let v = k .before .before .v .given in
     let e = signed-value (now (a .s)) (v .0 .0) (sym (k .before .before .before .before .int .ensures) ∙ v .1) in
     let z = toZ-ofZ w64 (v .0 .0) (record { sfits = k .before .known-told .given .0 .1 }) in
-    let o = int-octets (k .int-least .result) (v .0 .0) (k .int-least .ensures ∙ ap intLeast z) ∙ ap leastInt e in
+    let o = int-octets (k .int-least .result) (v .0 .0) (k .int-least .ensures ∙ ap intWidthBits z) ∙ ap leastInt e in
     rw (← o) (c .before .before .put-least .ensures)
 
 -- src/lib.rt:81:1

@@ -11,7 +11,7 @@ use Rattle.hproto_check.specs.declared.Checked.{Checked}
 use Rattle.hproto_shorten.specs.Written.{short}
 use Rattle.hproto_shorten.specs.Shorten.{refusal, shortUnder, answerUnder, bufferUnder}
 use Rattle.hproto_shorten.proofs.Passing.{octets-each}
-use Rattle.hproto_shorten.proofs.Answers.{under-passed, short-under, Answered, refused-first, no-room, shortened}
+use Rattle.hproto_shorten.proofs.Answers.{passed-accepts, short-under, Answered, refused-first, no-room, shortened}
 use Rattle.hproto_shorten.proofs.shorten_under.Statement.{statement}
 use Rattle.hproto_shorten.proofs.shorten_under.Tie as tie
 use Rattle.hproto_shorten.proofs.shorten_under.Reads as reads
@@ -46,7 +46,7 @@ has-room-requires c κs =
     let a = c .before .before .before .before .before .before .args in
     let es = map entry (take (a .count) (now (a .words))) in
     let m = now (a .message) in
-    let h = under-passed es (a .number) m (ap (λ (x : Checked). x .refusal) (sym (c .before .before .check-under .ensures)) ∙ c .if1 .left) in
+    let h = passed-accepts es (a .number) m (ap (λ (x : Checked). x .refusal) (sym (c .before .before .check-under .ensures)) ∙ c .if1 .left) in
     (h .0, (octets-each m (λ i. c .before .before .before .before .shared-slice-known2 .given i .fits), h .1))
 
 -- src/lib.rt:279:9
@@ -72,7 +72,7 @@ write-requires c κs =
     let es = map entry (take (a .count) (now (a .words))) in
     let m = now (a .message) in
     let h = c .before .before .has-room in
-    let p = under-passed es (a .number) m (ap (λ (x : Checked). x .refusal) (sym (c .before .before .before .before .before .check-under .ensures)) ∙ c .before .before .before .if1 .left) in
+    let p = passed-accepts es (a .number) m (ap (λ (x : Checked). x .refusal) (sym (c .before .before .before .before .before .check-under .ensures)) ∙ c .before .before .before .if1 .left) in
     let k = leb-true (length (short es 8 (a .number) m)) (length (now (a .out))) (sym (h .ensures) ∙ not-false (h .result) (c .before .if2 .left)) in
     (octets-each m (λ i. c .before .before .before .before .before .before .before .shared-slice-known2 .given i .fits), (p .1, omega arith))
 

@@ -1,5 +1,5 @@
 -- `inner` meets its contract: each kind in turn.
-use Rattle.hproto_writer.specs.Calls.{inner}
+use Rattle.hproto_table.specs.Entry.{innerOf}
 use borrow.Author.Needs.{needs}
 use Rattle.hproto_writer.proofs.inner.Statement.{statement}
 use Rattle.hproto_writer.proofs.inner.Tie as tie
@@ -23,27 +23,27 @@ enum-known-kind : tie.Need-enum-known-kind
 enum-known-kind c = search needs
 
 returns : tie.Need-returns
-unfolding inner
+unfolding innerOf
 returns c = rw (c .enum-told .given .1)
 
 returns-2 : tie.Need-returns-2
-unfolding inner
+unfolding innerOf
 returns-2 c = rw (c .enum-told2 .given .1)
 
 returns-3 : tie.Need-returns-3
-unfolding inner
+unfolding innerOf
 returns-3 c = rw (c .enum-told3 .given .1)
 
 returns-4 : tie.Need-returns-4
-unfolding inner
+unfolding innerOf
 returns-4 c = rw (c .enum-told4 .given .1)
 
 returns-5 : tie.Need-returns-5
-unfolding inner
+unfolding innerOf
 returns-5 c = rw (c .enum-told5 .given .1)
 
 returns-6 : tie.Need-returns-6
-unfolding inner
+unfolding innerOf
 returns-6 c = rw (c .before .kind .given .1)
 
 pub inner-spec : {M : Type 1} → statement M

@@ -4,10 +4,11 @@ use mathlib.Core.Path.{_≡_, refl, sym, ap, _∙_}
 use lib.Dec.{eqb}
 use Rattle.hproto_writer.proofs.Answers.{refused-answer, accepted-answer}
 use Rattle.hproto_writer.proofs.Refusals.{open-met, narrow-kind}
-use Rattle.hproto_writer.specs.Calls.{kindOf, meant, inner, opening, openRefusal, deeper}
+use Rattle.hproto_writer.specs.Calls.{meant, opening, openRefusal, deeper}
 use borrow.Author.Needs.{needs}
 use Rattle.hproto_writer.proofs.open_field.Statement.{statement}
 use Rattle.hproto_writer.proofs.open_field.Tie as tie
+use Rattle.hproto_table.specs.Entry.{kindNumber, innerOf}
 
 meaning-requires : tie.Need-meaning-requires
 meaning-requires c κs = search needs
@@ -23,10 +24,10 @@ unfolding opening
 returns c =
     let a = c .before .before .before .before .args in
     let k = c .before .before .kind-number in
-    let e : k .result ≡ kindOf (meant (a .t) (a .s) (a .tag)) = k .ensures ∙ ap kindOf (c .before .before .before .meaning .ensures) in
+    let e : k .result ≡ kindNumber (meant (a .t) (a .s) (a .tag)) = k .ensures ∙ ap kindNumber (c .before .before .before .meaning .ensures) in
     let o = c .before .open-refusal in
     let m = meant (a .t) (a .s) (a .tag) in
-    refused-answer (o .result) (openRefusal (a .t) (a .s) (eqb (kindOf m) 5)) (a .s) (deeper (a .s) (a .tag) (inner m)) (a .s) (o .ensures ∙ rw e refl) (c .if1 .taken) refl
+    refused-answer (o .result) (openRefusal (a .t) (a .s) (eqb (kindNumber m) 5)) (a .s) (deeper (a .s) (a .tag) (innerOf m)) (a .s) (o .ensures ∙ rw e refl) (c .if1 .taken) refl
 
 add-after : tie.Need-add-after
 add-after c =
@@ -84,7 +85,7 @@ cast-after c =
     let a = c .before .before .before .before .before .args in
     let o = c .before .before .open-refusal in
     let k = c .before .before .before .kind-number in
-    let e : k .result ≡ kindOf (meant (a .t) (a .s) (a .tag)) = k .ensures ∙ ap kindOf (c .before .before .before .before .meaning .ensures) in
+    let e : k .result ≡ kindNumber (meant (a .t) (a .s) (a .tag)) = k .ensures ∙ ap kindNumber (c .before .before .before .before .meaning .ensures) in
     let h = open-met (a .t) (a .s) (eqb (k .result) 5) (sym (o .ensures) ∙ c .before .if1 .left) in
     let n = narrow-kind (a .t) (a .s) (a .tag) 5 (λ z. omega arith) (k .result) e (h .0) in
     omega arith
@@ -110,12 +111,12 @@ unfolding opening deeper
 returns-2 c =
     let a = c .before .before .before .before .before .args in
     let k = c .before .before .before .kind-number in
-    let e : k .result ≡ kindOf (meant (a .t) (a .s) (a .tag)) = k .ensures ∙ ap kindOf (c .before .before .before .before .meaning .ensures) in
+    let e : k .result ≡ kindNumber (meant (a .t) (a .s) (a .tag)) = k .ensures ∙ ap kindNumber (c .before .before .before .before .meaning .ensures) in
     let o = c .before .before .open-refusal in
     let m = meant (a .t) (a .s) (a .tag) in
-    let i : c .inner .result ≡ inner m = c .inner .ensures ∙ ap inner (c .before .before .before .before .meaning .ensures) in
-    let n : openRefusal (a .t) (a .s) (eqb (kindOf m) 5) ≡ 0 = sym (o .ensures ∙ rw e refl) ∙ c .before .if1 .left in
-    accepted-answer (openRefusal (a .t) (a .s) (eqb (kindOf m) 5)) (a .s) (deeper (a .s) (a .tag) (inner m)) (deeper (a .s) (a .tag) (c .inner .result)) n (rw i refl)
+    let i : c .inner .result ≡ innerOf m = c .inner .ensures ∙ ap innerOf (c .before .before .before .before .meaning .ensures) in
+    let n : openRefusal (a .t) (a .s) (eqb (kindNumber m) 5) ≡ 0 = sym (o .ensures ∙ rw e refl) ∙ c .before .if1 .left in
+    accepted-answer (openRefusal (a .t) (a .s) (eqb (kindNumber m) 5)) (a .s) (deeper (a .s) (a .tag) (innerOf m)) (deeper (a .s) (a .tag) (c .inner .result)) n (rw i refl)
 
 pub open-field-spec : {M : Type 1} → statement M
 open-field-spec =

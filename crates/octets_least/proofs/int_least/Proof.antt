@@ -3,7 +3,7 @@ use mathlib.Core.Path.{_≡_, sym, ap, _∙_}
 use lib.IntN.{negsuc}
 use mir.Syntax.{w64}
 use mir.ValLaws.{toZ-ofZ}
-use Rattle.octets.specs.Signed.{intLeast}
+use Rattle.octets.specs.Signed.{intWidthBits}
 use Rattle.octets_least.proofs.Signs.{from-zero, above-is}
 use borrow.Author.Needs.{needs}
 use Rattle.octets_least.proofs.int_least.Statement.{statement}
@@ -20,7 +20,7 @@ least-below-requires : tie.Need-least-below-requires
 least-below-requires c κs = (rw (under c) at (c .before .before .fits .z)) .sfits
 
 returns : tie.Need-returns
-returns c = c .least-below .ensures ∙ ap intLeast (sym (under (c .before)))
+returns c = c .least-below .ensures ∙ ap intWidthBits (sym (under (c .before)))
 
 cast-v : tie.Need-cast-v
 cast-v c = from-zero (c .before .args .z) (c .before .fits .z) (c .if1 .left) .cast

@@ -1,5 +1,5 @@
 -- `octets_least::uint_least` meets its contract.
-use Rattle.octets.specs.Number.{uintLeast}
+use Rattle.octets.specs.Number.{uintWidthBits}
 use borrow.Author.Needs.{needs}
 use Rattle.octets_least.proofs.uint_least.Statement.{statement}
 use Rattle.octets_least.proofs.uint_least.Tie as tie
@@ -8,7 +8,7 @@ width-requires : tie.Need-width-requires
 width-requires c κs = search needs
 
 returns : tie.Need-returns
-unfolding uintLeast
+unfolding uintWidthBits
 returns c = rw (c .width .ensures)
 
 pub uint-least-spec : {M : Type 1} → statement M

@@ -1,8 +1,9 @@
--- `kind_number` meets its contract: each kind in turn.
-use Rattle.hproto_writer.specs.Calls.{kindOf}
+use Rattle.hproto_table.specs.Entry.{kindNumber}
 use borrow.Author.Needs.{needs}
-use Rattle.hproto_writer.proofs.kind_number.Statement.{statement}
-use Rattle.hproto_writer.proofs.kind_number.Tie as tie
+use Rattle.hproto_find.proofs.kind_number.Statement.{statement}
+use Rattle.hproto_find.proofs.kind_number.Tie as tie
+use Rattle.hproto_find.proofs.kind_number.Reads as reads
+use Rattle.hproto_find.proofs.kind_number.Lts as lts
 
 enum-told : tie.Need-enum-told
 enum-told c = search needs
@@ -23,27 +24,27 @@ enum-told-6 : tie.Need-enum-told-6
 enum-told-6 c = search needs
 
 returns : tie.Need-returns
-unfolding kindOf
+unfolding kindNumber
 returns c = rw (c .enum-told .given .1)
 
 returns-2 : tie.Need-returns-2
-unfolding kindOf
+unfolding kindNumber
 returns-2 c = rw (c .enum-told2 .given .1)
 
 returns-3 : tie.Need-returns-3
-unfolding kindOf
+unfolding kindNumber
 returns-3 c = rw (c .enum-told3 .given .1)
 
 returns-4 : tie.Need-returns-4
-unfolding kindOf
+unfolding kindNumber
 returns-4 c = rw (c .enum-told4 .given .1)
 
 returns-5 : tie.Need-returns-5
-unfolding kindOf
+unfolding kindNumber
 returns-5 c = rw (c .enum-told5 .given .1)
 
 returns-6 : tie.Need-returns-6
-unfolding kindOf
+unfolding kindNumber
 returns-6 c = rw (c .enum-told6 .given .1)
 
 pub kind-number-spec : {M : Type 1} → statement M
