@@ -2,3 +2,5 @@ pub mod Slices
 pub mod Numbers
 pub mod Marks
 pub mod Names
+pub mod Standing
+pub mod Refusals

@@ -81,6 +81,7 @@ fn read(message: &[u8]) -> Walk
     walk_fields(message)
 }
 
+// The check of a whole TibMsg: its refusal, or the count of its fields and the depth 1.
 pub fn check(message: &[u8]) -> Checked
     ensures { λ r. ⌜ r ≡ check-of (now (message .entry)) ⌝ }
 {
@@ -179,6 +180,7 @@ fn shown(message: &[u8], at: usize, z: Sizes) -> Field
     }
 }
 
+// The k-th field, from 0, of a TibMsg: the check's refusal, or 18 where there is none, or the field.
 pub fn field(message: &[u8], k: u64) -> Field
     ensures { λ r. ⌜ r ≡ field-of (now (message .entry)) k ⌝ }
 {

@@ -2,3 +2,4 @@ pub mod Hints
 pub mod Steps
 pub mod Accepted
 pub mod Fronts
+pub mod Refusals

@@ -49,8 +49,6 @@ pub four-bounds : (b : ℕ) → (exponent four b < 256) × (fraction four b < 2 
 unfolding exponent fraction
 four-bounds b = (omega arith, omega arith)
 
--- ---- power-sum of two
-
 regrouped : (a g p q r : ℕ) → g * q ≡ r → a * g * (p * q) ≡ a * p * r
 regrouped a g p q r e =
     mul-assoc a g (p * q) ∙ ap (λ (n : ℕ). a * n) (mul-left-comm g p q ∙ ap (λ (n : ℕ). p * n) e) ∙ sym (mul-assoc a p r)

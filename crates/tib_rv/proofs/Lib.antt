@@ -3,3 +3,5 @@ pub mod Adding
 pub mod Turns
 pub mod Kths
 pub mod Results
+pub mod Places
+pub mod Checks

@@ -124,6 +124,7 @@ fn read(s: &[u8]) -> Walk
     message(s, 8, 0, 0)
 }
 
+// The check of a whole TibrvMsg: its refusal, or the count of its fields at all depths and the depth of its deepest message.
 pub fn check(message: &[u8]) -> Checked
     ensures { λ r. ⌜ r ≡ check-of (now (message .entry)) ⌝ }
 {
@@ -191,6 +192,7 @@ fn shown(at: usize, z: Sizes) -> Field
     }
 }
 
+// The k-th outermost field, from 0, of a TibrvMsg: the check's refusal, or 18 where there is none, or the field.
 pub fn field(message: &[u8], k: u64) -> Field
     ensures { λ r. ⌜ r ≡ field-of (now (message .entry)) k ⌝ }
 {

@@ -2,3 +2,5 @@ pub mod Counts
 pub mod Steps
 pub mod Accepted
 pub mod Fronts
+pub mod Announced
+pub mod Refusals
