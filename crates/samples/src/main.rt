@@ -1,19 +1,53 @@
-// Runs the worked examples of the documents, and what is easy to get wrong in them, through the public functions, and prints a line
-// for each: a label, the octets that go in, and what is answered, first by the check and then by the shortener.
+// Runs the worked examples of the documents, and what is easy to get wrong in them, through the public functions. Each line of standard
+// input is a sample; sample_lines says how it is written. Its first word says what to do, and only the first letter counts:
+//
+//     message NUMBER TABLE OCTETS          check a message and shorten it
+//     shorten ROOM TABLE OCTETS            shorten a message of number 0 into a buffer of ROOM octets, all of them aa
+//     find TAG WHICH NUMBER TABLE OCTETS   look a tag up; WHICH is counted from 0, or is the word last
+//     table OCTETS                         load a table
+//     read OCTETS                          read a frame
+//     write ROOM OCTETS                    write a frame into a buffer of ROOM octets, all of them aa, and read it
+//
+// A line that starts with # is passed over. What no line can give comes after the last one.
 mod frames;
-mod limits;
-mod listings;
-mod ordered;
+mod lookups;
+mod messages;
 mod print;
-mod run;
 mod tables;
-mod traps;
+
+fn run(line: &[u8], what: u8) {
+    match what {
+        b'm' => messages::message(line),
+        b's' => messages::shorten(line),
+        b'f' => lookups::find(line),
+        b't' => tables::table(line),
+        b'r' => frames::read(line),
+        b'w' => frames::write(line),
+        _ => sample_lines::text(b"not a line"),
+    }
+}
+
+fn sample(line: &[u8]) {
+    if line.len() == 0 || line[0] == b'#' {
+        return;
+    }
+    sample_lines::label(line);
+    run(line, line[0]);
+    sample_lines::text(b"\n");
+}
+
+fn samples(s: &[u8]) {
+    let mut at: usize = 0;
+    while at < s.len() {
+        let end = sample_lines::find(s, at, b'\n');
+        sample(&s[at..end]);
+        at = end + 1;
+    }
+}
 
 fn main() {
-    ordered::all();
-    listings::all();
-    traps::all();
-    tables::all();
-    limits::all();
-    frames::all();
+    let mut input = [0u8; 32768];
+    let n = io::read_full(0, &mut input);
+    samples(&input[..n]);
+    tables::values();
 }

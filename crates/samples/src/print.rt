@@ -1,56 +1,29 @@
-// Writing to standard output.
-fn wide(x: u8) -> u64 {
-    x as u64
-}
+// Prints what several kinds of line have in common.
 
-pub fn text(s: &[u8]) {
-    io::write_all(1, s);
-}
-
-pub fn number(n: u64) {
-    io::print_decimal(1, n);
-}
-
-pub fn refusal(n: u64, place: u64) {
-    text(b" refused ");
-    number(n);
-    text(b" at ");
-    number(place);
-}
-
-fn octet(x: u8) {
-    text(b" ");
-    io::print_hex(1, wide(x), 2);
-}
-
-// The first octets of a slice in hex, at most so many.
-fn front(s: &[u8], most: u64) {
-    let mut i = 0;
-    while i < s.len() {
-        if most <= (i as u64) {
-            return;
-        }
-        octet(s[i]);
-        i += 1;
+// Octets; of many, how many there are and the first six.
+pub fn octets(s: &[u8]) {
+    sample_lines::octets(s);
+    if 40 < s.len() {
+        sample_lines::text(b" ");
+        sample_lines::octets(sample_lines::part(s, 0, 6));
+        sample_lines::text(b"..");
     }
 }
 
-// The same, with a mark where there are none.
-pub fn octets(s: &[u8], most: u64) {
-    if s.len() == 0 || most == 0 {
-        text(b" -");
-        return;
-    }
-    front(s, most);
+// What a line hands to the functions.
+pub fn given(s: &[u8]) {
+    octets(s);
+    sample_lines::text(b" -> ");
 }
 
-// The answer of a function that writes into a buffer.
-pub fn written(n: u64, place: u64, length: u64) {
-    if n != 0 {
-        refusal(n, place);
-        return;
+// The answer of a function that writes into a buffer, and the whole buffer afterwards.
+pub fn written(refusal: u64, place: u64, length: u64, buffer: &[u8]) {
+    if refusal != 0 {
+        sample_lines::refusal(refusal, place);
+    } else {
+        sample_lines::number(length);
+        sample_lines::text(b" octets");
     }
-    text(b" ");
-    number(length);
-    text(b" octets");
+    sample_lines::text(b", buffer ");
+    octets(buffer);
 }

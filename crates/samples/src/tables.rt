@@ -1,66 +1,52 @@
-// Loading field tables.
-use crate::run;
+// The loader, and table values that it does not make.
+use crate::messages;
+use hproto_table::Loaded;
+use hproto_table::Table;
 
-fn accepted() {
-    run::table(b"empty table", b"");
-    run::table(b"one record", b"\x01\x00\x05\x00\x00\x01\x01\x00");
-    run::table(
-        b"same tag, two numbers",
-        b"\x01\x00\x05\x00\x00\x01\x01\x00\x01\x00\x05\x01\x00\x01\x01\x00",
-    );
-    run::table(b"number 15, inner 15", b"\x01\x00\x05\x0f\xff\xff\x05\x0f");
+fn load(word: &[u8]) -> Loaded {
+    let mut space = [0u8; 65546];
+    let n = sample_lines::octets_in(word, &mut space);
+    hproto_load::load(sample_lines::front(&space, n))
 }
 
-// Records that are cut, or of another form.
-fn other_form() {
-    run::table(b"record cut", b"\x01\x00\x05\x00\x00\x01\x01");
-    run::table(
-        b"second record cut",
-        b"\x01\x00\x05\x00\x00\x01\x01\x00\x01\x00\x05",
-    );
-    run::table(b"tag 2", b"\x02\x00\x05\x00\x00\x01\x01\x00");
-    run::table(b"length 4", b"\x01\x00\x04\x00\x00\x01\x01");
-    run::table(b"length 261", b"\x01\x01\x05\x00\x00\x01\x01\x00");
+// The table of a word, which is to load.
+pub fn loaded(word: &[u8]) -> Table {
+    let l = load(word);
+    if l.refusal != 0 {
+        sample_lines::text(b"table ");
+        sample_lines::refusal(l.refusal, l.place);
+        sample_lines::text(b" ");
+    }
+    l.table
 }
 
-fn out_of_range() {
-    run::table(b"message number 16", b"\x01\x00\x05\x10\x00\x01\x01\x00");
-    run::table(b"kind 0", b"\x01\x00\x05\x00\x00\x01\x00\x00");
-    run::table(b"kind 6", b"\x01\x00\x05\x00\x00\x01\x06\x00");
-    run::table(
-        b"inner number of a uint",
-        b"\x01\x00\x05\x00\x00\x01\x01\x01",
-    );
-    run::table(b"inner number 16", b"\x01\x00\x05\x00\x00\x01\x05\x10");
+pub fn table(line: &[u8]) {
+    let l = load(sample_lines::word(line, 1));
+    let t = l.table;
+    if l.refusal != 0 {
+        sample_lines::refusal(l.refusal, l.place);
+    } else {
+        sample_lines::text(b"entries ");
+        sample_lines::number(t.count as u64);
+    }
 }
 
-// The later record of two is at fault, and the first faulty record decides.
-fn repeated() {
-    run::table(
-        b"A B B A",
-        b"\x01\x00\x05\x00\x00\x01\x01\x00\x01\x00\x05\x00\x00\x02\x01\x00\x01\x00\x05\x00\x00\x02\x01\x00\x01\x00\x05\x00\x00\x01\x01\x00",
-    );
-    run::table(
-        b"A B A B",
-        b"\x01\x00\x05\x00\x00\x01\x01\x00\x01\x00\x05\x00\x00\x02\x01\x00\x01\x00\x05\x00\x00\x01\x01\x00\x01\x00\x05\x00\x00\x02\x01\x00",
-    );
-    run::table(
-        b"A again as an int",
-        b"\x01\x00\x05\x00\x00\x01\x01\x00\x01\x00\x05\x00\x00\x01\x02\x00",
-    );
-    run::table(
-        b"A A bad",
-        b"\x01\x00\x05\x00\x00\x01\x01\x00\x01\x00\x05\x00\x00\x01\x01\x00\x01\x00\x05\x00\x00\x03\x09\x00",
-    );
-    run::table(
-        b"A bad A A",
-        b"\x01\x00\x05\x00\x00\x01\x01\x00\x01\x00\x05\x00\x00\x03\x09\x00\x01\x00\x05\x00\x00\x01\x01\x00\x01\x00\x05\x00\x00\x01\x01\x00",
-    );
+// An empty message under a table value.
+fn value(label: &[u8], count: usize, words: [u64; 64]) {
+    sample_lines::text(label);
+    sample_lines::text(b": ");
+    messages::checked(hproto_check::check(Table { count, words }, 0, b""));
+    sample_lines::text(b"\n");
 }
 
-pub fn all() {
-    accepted();
-    other_form();
-    out_of_range();
-    repeated();
+// Table values that the loader did not make. The last is one that it could have made.
+pub fn values() {
+    let mut words = [0u64; 64];
+    value(b"slot of kind 0", 1, words);
+    value(b"count 65", 65, words);
+    words[63] = 1;
+    value(b"unused slot not 0", 0, words);
+    let mut good = [0u64; 64];
+    good[0] = 0xc0100;
+    value(b"value as the loader gives it", 1, good);
 }

@@ -1,18 +1,17 @@
 // Runs the readers of the Tib formats on the messages of standard input, one to a line. A line says what to do (m and r: check a TibMsg
-// and a TibrvMsg message and show their fields; M and R: ask for the field whose number is the count of fields), the length of the
-// message, its first octets, the others being 0, and after `#` a label. Numbers are hexadecimal.
-mod input;
+// and a TibrvMsg message and show their fields; M and R: ask for the field whose number is the count of fields), then has the octets of
+// the message, and a label. sample_lines says how a line is written. A line that starts with # is passed over.
 mod print;
 
 // Checks a TibMsg message and shows its fields, the reals read in fractions too.
 fn msg(s: &[u8]) {
     let c = tib_msg::check(s);
     if c.refusal != 0 {
-        print::refused(c.refusal, c.place);
+        sample_lines::refusal(c.refusal, c.place);
         return;
     }
     let n = c.fields;
-    print::counts(n, c.depth);
+    sample_lines::counts(n, c.depth);
     let mut k: u64 = 0;
     while k < n {
         let f = tib_msg::field(s, k);
@@ -21,7 +20,6 @@ fn msg(s: &[u8]) {
             let r = f.real;
             print::real(r);
         }
-        io::write_all(1, b"\n");
         k += 1;
     }
 }
@@ -30,11 +28,11 @@ fn msg(s: &[u8]) {
 fn rv(s: &[u8]) {
     let c = tib_rv::check(s);
     if c.refusal != 0 {
-        print::refused(c.refusal, c.place);
+        sample_lines::refusal(c.refusal, c.place);
         return;
     }
     let n = c.fields;
-    print::counts(n, c.depth);
+    sample_lines::counts(n, c.depth);
     let mut k: u64 = 0;
     while k < n {
         let f = tib_rv::field(s, k);
@@ -42,7 +40,6 @@ fn rv(s: &[u8]) {
             return;
         }
         print::field(s, k, f);
-        io::write_all(1, b"\n");
         k += 1;
     }
 }
@@ -51,57 +48,40 @@ fn rv(s: &[u8]) {
 fn msg_none(s: &[u8]) {
     let c = tib_msg::check(s);
     let f = tib_msg::field(s, c.fields);
-    print::refused(f.refusal, f.place);
+    sample_lines::refusal(f.refusal, f.place);
 }
 
 fn rv_none(s: &[u8]) {
     let c = tib_rv::check(s);
     let f = tib_rv::field(s, c.fields);
-    print::refused(f.refusal, f.place);
+    sample_lines::refusal(f.refusal, f.place);
 }
 
-// What a line asks for, on the first octets of a buffer.
-fn run(what: u8, message: &[u8; 65537], size: usize) {
-    let s = print::part(message, 0, size as u64);
-    if what == b'm' {
-        msg(s);
-    } else if what == b'M' {
-        msg_none(s);
-    } else if what == b'r' {
-        rv(s);
-    } else {
-        rv_none(s);
+fn run(what: u8, s: &[u8]) {
+    match what {
+        b'm' => msg(s),
+        b'M' => msg_none(s),
+        b'r' => rv(s),
+        b'R' => rv_none(s),
+        _ => sample_lines::text(b"not a line"),
     }
 }
 
-// One line.
-fn sample(s: &[u8]) {
-    let hash = input::find(s, 0, b'#');
-    if s.len() <= hash {
+fn sample(line: &[u8]) {
+    if line.len() == 0 || line[0] == b'#' {
         return;
     }
-    if hash < 8 {
-        return;
-    }
-    if s.len() - hash < 2 {
-        return;
-    }
-    let start = hash + 2;
-    let size = input::length_of(&s[2..7]);
-    let mut message = [0u8; 65537];
-    input::spell(&s[8..hash], &mut message);
-    io::write_all(1, &s[start..]);
-    io::write_all(1, b": ");
-    run(s[0], &message, size);
+    let mut space = [0u8; 65546];
+    let n = sample_lines::octets_in(sample_lines::word(line, 1), &mut space);
+    sample_lines::label(line);
+    run(line[0], sample_lines::front(&space, n));
+    sample_lines::text(b"\n");
 }
 
 fn samples(s: &[u8]) {
     let mut at: usize = 0;
     while at < s.len() {
-        let end = input::find(s, at, b'\n');
-        if s.len() <= end {
-            return;
-        }
+        let end = sample_lines::find(s, at, b'\n');
         sample(&s[at..end]);
         at = end + 1;
     }

@@ -1,25 +1,21 @@
--- `tib_samples::samples` is safe and ends.
-use Prim.Native.Nat.{_-_, _≤_, _*_}
+-- The next line starts after the end of this one. Assumes nothing.
+use Prim.Native.Nat.{_-_}
 use borrow.Author.Needs.{needs}
-use native.Mathlib.Omega.{arith}
 use lib.ListN.{length}
 use Rattle.tib_samples.proofs.samples.Statement.{statement}
 use Rattle.tib_samples.proofs.samples.Tie as tie
 
 abbrev Inv-loop : tie.InvT-loop
-Inv-loop s at₀ at = at ≤ length s
+Inv-loop s at₀ at = Unit
 
 abbrev μ-loop : tie.MeasureT-loop
 μ-loop s at₀ at = length s - at
 
 loop-holds : tie.Need-loop-holds Inv-loop μ-loop
-loop-holds c = omega arith
+loop-holds c = search needs
 
 find-requires : tie.Need-find-requires Inv-loop μ-loop
 find-requires c κs = search needs
-
-returns : tie.Need-returns Inv-loop μ-loop
-returns c = omega arith
 
 sub-sample : tie.Need-sub-sample Inv-loop μ-loop
 sub-sample c = search needs
@@ -34,16 +30,16 @@ sample-requires : tie.Need-sample-requires Inv-loop μ-loop
 sample-requires c κs = search needs
 
 add-at : tie.Need-add-at Inv-loop μ-loop
-add-at c = omega arith
+add-at c = search needs
 
 loop-less : tie.Need-loop-less Inv-loop μ-loop
-loop-less c = omega arith
+loop-less c = search needs
 
 loop-again : tie.Need-loop-again Inv-loop μ-loop
-loop-again c = omega arith
+loop-again c = search needs
 
-returns-2 : tie.Need-returns-2 Inv-loop μ-loop
-returns-2 c = omega arith
+returns : tie.Need-returns Inv-loop μ-loop
+returns c = search needs
 
 pub samples-spec : {M : Type 1} → statement M
 samples-spec =
@@ -53,7 +49,6 @@ samples-spec =
     μ-loop
     loop-holds
     find-requires
-    returns
     sub-sample
     part-sample-start
     part-sample-end
@@ -61,4 +56,4 @@ samples-spec =
     add-at
     loop-less
     loop-again
-    returns-2)
+    returns)

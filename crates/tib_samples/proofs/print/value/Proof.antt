@@ -22,11 +22,11 @@ float-to-bits-print-hex c = equals-itself _ (c .if1 .taken)
 print-hex-requires : tie.Need-print-hex-requires
 print-hex-requires c κs = search needs
 
-slice-aggregate-write-all : tie.Need-slice-aggregate-write-all
-slice-aggregate-write-all c = search needs
+slice-aggregate-text : tie.Need-slice-aggregate-text
+slice-aggregate-text c = search needs
 
-write-all-requires : tie.Need-write-all-requires
-write-all-requires c κs = search needs
+text-requires : tie.Need-text-requires
+text-requires c κs = search needs
 
 returns : tie.Need-returns
 returns c = search needs
@@ -40,7 +40,7 @@ value-spec =
     (tie.spec
     float-to-bits-print-hex
     print-hex-requires
-    slice-aggregate-write-all
-    write-all-requires
+    slice-aggregate-text
+    text-requires
     returns
     returns-2)

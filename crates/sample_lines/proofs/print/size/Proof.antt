@@ -1,4 +1,4 @@
--- `tib_samples::print::size` meets its contract.
+-- `sample_lines::print::size` meets its contract.
 use Prim.Native.Nat.{ℕ, suc, _-_, _^_, _<_}
 use native.Mathlib.Omega.{arith}
 use mathlib.Core.Path.{_≡_, ap, _∙_}
@@ -10,8 +10,8 @@ use mir.Syntax.{w64}
 use mir.Val.{Fits, SFits, toZ, ofZ}
 use mir.ValLaws.{toZ-ofZ, toZ-pos}
 use borrow.Author.Tests.{le-ltb}
-use Rattle.tib_samples.proofs.print.size.Statement.{statement}
-use Rattle.tib_samples.proofs.print.size.Tie as tie
+use Rattle.sample_lines.proofs.print.size.Statement.{statement}
+use Rattle.sample_lines.proofs.print.size.Tie as tie
 
 -- What the machine makes of `-1 - z`, where z is the number `negsuc k`.
 module _ (k : ℕ) (h : k < 2 ^ 63) where

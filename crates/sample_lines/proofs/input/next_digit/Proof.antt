@@ -1,22 +1,25 @@
--- `tib_samples::input::find` is safe and ends.
+-- `sample_lines::input::next_digit` is safe and ends.
 use Prim.Native.Nat.{_-_, _≤_, _*_}
 use borrow.Author.Needs.{needs}
 use native.Mathlib.Omega.{arith}
 use lib.ListN.{length}
-use Rattle.tib_samples.proofs.input.find.Statement.{statement}
-use Rattle.tib_samples.proofs.input.find.Tie as tie
+use Rattle.sample_lines.proofs.input.next_digit.Statement.{statement}
+use Rattle.sample_lines.proofs.input.next_digit.Tie as tie
 
 abbrev Inv-loop : tie.InvT-loop
-Inv-loop s from x i₀ i = from ≤ i
+Inv-loop s from i₀ i = from ≤ i
 
 abbrev μ-loop : tie.MeasureT-loop
-μ-loop s from x i₀ i = length s - i
+μ-loop s from i₀ i = length s - i
 
 loop-holds : tie.Need-loop-holds Inv-loop μ-loop
 loop-holds c = omega arith
 
-shared-slice-read-if1 : tie.Need-shared-slice-read-if1 Inv-loop μ-loop
-shared-slice-read-if1 c = search needs
+shared-slice-read-digit : tie.Need-shared-slice-read-digit Inv-loop μ-loop
+shared-slice-read-digit c = search needs
+
+digit-requires : tie.Need-digit-requires Inv-loop μ-loop
+digit-requires c κs = search needs
 
 returns : tie.Need-returns Inv-loop μ-loop
 returns c = omega arith
@@ -33,14 +36,15 @@ loop-again c = omega arith
 returns-2 : tie.Need-returns-2 Inv-loop μ-loop
 returns-2 c = omega arith
 
-pub find-spec : {M : Type 1} → statement M
-find-spec =
+pub next-digit-spec : {M : Type 1} → statement M
+next-digit-spec =
     tie.close
     (tie.spec
     Inv-loop
     μ-loop
     loop-holds
-    shared-slice-read-if1
+    shared-slice-read-digit
+    digit-requires
     returns
     add-i
     loop-less
