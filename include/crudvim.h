@@ -21,7 +21,7 @@
 extern "C" {
 #endif
 
-/* The refusal numbers. */
+/* The refusal numbers. Those of the writer, 8, 10, 11 and 12, are given by no entry here. */
 #define CRUDVIM_ACCEPTED 0u
 #define CRUDVIM_TOO_LONG 1u
 #define CRUDVIM_TABLE 2u
@@ -69,9 +69,9 @@ static inline const char *crudvim_refusal_text(uint64_t refusal)
     }
 }
 
-/* Checks a message of a number from 0 to 15 under a field table. *fields is the count of its fields at all depths, *depth that of
- * its deepest message (1 where nothing is nested). Refusals, in this order: 1 at 0; 2 at the faulty record of the table; 2 at 0 for
- * a number over 15; then the first fault of the message. */
+/* Checks a message under a field table and a message number. *fields is the count of its fields at all depths, *depth the depth of
+ * its deepest message (1 where nothing is nested). Refusals, in this order: 1 at 0 for a message over 65536 octets; 2 at the faulty
+ * record of the table; 2 at 0 for a number over 15; then the first fault of the message. */
 uint64_t crudvim_check(const uint8_t *table, size_t table_len, uint64_t number, const uint8_t *message, size_t message_len,
                        uint64_t *place, uint64_t *fields, uint64_t *depth);
 
@@ -80,8 +80,9 @@ uint64_t crudvim_check(const uint8_t *table, size_t table_len, uint64_t number, 
 uint64_t crudvim_shorten(const uint8_t *table, size_t table_len, uint64_t number, const uint8_t *message, size_t message_len,
                          uint8_t *out, size_t out_len, uint64_t *place, uint64_t *length);
 
-/* Reads the frame at the front of a buffer of at most 65545 octets. The message stands from *start to *end, and what follows the
- * frame starts at *end. Octets beyond the frame are allowed. Refusals, all at 0: 1, 3, 1 for the announced size, 4. */
+/* Reads the frame at the front of a buffer. The message stands from *start to *end, and what follows the frame starts at *end.
+ * Octets beyond the frame are allowed. Refusals, all at 0: 1 for a buffer over 65545 octets, 3, 1 for an announced size over 65536,
+ * 4. */
 uint64_t crudvim_frame_read(const uint8_t *buffer, size_t buffer_len, uint64_t *place, uint64_t *start, uint64_t *end);
 
 /* Writes a message in a frame with the shortest prefix at the front of out, sets *length to the frame's length, and leaves the rest
@@ -90,8 +91,8 @@ uint64_t crudvim_frame_write(const uint8_t *message, size_t message_len, uint8_t
                              uint64_t *length);
 
 /* Finds the k-th, from 0, of the outermost fields with a tag, after the whole message is checked. *kind is 0 raw, 1 uint, 2 int,
- * 3 string, 4 text, 5 message; *value is the number of a uint, *signed_value that of an int; the contents stand at *start and have
- * *length octets. Refusals: the check's, then 18 at 0. */
+ * 3 string, 4 text, 5 message; *value is the number of a uint and *signed_value that of an int, each 0 for any other kind; the
+ * contents, whatever the kind, stand at *start and have *length octets. Refusals: the check's, then 18 at 0. */
 uint64_t crudvim_lookup(const uint8_t *table, size_t table_len, uint64_t number, const uint8_t *message, size_t message_len,
                         uint64_t tag, uint64_t k, uint64_t *place, uint64_t *kind, uint64_t *value, int64_t *signed_value,
                         uint64_t *start, uint64_t *length);
@@ -111,16 +112,17 @@ uint64_t crudvim_tibmsg_field(const uint8_t *message, size_t message_len, uint64
                               uint64_t *name_length, uint64_t *type, uint64_t *data_start, uint64_t *data_length,
                               uint64_t *hinted, uint64_t *hint_type, uint64_t *hint, uint64_t *real_bits);
 
-/* Checks a TibrvMsg. *fields counts the fields at all depths. */
+/* Checks a TibrvMsg. *fields counts the fields at all depths, *depth is that of the deepest message. Refusals: 1, 3, 13, 14, then the
+ * first fault of a field, at any depth. */
 uint64_t crudvim_tibrv_check(const uint8_t *message, size_t message_len, uint64_t *place, uint64_t *fields, uint64_t *depth);
 
 /* Reads the k-th outermost field, from 0, of a TibrvMsg. There are no hints. The data of a field of type 1 are its message, from
- * the size octets on, so that it can be read by these entries. */
+ * the size octets on, so that it can be read by these entries. Refusals: the check's, then 18 at 0. */
 uint64_t crudvim_tibrv_field(const uint8_t *message, size_t message_len, uint64_t k, uint64_t *place, uint64_t *name_start,
                              uint64_t *name_length, uint64_t *type, uint64_t *data_start, uint64_t *data_length);
 
 /* Reads a real, given by its 64 bits and its hint, in fractions: *whole is the real times 2 to the power of the hint. Refused with
- * 17 at 0 where there is no hint (hinted is 0) or it is not from 1 to 8, or the product is not whole or not below 2^53 in size. */
+ * 17 at 0 where there is no hint (hinted is 0; any other number means that there is one) or it is not from 1 to 8, or the product is not whole or not below 2^53 in size. */
 uint64_t crudvim_fractions(uint64_t real_bits, uint64_t hinted, uint64_t hint, uint64_t *place, int64_t *whole);
 
 #ifdef __cplusplus

@@ -19,6 +19,11 @@ python3 $here/unhex.py < $here/expected.hex > "$work/expected"
 cmp "$work/expected" "$work/output"
 diff $here/expected.txt "$work/report"
 
+# The program in README.md.
+sed -n '/^```c$/,/^```$/p' README.md | sed '1d;$d' > "$work/readme.c"
+gcc -std=c99 -Wall -Wextra -Werror -pedantic -I"$work/usr/include" "$work/readme.c" -L"$work/usr/lib" -lcrudvim -o "$work/readme"
+[ "$("$work/readme")" = "accepted, 2 octets: c1 05" ]
+
 # Null pointers with length 0, for every entry that takes octets, under valgrind.
 gcc -std=c99 -Wall -Wextra -Werror -pedantic -O0 -g -I"$work/usr/include" $here/nothing.c -L"$work/usr/lib" -lcrudvim -o "$work/nothing"
 valgrind -q --error-exitcode=1 "$work/nothing"

@@ -1,0 +1,992 @@
+/* The bench: the library against the plain implementation in plain.c, on the same inputs, in one run.
+ *
+ *   bench                        compare all answers, then time every row and both curves
+ *   bench --compare              only compare the answers
+ *   bench --list                 the rows: name, call, octets, fields
+ *   bench --count ROW SIDE [N]   call a row N times (100 if not said). ROW is as a-meter-table-6:check, SIDE is library or plain.
+ *                                It is for counting instructions (counts.py), so it compares and times nothing
+ *
+ * Every call takes the table's octets, so loading the table is part of each of them, on both sides.
+ */
+#define _POSIX_C_SOURCE 200809L
+
+#include <stdio.h>
+#include <stdlib.h>
+#include <string.h>
+#include <time.h>
+
+#include "../include/crudvim.h"
+#include "plain.h"
+
+enum { LIMIT = 65536, TABLE_ROOM = 65 * 8, SAMPLES = 31, MAX_ROWS = 128, SLACK = 16, SMALL_FIELD_MOST = 6 };
+
+enum call { CHECK, SHORTEN, TIBMSG, TIBRV };
+static const char *const call_names[] = {"check", "shorten", "tibmsg", "tibrv"};
+
+enum kind { RAW, UINT, INT, STRING, TEXT, MESSAGE };
+
+struct octets {
+    uint8_t *data;
+    size_t len;
+};
+
+struct row {
+    char name[40];
+    enum call call;
+    struct octets table;
+    uint64_t number;
+    struct octets message;
+    size_t out_len;
+    uint64_t fields;
+};
+
+struct side {
+    const char *name;
+    uint64_t (*check)(const uint8_t *, size_t, uint64_t, const uint8_t *, size_t, uint64_t *, uint64_t *, uint64_t *);
+    uint64_t (*shorten)(const uint8_t *, size_t, uint64_t, const uint8_t *, size_t, uint8_t *, size_t, uint64_t *, uint64_t *);
+    uint64_t (*tibmsg)(const uint8_t *, size_t, uint64_t *, uint64_t *, uint64_t *);
+    uint64_t (*tibrv)(const uint8_t *, size_t, uint64_t *, uint64_t *, uint64_t *);
+};
+
+static const struct side sides[2] = {
+    {"library", crudvim_check, crudvim_shorten, crudvim_tibmsg_check, crudvim_tibrv_check},
+    {"plain", plain_check, plain_shorten, plain_tibmsg_check, plain_tibrv_check},
+};
+
+struct answer {
+    uint64_t refusal;
+    uint64_t place;
+    uint64_t first;
+    uint64_t second;
+};
+
+static struct row rows[MAX_ROWS];
+static size_t row_count;
+
+/* Takes what the timed calls answer, so that they are not left out. */
+static volatile uint64_t sink;
+
+static void fail(const char *what)
+{
+    fprintf(stderr, "bench: %s\n", what);
+    exit(1);
+}
+
+/* ---- making octets ---- */
+
+#define RANDOM_START 0x9e3779b97f4a7c15u
+static uint64_t random_state = RANDOM_START;
+
+static uint64_t random_bits(void)
+{
+    random_state ^= random_state << 13;
+    random_state ^= random_state >> 7;
+    random_state ^= random_state << 17;
+    return random_state;
+}
+
+static size_t random_below(size_t bound)
+{
+    return (size_t)((random_bits() >> 16) % bound);
+}
+
+/* A number of at most so many bits, small ones as likely as large ones. */
+static uint64_t random_up_to_bits(size_t most)
+{
+    size_t bits = 1 + random_below(most);
+    return random_bits() >> (64 - bits);
+}
+
+static struct octets room(size_t len)
+{
+    struct octets made = {malloc(len + SLACK), 0};
+    if (made.data == NULL)
+        fail("no memory");
+    return made;
+}
+
+static void put(struct octets *to, const void *data, size_t len)
+{
+    memcpy(to->data + to->len, data, len);
+    to->len += len;
+}
+
+static void put_number(struct octets *to, uint64_t value, size_t count)
+{
+    for (size_t i = count; i > 0; i--)
+        to->data[to->len++] = i > 8 ? 0 : (uint8_t)(value >> (8 * (i - 1)));
+}
+
+static size_t octets_for(uint64_t value)
+{
+    size_t count = 0;
+    for (; value != 0; value >>= 8)
+        count++;
+    return count;
+}
+
+/* A control part with at least so many octets for the tag and for the length; 0 and 0 give the shortest. */
+static void put_control(struct octets *to, unsigned tag, uint64_t length, size_t tag_least, size_t length_least)
+{
+    size_t tag_size = tag < 14 ? 0 : tag < 256 ? 1 : 2;
+    size_t length_size = length < 12 ? 0 : length < 256 ? 1 : length < 65536 ? 2 : 4;
+    if (tag_size < tag_least)
+        tag_size = tag_least;
+    if (length_size < length_least)
+        length_size = length_least;
+    unsigned high = tag_size == 0 ? tag : 13 + (unsigned)tag_size;
+    unsigned low = length_size == 0 ? (unsigned)length : length_size == 1 ? 12 : length_size == 2 ? 13 : length_size == 4 ? 14 : 15;
+    put_number(to, high << 4 | low, 1);
+    put_number(to, tag, tag_size);
+    put_number(to, length, length_size);
+}
+
+static void put_field(struct octets *to, unsigned tag, const void *contents, size_t len)
+{
+    put_control(to, tag, len, 0, 0);
+    put(to, contents, len);
+}
+
+static void put_uint(struct octets *to, unsigned tag, uint64_t value)
+{
+    size_t count = octets_for(value);
+    put_control(to, tag, count, 0, 0);
+    put_number(to, value, count);
+}
+
+/* An int of a size below 2^55, in its shortest form but for the lone negative powers of two, which the bench does not need. */
+static void put_int(struct octets *to, unsigned tag, int negative, uint64_t size)
+{
+    size_t count = octets_for(size << 1);
+    put_control(to, tag, count, 0, 0);
+    put_number(to, negative && count > 0 ? size | (uint64_t)1 << (8 * count - 1) : size, count);
+}
+
+static void put_record(struct octets *to, unsigned number, unsigned tag, enum kind kind, unsigned inner)
+{
+    put_number(to, 0x010005, 3);
+    put_number(to, number, 1);
+    put_number(to, tag, 2);
+    put_number(to, kind, 1);
+    put_number(to, inner, 1);
+}
+
+/* ---- tables ---- */
+
+/* The six entries of a meter reading: message `outer` has a serial number, a time, a unit and readings; message `outer + 1`, a
+ * reading, has a register and a value. */
+static void put_meter_records(struct octets *to, unsigned outer)
+{
+    put_record(to, outer, 1, UINT, 0);
+    put_record(to, outer, 2, UINT, 0);
+    put_record(to, outer, 3, TEXT, 0);
+    put_record(to, outer, 4, MESSAGE, outer + 1);
+    put_record(to, outer + 1, 0, UINT, 0);
+    put_record(to, outer + 1, 1, INT, 0);
+}
+
+static struct octets meter_table(void)
+{
+    struct octets table = room(TABLE_ROOM);
+    put_meter_records(&table, 0);
+    return table;
+}
+
+static void shuffle_records(uint8_t *records, size_t count)
+{
+    for (size_t i = count; i > 1; i--) {
+        size_t j = random_below(i);
+        uint8_t kept[8];
+        memcpy(kept, records + 8 * (i - 1), 8);
+        memcpy(records + 8 * (i - 1), records + 8 * j, 8);
+        memcpy(records + 8 * j, kept, 8);
+    }
+}
+
+/* 58 entries that the reading does not use, in rising order, then its six, as messages 14 and 15. */
+static struct octets full_table(int shuffled)
+{
+    struct octets table = room(TABLE_ROOM);
+    for (unsigned i = 0; i < 58; i++)
+        put_record(&table, i / 6, i % 6, (enum kind)(UINT + i % 4), 0);
+    put_meter_records(&table, 14);
+    if (shuffled) {
+        shuffle_records(table.data, 58);
+        shuffle_records(table.data + 8 * 58, 6);
+    }
+    return table;
+}
+
+/* The kinds one by one for the larger rows: tag 1 to 4 uint, int, string, text; tag 5 a message with the same entries. */
+static struct octets kinds_table(void)
+{
+    struct octets table = room(TABLE_ROOM);
+    put_record(&table, 0, 1, UINT, 0);
+    put_record(&table, 0, 2, INT, 0);
+    put_record(&table, 0, 3, STRING, 0);
+    put_record(&table, 0, 4, TEXT, 0);
+    put_record(&table, 0, 5, MESSAGE, 0);
+    return table;
+}
+
+/* ---- messages ---- */
+
+/* 82 fields: four of the message's own, and 26 readings of a register and a value. */
+static struct octets meter_message(void)
+{
+    struct octets message = room(LIMIT);
+    put_uint(&message, 1, 40871236);
+    put_uint(&message, 2, 1760000000);
+    put_field(&message, 3, "kWh", 3);
+    put_field(&message, 9, "\x07", 1);
+    for (unsigned i = 0; i < 26; i++) {
+        struct octets reading = room(32);
+        put_uint(&reading, 0, i);
+        put_int(&reading, 1, i % 4 == 3, 700 + random_below(i % 2 ? 90000 : 6000000));
+        put_field(&message, 4, reading.data, reading.len);
+        free(reading.data);
+    }
+    return message;
+}
+
+/* A field of at most SMALL_FIELD_MOST octets. */
+static void put_small_field(struct octets *to)
+{
+    static const char letters[] = "meter reading of the day";
+    uint64_t value = random_up_to_bits(24);
+    switch (random_below(5)) {
+    case 0: put_uint(to, 1, value); break;
+    case 1: put_int(to, 2, (int)random_below(2), value); break;
+    case 2: put_field(to, 3, letters, random_below(6)); break;
+    case 3: put_field(to, 4, letters, random_below(6)); break;
+    default: put_field(to, 9, letters, random_below(3)); break;
+    }
+}
+
+/* Small fields of every kind but message, of just so many octets. */
+static void put_small_fields(struct octets *to, size_t len)
+{
+    size_t end = to->len + len;
+    while (end - to->len >= SMALL_FIELD_MOST)
+        put_small_field(to);
+    while (to->len < end)
+        put_number(to, 0x10, 1);
+}
+
+static struct octets small_fields(size_t len)
+{
+    struct octets message = room(LIMIT);
+    put_small_fields(&message, len);
+    return message;
+}
+
+/* One field of a tag that fills the message, its contents made by repeating a pattern of whole groups. */
+static struct octets one_field(unsigned tag, const char *pattern, size_t total)
+{
+    struct octets message = room(LIMIT);
+    size_t len = total - 3;
+    size_t part = strlen(pattern);
+    put_control(&message, tag, len, 0, 2);
+    for (; len >= part; len -= part)
+        put(&message, pattern, part);
+    for (; len > 0; len--)
+        put(&message, " ", 1);
+    return message;
+}
+
+/* A message of `depth` levels and about `len` octets. The fields stand in the innermost one, or are spread over all. */
+static struct octets deep(unsigned depth, size_t len, int spread)
+{
+    size_t share = (len - 3 * (depth - 1)) / (spread ? depth : 1);
+    struct octets message = small_fields(share);
+    for (unsigned level = 1; level < depth; level++) {
+        struct octets around = room(LIMIT);
+        if (spread)
+            put_small_fields(&around, share / 2);
+        put_field(&around, 5, message.data, message.len);
+        if (spread)
+            put_small_fields(&around, share - share / 2);
+        free(message.data);
+        message = around;
+    }
+    return message;
+}
+
+/* Fields in forms wider than needed; about half of the octets are not needed. */
+static struct octets wide(size_t total)
+{
+    struct octets message = room(LIMIT + 64);
+    while (message.len + 16 <= total) {
+        switch (random_below(4)) {
+        case 0:
+            put_control(&message, 1, 8, 0, 1);
+            put_number(&message, random_bits() >> 32, 8);
+            break;
+        case 1:
+            put_control(&message, 2, 6, 1, 1);
+            put_number(&message, random_below(2) ? 0x800000 : 0, 3);
+            put_number(&message, random_bits(), 3);
+            break;
+        case 2:
+            put_control(&message, 3, 5, 2, 2);
+            put(&message, "north", 5);
+            break;
+        default:
+            put_control(&message, 5, 6, 2, 4);
+            put_control(&message, 1, 3, 0, 1);
+            put_number(&message, random_bits() >> 52, 3);
+            put_control(&message, 2, 0, 0, 0);
+            break;
+        }
+    }
+    while (message.len < total)
+        put_number(&message, 0x10, 1);
+    return message;
+}
+
+/* ---- Tib messages ---- */
+
+static struct octets from_hex(const char *hex)
+{
+    struct octets made = room(strlen(hex));
+    unsigned value;
+    int used;
+    for (; sscanf(hex, " %2x%n", &value, &used) == 1; hex += used)
+        put_number(&made, value, 1);
+    return made;
+}
+
+static struct octets tibmsg_start(void)
+{
+    struct octets message = room(LIMIT);
+    put_number(&message, 0xce13aa1f, 4);
+    put_number(&message, 1, 1);
+    put_number(&message, 0, 4);
+    return message;
+}
+
+static struct octets tibrv_start(void)
+{
+    struct octets message = room(LIMIT);
+    put_number(&message, 0, 4);
+    put_number(&message, 0x9955eeaa, 4);
+    return message;
+}
+
+static void set_size(struct octets *message, size_t at, size_t size)
+{
+    struct octets slot = {message->data + at, 0};
+    put_number(&slot, size, 4);
+}
+
+static void put_name(struct octets *to, size_t len)
+{
+    put_number(to, len, 1);
+    for (size_t i = 1; i < len; i++)
+        put_number(to, 'A' + i % 26, 1);
+    if (len > 0)
+        put_number(to, 0, 1);
+}
+
+/* Fields of mixed types with names of 4 to 11 octets, until the message is full. */
+static struct octets tibmsg_small(size_t total)
+{
+    struct octets message = tibmsg_start();
+    for (unsigned i = 0; message.len + 40 <= total; i++) {
+        put_name(&message, 4 + random_below(8));
+        switch (i % 5) {
+        case 0: put_number(&message, 0x050412345678, 6); break;
+        case 1: put_number(&message, 0x470440490fdb, 6), put_number(&message, 0x060113, 3); break;
+        case 2: put_number(&message, 0x480600010002u, 6), put_number(&message, 0x00030502, 4); break;
+        case 3: put_number(&message, 0x490441415555063c, 8); break;
+        default: put_number(&message, 0x020541424344, 6), put_number(&message, 0, 1); break;
+        }
+    }
+    set_size(&message, 5, message.len - 9);
+    return message;
+}
+
+static struct octets tibmsg_one(size_t total)
+{
+    struct octets message = tibmsg_start();
+    put_name(&message, 4);
+    put_number(&message, 0x83, 1);
+    put_number(&message, total - message.len - 4, 4);
+    memset(message.data + message.len, 7, total - message.len);
+    message.len = total;
+    set_size(&message, 5, total - 9);
+    return message;
+}
+
+static struct octets tibmsg_long_names(size_t total)
+{
+    struct octets message = tibmsg_start();
+    while (message.len + 260 <= total) {
+        put_name(&message, 255);
+        put_number(&message, 0x040101, 3);
+    }
+    set_size(&message, 5, message.len - 9);
+    return message;
+}
+
+static void put_tibrv_field(struct octets *to, unsigned i)
+{
+    put_name(to, 4 + random_below(8));
+    switch (i % 4) {
+    case 0: put_number(to, 0x0c0512345678, 6); break;
+    case 1: put_number(to, 0x0d09, 2), put_number(to, 0x3ff2000000000000, 8); break;
+    case 2: put_number(to, 0x0879000741424344, 8), put_number(to, 0, 1); break;
+    default: put_number(to, 0x25030102, 4); break;
+    }
+}
+
+/* Small fields in messages of `depth` levels, spread over all of them. */
+static struct octets tibrv_small(size_t total, unsigned depth)
+{
+    struct octets message = tibrv_start();
+    size_t starts[9];
+    size_t share = total / depth;
+    unsigned i = 0;
+    for (unsigned level = 0; level < depth; level++) {
+        starts[level] = level == 0 ? 0 : message.len;
+        if (level > 0) {
+            put_name(&message, 6);
+            put_number(&message, 0x017a, 2);
+            starts[level] = message.len;
+            put_number(&message, 0, 4);
+            put_number(&message, 0x9955eeaa, 4);
+        }
+        while (message.len + 40 <= share * (level + 1))
+            put_tibrv_field(&message, i++);
+    }
+    for (unsigned level = 0; level < depth; level++)
+        set_size(&message, starts[level], message.len - starts[level]);
+    return message;
+}
+
+static struct octets tibrv_one(size_t total)
+{
+    struct octets message = tibrv_start();
+    put_name(&message, 4);
+    put_number(&message, 0x077a, 2);
+    put_number(&message, total - message.len, 4);
+    memset(message.data + message.len, 7, total - message.len);
+    message.len = total;
+    set_size(&message, 0, total);
+    return message;
+}
+
+/* ---- rows ---- */
+
+static void add(const char *name, enum call call, struct octets table, uint64_t number, struct octets message, size_t out_len)
+{
+    struct row *row = &rows[row_count++];
+    if (row_count > MAX_ROWS)
+        fail("too many rows");
+    snprintf(row->name, sizeof row->name, "%s", name);
+    row->call = call;
+    row->table = table;
+    row->number = number;
+    row->message = message;
+    row->out_len = out_len;
+}
+
+static void add_both(const char *name, struct octets table, uint64_t number, struct octets message)
+{
+    add(name, CHECK, table, number, message, 0);
+    add(name, SHORTEN, table, number, message, message.len);
+}
+
+static void add_hproto_rows(void)
+{
+    struct octets none = room(0);
+    struct octets six = meter_table();
+    struct octets rising = full_table(0);
+    struct octets shuffled = full_table(1);
+    struct octets kinds = kinds_table();
+    struct octets meter = meter_message();
+    add("load-0", CHECK, none, 0, none, 0);
+    add("load-6", CHECK, six, 0, none, 0);
+    add("load-64-rising", CHECK, rising, 14, none, 0);
+    add("load-64-shuffled", CHECK, shuffled, 14, none, 0);
+    add_both("a-meter-table-6", six, 0, meter);
+    add_both("b-meter-table-64-rising", rising, 14, meter);
+    add_both("b-meter-table-64-shuffled", shuffled, 14, meter);
+    add_both("c-small-fields-64K", kinds, 0, small_fields(LIMIT));
+    add_both("d-one-string-64K", kinds, 0, one_field(3, "octets", LIMIT));
+    add_both("e-depth-8-small", kinds, 0, deep(8, 160, 1));
+    add_both("e-depth-8-spread-64K", kinds, 0, deep(8, LIMIT - 64, 1));
+    add_both("e-depth-8-innermost-64K", kinds, 0, deep(8, LIMIT, 0));
+    add_both("f-wide-200", kinds, 0, wide(200));
+    add_both("f-wide-64K", kinds, 0, wide(LIMIT));
+    add("f-wide-64K-just-room", SHORTEN, kinds, 0, rows[row_count - 1].message, 0);
+    add_both("g-text-ascii-64K", kinds, 0, one_field(4, "the quick brown fox ", LIMIT));
+    add_both("g-text-multi-64K", kinds, 0, one_field(4, "\xc3\xa9\xe2\x82\xac\xf0\x9f\x94\x8c\xc2\xb5", LIMIT));
+    add_both("g-text-mixed-64K", kinds, 0, one_field(4, "Z\xc3\xa4hler f\xc3\xbcr 5 \xe2\x82\xac ", LIMIT));
+}
+
+/* The format's worked examples with their sizes put right, then large messages. */
+static void add_tib_rows(void)
+{
+    struct octets none = room(0);
+    add("tibmsg-int", TIBMSG, none, 0, from_hex("ce13aa1f 01 0000000b 046e616d00 0504 12345678"), 0);
+    add("tibmsg-date", TIBMSG, none, 0,
+        from_hex("ce13aa1f 01 0000001e 0b485354434c534441544500 420c 323520415052203139393400 0602 0102"), 0);
+    add("tibmsg-partial", TIBMSG, none, 0, from_hex("ce13aa1f 01 00000011 08524f5736345f3400 4904 41415555 063c"), 0);
+    add("tibmsg-array", TIBMSG, none, 0, from_hex("ce13aa1f 01 00000011 06415252415900 4806 000100020003 0502"), 0);
+    add("tibmsg-real", TIBMSG, none, 0, from_hex("ce13aa1f 01 00000017 09545244505243 5f3100 4708 3ff2000000000000 0601 13"), 0);
+    add("tibmsg-small-64K", TIBMSG, none, 0, tibmsg_small(LIMIT), 0);
+    add("tibmsg-names-64K", TIBMSG, none, 0, tibmsg_long_names(LIMIT), 0);
+    add("tibmsg-one-64K", TIBMSG, none, 0, tibmsg_one(LIMIT), 0);
+    add("tibrv-uint", TIBRV, none, 0, from_hex("00000013 9955eeaa 046e616d00 0c05 12345678"), 0);
+    add("tibrv-nested", TIBRV, none, 0,
+        from_hex("00000027 9955eeaa 056461746100 017a 00000017 9955eeaa 066669656c6400 0807 76616c756500"), 0);
+    add("tibrv-tibmsg", TIBRV, none, 0,
+        from_hex("00000032 9955eeaa 075f646174615f00 0721 ce13aa1f 01 00000017 0954524450 52435f3100"
+                 "4708 3ff2000000000000 0601 13"), 0);
+    add("tibrv-small-64K", TIBRV, none, 0, tibrv_small(LIMIT, 1), 0);
+    add("tibrv-depth-8-64K", TIBRV, none, 0, tibrv_small(LIMIT, 8), 0);
+    add("tibrv-one-64K", TIBRV, none, 0, tibrv_one(LIMIT), 0);
+}
+
+/* Names that begin with `length-` or `depth-` are points of the curves. Each point starts with the same random state, so that its
+ * fields are those of its neighbours but for the last ones. */
+static void add_curve_rows(void)
+{
+    struct octets kinds = kinds_table();
+    char name[40];
+    for (size_t len = 256; len <= LIMIT; len *= 2) {
+        snprintf(name, sizeof name, "length-%zu", len);
+        random_state = RANDOM_START;
+        add_both(name, kinds, 0, small_fields(len));
+    }
+    for (unsigned depth = 1; depth <= 8; depth++) {
+        snprintf(name, sizeof name, "depth-%u", depth);
+        random_state = RANDOM_START;
+        add_both(name, kinds, 0, deep(depth, 16384, 0));
+    }
+}
+
+/* ---- calling ---- */
+
+static struct answer ask(const struct side *side, const struct row *row, uint8_t *out)
+{
+    struct answer answer = {77, 77, 77, 0};
+    const uint8_t *table = row->table.data;
+    const uint8_t *message = row->message.data;
+    size_t len = row->message.len;
+    switch (row->call) {
+    case CHECK:
+        answer.refusal = side->check(table, row->table.len, row->number, message, len, &answer.place, &answer.first,
+                                     &answer.second);
+        break;
+    case SHORTEN:
+        answer.refusal = side->shorten(table, row->table.len, row->number, message, len, out, row->out_len, &answer.place,
+                                       &answer.first);
+        break;
+    case TIBMSG: answer.refusal = side->tibmsg(message, len, &answer.place, &answer.first, &answer.second); break;
+    case TIBRV: answer.refusal = side->tibrv(message, len, &answer.place, &answer.first, &answer.second); break;
+    }
+    return answer;
+}
+
+/* Kept out of the callers so that each side's calls are made by the same instructions. */
+__attribute__((noinline)) static uint64_t repeat(const struct side *side, const struct row *row, uint8_t *out, size_t times)
+{
+    uint64_t sum = 0;
+    for (size_t i = 0; i < times; i++) {
+        struct answer answer = ask(side, row, out);
+        sum += answer.refusal + answer.first;
+    }
+    return sum;
+}
+
+/* ---- comparing the answers ---- */
+
+static uint64_t compared;
+static uint64_t refused_with[32];
+
+static void show_difference(const struct row *row, const struct answer answers[2])
+{
+    printf("the answers differ in %s (%s), table of %zu octets, number %llu, message of %zu octets, room %zu\n", row->name,
+           call_names[row->call], row->table.len, (unsigned long long)row->number, row->message.len, row->out_len);
+    for (int i = 0; i < 2; i++)
+        printf("  %-8s refusal %llu place %llu results %llu %llu\n", sides[i].name, (unsigned long long)answers[i].refusal,
+               (unsigned long long)answers[i].place, (unsigned long long)answers[i].first, (unsigned long long)answers[i].second);
+    printf("  table");
+    for (size_t i = 0; i < row->table.len; i++)
+        printf(" %02x", row->table.data[i]);
+    printf("\n  message");
+    for (size_t i = 0; i < row->message.len && i < 512; i++)
+        printf(" %02x", row->message.data[i]);
+    printf("%s\n", row->message.len > 512 ? " .." : "");
+    exit(1);
+}
+
+/* Asks both sides and compares the answers and every octet of the second buffer, which is larger than it is said to be. */
+static struct answer compare(const struct row *row)
+{
+    static uint8_t outs[2][LIMIT + 256];
+    struct answer answers[2];
+    size_t used = row->call == SHORTEN ? row->out_len + 16 : 0;
+    for (int i = 0; i < 2; i++) {
+        memset(outs[i], 0xa5, used);
+        answers[i] = ask(&sides[i], row, outs[i]);
+    }
+    int same = memcmp(&answers[0], &answers[1], sizeof answers[0]) == 0 && memcmp(outs[0], outs[1], used) == 0;
+    if (!same)
+        show_difference(row, answers);
+    compared++;
+    refused_with[answers[0].refusal & 31]++;
+    return answers[0];
+}
+
+/* Damages octets in one of several ways; may change their length by a few. */
+static void damage(struct octets *octets, size_t most)
+{
+    size_t at = octets->len == 0 ? 0 : random_below(octets->len);
+    switch (random_below(6)) {
+    case 0:
+        if (octets->len > 0)
+            octets->data[at] ^= (uint8_t)(1u << random_below(8));
+        break;
+    case 1:
+        if (octets->len > 0)
+            octets->data[at] = (uint8_t)random_bits();
+        break;
+    case 2: octets->len = at; break;
+    case 3:
+        if (octets->len > 0)
+            memmove(octets->data + at, octets->data + at + 1, --octets->len - at);
+        break;
+    case 4:
+        if (octets->len < most) {
+            memmove(octets->data + at + 1, octets->data + at, octets->len++ - at);
+            octets->data[at] = (uint8_t)random_bits();
+        }
+        break;
+    default:
+        if (octets->len > 0) {
+            static const uint8_t edges[] = {0x00, 0x7f, 0x80, 0xbf, 0xc0, 0xff, 0x5c, 0x5f, 0x79, 0x7a, 0xed, 0xfe};
+            octets->data[at] = edges[random_below(sizeof edges)];
+        }
+        break;
+    }
+}
+
+/* Puts the message's own length into a Tib header, so that damage behind it is looked at. */
+static void mend_header(struct row *row)
+{
+    if (row->call == TIBMSG && row->message.len >= 9)
+        set_size(&row->message, 5, row->message.len - 9);
+    if (row->call == TIBRV && row->message.len >= 8)
+        set_size(&row->message, 0, row->message.len);
+}
+
+static void compare_damaged(const struct row *row, size_t times)
+{
+    struct octets table = room(TABLE_ROOM + 8);
+    struct octets message = room(LIMIT + 8);
+    for (size_t i = 0; i < times; i++) {
+        struct row hurt = *row;
+        table.len = message.len = 0;
+        put(&table, row->table.data, row->table.len);
+        put(&message, row->message.data, row->message.len);
+        hurt.table = table;
+        hurt.message = message;
+        if (random_below(8) == 0)
+            damage(&hurt.table, TABLE_ROOM);
+        for (size_t n = random_below(4); n > 0; n--)
+            damage(&hurt.message, LIMIT + 1);
+        if (random_below(16) == 0)
+            hurt.number = random_below(4) ? random_below(18) : random_bits();
+        if (random_below(4) > 0)
+            mend_header(&hurt);
+        if (row->call == SHORTEN)
+            hurt.out_len = random_below(3) ? hurt.message.len : random_below(hurt.message.len + 8);
+        compare(&hurt);
+    }
+    free(table.data);
+    free(message.data);
+}
+
+/* kinds_table and entries whose tags stand at the ends of what one form of a tag can hold. */
+static struct octets edge_table(void)
+{
+    struct octets table = kinds_table();
+    put_record(&table, 0, 13, UINT, 0);
+    put_record(&table, 0, 14, MESSAGE, 0);
+    put_record(&table, 0, 255, TEXT, 0);
+    put_record(&table, 0, 256, INT, 0);
+    put_record(&table, 0, 65535, MESSAGE, 0);
+    return table;
+}
+
+/* A random field list under edge_table, in random forms, some of them nested. */
+static void put_random(struct octets *to, unsigned depth)
+{
+    static const size_t widths[] = {0, 0, 1, 2, 4, 8};
+    static const size_t lengths[] = {11, 12, 13, 255, 256};
+    static const unsigned tags[] = {1, 2, 3, 4, 6, 13, 14, 255, 256, 65535, 5, 5, 5, 5};
+    for (size_t n = 1 + random_below(3); n > 0 && to->len < 1000; n--) {
+        unsigned tag = tags[random_below(sizeof tags / sizeof tags[0])];
+        struct octets contents = room(16384);
+        if ((tag == 5 || tag == 14 || tag == 65535) && depth < 9) {
+            put_random(&contents, depth + 1);
+        } else {
+            size_t zeros = random_below(4);
+            put_number(&contents, random_below(3) ? 0 : 0x80u << 8 * zeros, 1 + zeros);
+            uint64_t value = random_up_to_bits(64);
+            put_number(&contents, value, random_below(6));
+            if (random_below(8) == 0)
+                contents.len = 0;
+            if (tag == 3)
+                put_number(&contents, 0, lengths[random_below(5)] - contents.len);
+            for (size_t i = 0; (tag == 4 || tag == 255) && i < contents.len; i++)
+                contents.data[i] &= random_below(6) ? 0x7f : 0xff;
+        }
+        size_t tag_least = random_below(3);
+        put_control(to, tag, contents.len, tag_least, widths[random_below(6)]);
+        put(to, contents.data, contents.len);
+        free(contents.data);
+    }
+}
+
+/* A TibMsg of one field of a random type, size and hint, most of them good or nearly so. */
+static struct octets random_tibmsg(void)
+{
+    static const uint8_t sizes[] = {0, 1, 2, 3, 4, 5, 6, 8, 9, 16};
+    struct octets message = tibmsg_start();
+    uint64_t flags = random_below(4) ? 0x40 : random_below(16) << 4;
+    size_t size = sizes[random_below(sizeof sizes)];
+    put_name(&message, random_below(4));
+    put_number(&message, flags | random_below(12), 1);
+    put_number(&message, size, flags & 0x80 ? 4 : 1);
+    put_number(&message, 0, size);
+    put_number(&message, 3 + random_below(6), 1);
+    size_t hint_size = sizes[random_below(sizeof sizes)];
+    put_number(&message, hint_size, 1);
+    put_number(&message, 0, random_below(2) ? hint_size : random_below(10));
+    set_size(&message, 5, message.len - 9);
+    return message;
+}
+
+/* A TibrvMsg of one field of a random type and size, its size near the field's own. */
+static struct octets random_tibrv(void)
+{
+    struct octets message = tibrv_start();
+    put_name(&message, random_below(4));
+    put_number(&message, random_below(3), 1);
+    uint64_t marker = 0x77 + random_below(5);
+    size_t width = marker == 0x79 ? 2 : marker == 0x7a ? 4 : 0;
+    size_t left = random_below(2) ? random_below(12) : 0x70 + random_below(12);
+    put_number(&message, width == 0 && random_below(2) ? left + 1 : marker, 1);
+    put_number(&message, left + width - 1 + random_below(3), width);
+    put_number(&message, 0x9955eeaa, 4);
+    put_number(&message, 0, left < 4 ? 0 : left - 4);
+    set_size(&message, 0, message.len);
+    return message;
+}
+
+static void compare_random_tib(size_t times)
+{
+    for (size_t i = 0; i < times; i++) {
+        struct row tibmsg = {.name = "random-tibmsg", .call = TIBMSG, .message = random_tibmsg()};
+        struct row tibrv = {.name = "random-tibrv", .call = TIBRV, .message = random_tibrv()};
+        compare(&tibmsg);
+        compare(&tibrv);
+        free(tibmsg.message.data);
+        free(tibrv.message.data);
+    }
+}
+
+static void compare_random(size_t times)
+{
+    struct row row = {.name = "random", .table = edge_table()};
+    row.message = room(65536);
+    for (size_t i = 0; i < times; i++) {
+        row.message.len = 0;
+        put_random(&row.message, 1);
+        row.out_len = random_below(3) ? row.message.len : random_below(row.message.len + 1);
+        row.call = CHECK;
+        compare(&row);
+        row.call = SHORTEN;
+        compare(&row);
+    }
+    free(row.message.data);
+    free(row.table.data);
+}
+
+/* Small forms of what the rows have only in large, where damage seldom meets a limit, and a message that is too deep. */
+static void compare_small(size_t times)
+{
+    struct octets none = room(0);
+    struct octets kinds = kinds_table();
+    struct row small[] = {
+        {"text-small", CHECK, kinds, 0, one_field(4, "\xc3\xa9\xe2\x82\xac\xf0\x9f\x94\x8c\xf7\xbf\xbf\xbf", 40), 0, 0},
+        {"fields-small", CHECK, kinds, 0, small_fields(60), 0, 0},
+        {"deep-small", CHECK, kinds, 0, deep(8, 60, 1), 0, 0},
+        {"too-deep-small", CHECK, kinds, 0, deep(9, 60, 1), 0, 0},
+        {"tibmsg-small", TIBMSG, none, 0, tibmsg_small(180), 0, 0},
+        {"tibrv-small", TIBRV, none, 0, tibrv_small(180, 1), 0, 0},
+        {"tibrv-deep-small", TIBRV, none, 0, tibrv_small(480, 8), 0, 0},
+        {"tibrv-too-deep-small", TIBRV, none, 0, tibrv_small(540, 9), 0, 0},
+    };
+    for (size_t i = 0; i < sizeof small / sizeof small[0]; i++) {
+        compare(&small[i]);
+        compare_damaged(&small[i], times);
+        if (small[i].call == CHECK) {
+            small[i].call = SHORTEN;
+            compare_damaged(&small[i], times);
+        }
+        free(small[i].message.data);
+    }
+    free(none.data);
+    free(kinds.data);
+}
+
+/* Compares the answers to every row, to 3000 damaged forms of a small one and fewer of a large one, to small forms and to random
+ * messages. Stops at the first difference. */
+static void compare_all(void)
+{
+    for (size_t i = 0; i < row_count; i++) {
+        struct answer answer = compare(&rows[i]);
+        if (answer.refusal != CRUDVIM_ACCEPTED)
+            fail(rows[i].name);
+        compare_damaged(&rows[i], rows[i].message.len < 1024 ? 3000 : rows[i].message.len < 20000 ? 300 : 100);
+    }
+    compare_small(20000);
+    compare_random(20000);
+    compare_random_tib(20000);
+    printf("answers compared: %llu, all alike; by refusal:", (unsigned long long)compared);
+    for (int i = 0; i < 32; i++)
+        if (refused_with[i] > 0)
+            printf(" %d:%llu", i, (unsigned long long)refused_with[i]);
+    printf("\n\n");
+}
+
+/* What a row can only know from an answer: its count of fields, and the room that is just enough where none was said. */
+static void complete(struct row *row)
+{
+    static uint8_t out[LIMIT];
+    struct row asked = *row;
+    if (row->call == SHORTEN && row->out_len == 0) {
+        asked.out_len = row->message.len;
+        row->out_len = ask(&sides[1], &asked, out).first;
+    }
+    if (row->call == SHORTEN)
+        asked.call = CHECK;
+    row->fields = ask(&sides[1], &asked, out).first;
+}
+
+static void complete_all(void)
+{
+    for (size_t i = 0; i < row_count; i++)
+        complete(&rows[i]);
+}
+
+/* ---- timing ---- */
+
+static double now(void)
+{
+    struct timespec time;
+    clock_gettime(CLOCK_PROCESS_CPUTIME_ID, &time);
+    return (double)time.tv_sec * 1e9 + (double)time.tv_nsec;
+}
+
+static int by_value(const void *a, const void *b)
+{
+    double x = *(const double *)a;
+    double y = *(const double *)b;
+    return (x > y) - (x < y);
+}
+
+/* The median time of one call on each side. The sides take turns, and which of them is first changes from sample to sample. */
+static void time_row(const struct row *row, double median[2])
+{
+    static uint8_t out[LIMIT];
+    double samples[2][SAMPLES];
+    size_t times = 1;
+    for (;; times *= 2) {
+        double start = now();
+        sink += repeat(&sides[1], row, out, times);
+        if (now() - start > 1e6)
+            break;
+    }
+    sink += repeat(&sides[0], row, out, times);
+    for (int sample = 0; sample < SAMPLES; sample++)
+        for (int turn = 0; turn < 2; turn++) {
+            int side = (sample + turn) % 2;
+            double start = now();
+            sink += repeat(&sides[side], row, out, times);
+            samples[side][sample] = (now() - start) / (double)times;
+        }
+    for (int side = 0; side < 2; side++) {
+        qsort(samples[side], SAMPLES, sizeof(double), by_value);
+        median[side] = samples[side][SAMPLES / 2];
+    }
+}
+
+static void time_all(void)
+{
+    printf("Median of %d samples, nanoseconds of processor time for one call.\n", SAMPLES);
+    printf("Ratio: library by plain, below 1 the library is ahead.\n\n");
+    printf("%-28s %-8s %7s %7s %12s %12s %7s\n", "row", "call", "octets", "fields", "library-ns", "plain-ns", "ratio");
+    for (size_t i = 0; i < row_count; i++) {
+        double median[2];
+        time_row(&rows[i], median);
+        printf("%-28s %-8s %7zu %7llu %12.1f %12.1f %7.3f\n", rows[i].name, call_names[rows[i].call], rows[i].message.len,
+               (unsigned long long)rows[i].fields, median[0], median[1], median[0] / median[1]);
+        fflush(stdout);
+    }
+}
+
+/* ---- the program ---- */
+
+static void list(void)
+{
+    for (size_t i = 0; i < row_count; i++)
+        printf("%s %s %zu %llu\n", rows[i].name, call_names[rows[i].call], rows[i].message.len, (unsigned long long)rows[i].fields);
+}
+
+/* Calls the wanted row and prints nothing, so that runs of different lengths differ in the calls alone. */
+static void count(const char *wanted, const char *side_name, size_t times)
+{
+    static uint8_t out[LIMIT];
+    int side = strcmp(side_name, "plain") == 0;
+    if (strcmp(side_name, sides[side].name) != 0)
+        fail("the side is library or plain");
+    for (size_t i = 0; i < row_count; i++) {
+        size_t len = strlen(rows[i].name);
+        if (strncmp(wanted, rows[i].name, len) == 0 && wanted[len] == ':' &&
+            strcmp(wanted + len + 1, call_names[rows[i].call]) == 0) {
+            complete(&rows[i]);
+            sink += repeat(&sides[side], &rows[i], out, times);
+            return;
+        }
+    }
+    fail("no such row");
+}
+
+int main(int argc, char **argv)
+{
+    add_hproto_rows();
+    add_tib_rows();
+    add_curve_rows();
+    if (argc == 1) {
+        complete_all();
+        compare_all();
+        time_all();
+    } else if (argc == 2 && strcmp(argv[1], "--compare") == 0) {
+        complete_all();
+        compare_all();
+    } else if (argc == 2 && strcmp(argv[1], "--list") == 0) {
+        complete_all();
+        list();
+    } else if ((argc == 4 || argc == 5) && strcmp(argv[1], "--count") == 0) {
+        count(argv[2], argv[3], argc == 5 ? strtoul(argv[4], NULL, 10) : 100);
+    } else {
+        fail("usage: bench [--compare | --list | --count ROW:CALL SIDE [N]]");
+    }
+    return 0;
+}

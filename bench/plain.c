@@ -1,0 +1,534 @@
+/* The yardstick of the bench: a plain C implementation of the check, the shortener and the two Tib checks.
+ *
+ * It is what a C programmer would write first and keep: one pass of recursion per task, a table that is searched from its start,
+ * and a shortener that writes a nested message where it will most likely stand and moves it if its length needs more octets.
+ */
+#include "plain.h"
+
+#include <string.h>
+
+#include "../include/crudvim.h"
+
+enum {
+    MESSAGE_LIMIT = 65536,
+    DEPTH_LIMIT = 8,
+    TABLE_LIMIT = 64,
+    RECORD_SIZE = 8,
+    TIBMSG_HEADER = 9,
+    TIBRV_HEADER = 8
+};
+
+enum kind { RAW, UINT, INT, STRING, TEXT, MESSAGE };
+
+/* The key is the message number and the field tag in one number, so that one comparison finds an entry. */
+struct entry {
+    uint32_t key;
+    uint8_t kind;
+    uint8_t inner;
+};
+
+struct table {
+    size_t count;
+    struct entry entries[TABLE_LIMIT];
+};
+
+struct field {
+    uint32_t tag;
+    enum kind kind;
+    unsigned inner;
+    const uint8_t *contents;
+    size_t length;
+};
+
+/* What a walk over a message has found so far. The start is that of the lent buffer, for the places. */
+struct walk {
+    const struct table *table;
+    const uint8_t *start;
+    uint64_t fields;
+    uint64_t depth;
+    uint64_t place;
+};
+
+static uint64_t big_endian(const uint8_t *octets, size_t count)
+{
+    uint64_t value = 0;
+    for (size_t i = 0; i < count; i++)
+        value = value << 8 | octets[i];
+    return value;
+}
+
+static uint8_t *put_big_endian(uint8_t *out, uint64_t value, size_t count)
+{
+    for (size_t i = count; i > 0; i--) {
+        out[i - 1] = (uint8_t)value;
+        value >>= 8;
+    }
+    return out + count;
+}
+
+/* ---- the field table ---- */
+
+static const struct entry *find(const struct table *table, unsigned number, uint32_t tag)
+{
+    uint32_t key = (uint32_t)number << 16 | tag;
+    for (size_t i = 0; i < table->count; i++)
+        if (table->entries[i].key == key)
+            return &table->entries[i];
+    return NULL;
+}
+
+static int record_good(const uint8_t *record)
+{
+    unsigned kind = record[6];
+    if (record[0] != 1 || record[1] != 0 || record[2] != 5)
+        return 0;
+    if (record[3] > 15 || kind < UINT || kind > MESSAGE)
+        return 0;
+    return record[7] <= (kind == MESSAGE ? 15 : 0);
+}
+
+static uint64_t load(struct table *table, const uint8_t *octets, size_t len, uint64_t *place)
+{
+    table->count = 0;
+    for (size_t at = 0; at < len; at += RECORD_SIZE) {
+        const uint8_t *record = octets + at;
+        if (len - at < RECORD_SIZE || table->count == TABLE_LIMIT || !record_good(record)) {
+            *place = at;
+            return CRUDVIM_TABLE;
+        }
+        uint32_t tag = (uint32_t)record[4] << 8 | record[5];
+        if (find(table, record[3], tag) != NULL) {
+            *place = at;
+            return CRUDVIM_TABLE;
+        }
+        struct entry *entry = &table->entries[table->count++];
+        entry->key = (uint32_t)record[3] << 16 | tag;
+        entry->kind = record[6];
+        entry->inner = record[7];
+    }
+    return CRUDVIM_ACCEPTED;
+}
+
+/* ---- reading one field ---- */
+
+/* Reads the field that starts at `at`, which is before the end. Looks at its control part and its length, not at its contents. */
+static uint64_t read_field(const struct table *table, unsigned number, const uint8_t *at, const uint8_t *end, struct field *field)
+{
+    size_t left = (size_t)(end - at);
+    unsigned high = at[0] >> 4;
+    unsigned low = at[0] & 15;
+    size_t tag_size = high < 14 ? 0 : high - 13;
+    size_t length_size = low < 12 ? 0 : (size_t)1 << (low - 12);
+    size_t control = 1 + tag_size + length_size;
+    if (left < control)
+        return CRUDVIM_CUT;
+    uint32_t tag = tag_size == 0 ? high : (uint32_t)big_endian(at + 1, tag_size);
+    uint64_t length = length_size == 0 ? low : big_endian(at + 1 + tag_size, length_size);
+    if (length > left - control)
+        return CRUDVIM_PAST_THE_END;
+    const struct entry *entry = find(table, number, tag);
+    field->tag = tag;
+    field->kind = entry == NULL ? RAW : entry->kind;
+    field->inner = entry == NULL ? 0 : entry->inner;
+    field->contents = at + control;
+    field->length = (size_t)length;
+    return CRUDVIM_ACCEPTED;
+}
+
+static int text_good(const uint8_t *at, size_t length)
+{
+    const uint8_t *end = at + length;
+    while (at < end) {
+        uint8_t lead = *at++;
+        size_t more;
+        if (lead < 0x80)
+            continue;
+        if (lead >= 0xc0 && lead < 0xe0)
+            more = 1;
+        else if (lead >= 0xe0 && lead < 0xf0)
+            more = 2;
+        else if (lead >= 0xf0 && lead < 0xf8)
+            more = 3;
+        else
+            return 0;
+        if ((size_t)(end - at) < more)
+            return 0;
+        for (; more > 0; more--)
+            if ((*at++ & 0xc0) != 0x80)
+                return 0;
+    }
+    return 1;
+}
+
+/* ---- the check ---- */
+
+/* Not to be inlined into itself: gcc would make copies for the outer depths that read a field by a call, a quarter slower. */
+__attribute__((noinline)) static uint64_t check_message(struct walk *walk, unsigned number, const uint8_t *at, const uint8_t *end,
+                                                        unsigned depth)
+{
+    if (depth > walk->depth)
+        walk->depth = depth;
+    while (at < end) {
+        struct field field;
+        uint64_t refusal = read_field(walk->table, number, at, end, &field);
+        if (refusal == CRUDVIM_ACCEPTED && field.kind == MESSAGE && depth < DEPTH_LIMIT) {
+            refusal = check_message(walk, field.inner, field.contents, field.contents + field.length, depth + 1);
+            if (refusal != CRUDVIM_ACCEPTED)
+                return refusal;
+        } else if (refusal == CRUDVIM_ACCEPTED) {
+            if (field.kind == MESSAGE)
+                refusal = CRUDVIM_TOO_DEEP;
+            else if ((field.kind == UINT || field.kind == INT) && field.length > 8)
+                refusal = CRUDVIM_NUMBER_TOO_WIDE;
+            else if (field.kind == TEXT && !text_good(field.contents, field.length))
+                refusal = CRUDVIM_TEXT;
+        }
+        if (refusal != CRUDVIM_ACCEPTED) {
+            walk->place = (uint64_t)(at - walk->start);
+            return refusal;
+        }
+        walk->fields++;
+        at = field.contents + field.length;
+    }
+    return CRUDVIM_ACCEPTED;
+}
+
+/* Loads the table and checks the message. The walk's place is that of the refusal, 0 if there is none. */
+static uint64_t load_and_check(struct table *table, struct walk *walk, const uint8_t *octets, size_t octets_len, uint64_t number,
+                               const uint8_t *message, size_t message_len)
+{
+    walk->table = table;
+    walk->start = message;
+    walk->fields = 0;
+    walk->depth = 0;
+    walk->place = 0;
+    if (message_len > MESSAGE_LIMIT)
+        return CRUDVIM_TOO_LONG;
+    uint64_t refusal = load(table, octets, octets_len, &walk->place);
+    if (refusal != CRUDVIM_ACCEPTED)
+        return refusal;
+    if (number > 15)
+        return CRUDVIM_TABLE;
+    return check_message(walk, (unsigned)number, message, message + message_len, 1);
+}
+
+uint64_t plain_check(const uint8_t *octets, size_t octets_len, uint64_t number, const uint8_t *message, size_t message_len,
+                     uint64_t *place, uint64_t *fields, uint64_t *depth)
+{
+    struct table table;
+    struct walk walk;
+    uint64_t refusal = load_and_check(&table, &walk, octets, octets_len, number, message, message_len);
+    *place = walk.place;
+    *fields = refusal == CRUDVIM_ACCEPTED ? walk.fields : 0;
+    *depth = refusal == CRUDVIM_ACCEPTED ? walk.depth : 0;
+    return refusal;
+}
+
+/* ---- the shortener ---- */
+
+static size_t octets_for(uint64_t value)
+{
+    size_t count = 0;
+    for (; value != 0; value >>= 8)
+        count++;
+    return count;
+}
+
+/* The shortest form of a uint's or an int's contents: answers its count of octets and sets the number that they hold.
+ * An int is a sign bit before its size, and a sign bit alone is the negative power of two in its place. */
+static size_t short_number(const struct field *field, uint64_t *value)
+{
+    size_t count = field->length;
+    *value = big_endian(field->contents, count);
+    if (field->kind == UINT || count == 0)
+        return octets_for(*value);
+    uint64_t sign = *value & (uint64_t)1 << (8 * count - 1);
+    uint64_t size = *value ^ sign;
+    if (size == 0)
+        return sign != 0 ? count : 0;
+    size_t least = octets_for(size);
+    uint64_t top = (uint64_t)1 << (8 * least - 1);
+    if ((size & top) != 0 && (sign == 0 || size != top))
+        least++;
+    *value = sign != 0 ? size | (uint64_t)1 << (8 * least - 1) : size;
+    return least;
+}
+
+static size_t control_size(uint32_t tag, size_t length)
+{
+    size_t size = tag < 14 ? 1 : tag < 256 ? 2 : 3;
+    if (length >= 12)
+        size += length < 256 ? 1 : length < 65536 ? 2 : 4;
+    return size;
+}
+
+static uint8_t *put_control(uint8_t *out, uint32_t tag, size_t length)
+{
+    unsigned high = tag < 14 ? tag : tag < 256 ? 14 : 15;
+    unsigned low = length < 12 ? (unsigned)length : length < 256 ? 12 : length < 65536 ? 13 : 14;
+    *out++ = (uint8_t)(high << 4 | low);
+    if (high >= 14)
+        out = put_big_endian(out, tag, high - 13);
+    if (low >= 12)
+        out = put_big_endian(out, length, (size_t)1 << (low - 12));
+    return out;
+}
+
+/* The length of the shortest form of a message that the check accepted. */
+static size_t short_length(const struct table *table, unsigned number, const uint8_t *at, const uint8_t *end)
+{
+    size_t total = 0;
+    struct field field;
+    while (at < end && read_field(table, number, at, end, &field) == CRUDVIM_ACCEPTED) {
+        uint64_t value;
+        size_t length = field.length;
+        if (field.kind == UINT || field.kind == INT)
+            length = short_number(&field, &value);
+        else if (field.kind == MESSAGE)
+            length = short_length(table, field.inner, field.contents, field.contents + field.length);
+        total += control_size(field.tag, length) + length;
+        at = field.contents + field.length;
+    }
+    return total;
+}
+
+static uint8_t *write_short(const struct table *table, unsigned number, const uint8_t *at, const uint8_t *end, uint8_t *out);
+
+/* Writes the contents of a nested message behind the smallest control part that its tag allows. If their length needs a larger
+ * one they are moved up, so no octet beyond the message's own is ever touched. */
+static uint8_t *write_nested(const struct table *table, const struct field *field, uint8_t *out)
+{
+    size_t guess = control_size(field->tag, 0);
+    uint8_t *out_end = write_short(table, field->inner, field->contents, field->contents + field->length, out + guess);
+    size_t length = (size_t)(out_end - (out + guess));
+    size_t control = control_size(field->tag, length);
+    if (control != guess)
+        memmove(out + control, out + guess, length);
+    put_control(out, field->tag, length);
+    return out + control + length;
+}
+
+/* Writes the shortest form of a message that the check accepted, and answers its end. */
+static uint8_t *write_short(const struct table *table, unsigned number, const uint8_t *at, const uint8_t *end, uint8_t *out)
+{
+    struct field field;
+    while (at < end && read_field(table, number, at, end, &field) == CRUDVIM_ACCEPTED) {
+        if (field.kind == UINT || field.kind == INT) {
+            uint64_t value;
+            size_t count = short_number(&field, &value);
+            out = put_control(out, field.tag, count);
+            out = put_big_endian(out, value, count);
+        } else if (field.kind == MESSAGE) {
+            out = write_nested(table, &field, out);
+        } else {
+            out = put_control(out, field.tag, field.length);
+            memcpy(out, field.contents, field.length);
+            out += field.length;
+        }
+        at = field.contents + field.length;
+    }
+    return out;
+}
+
+uint64_t plain_shorten(const uint8_t *octets, size_t octets_len, uint64_t number, const uint8_t *message, size_t message_len,
+                       uint8_t *out, size_t out_len, uint64_t *place, uint64_t *length)
+{
+    struct table table;
+    struct walk walk;
+    *length = 0;
+    uint64_t refusal = load_and_check(&table, &walk, octets, octets_len, number, message, message_len);
+    *place = walk.place;
+    if (refusal != CRUDVIM_ACCEPTED)
+        return refusal;
+    /* The shortest form is never longer than the message, so only a smaller buffer makes the measuring needed. */
+    const uint8_t *end = message + message_len;
+    if (out_len < message_len && short_length(&table, (unsigned)number, message, end) > out_len)
+        return CRUDVIM_NO_ROOM;
+    *length = (uint64_t)(write_short(&table, (unsigned)number, message, end, out) - out);
+    return CRUDVIM_ACCEPTED;
+}
+
+/* ---- the Tib messages ---- */
+
+static int number_size(uint64_t size)
+{
+    return size == 1 || size == 2 || size == 4 || size == 8;
+}
+
+/* Reads the name and its size octet, and moves `at` behind them. */
+static uint64_t skip_name(const uint8_t **at, const uint8_t *end)
+{
+    size_t size = **at;
+    const uint8_t *name = *at + 1;
+    if ((size_t)(end - name) < size)
+        return CRUDVIM_CUT;
+    if (size > 0 && memchr(name, 0, size) != name + size - 1)
+        return CRUDVIM_NAME;
+    *at = name + size;
+    return CRUDVIM_ACCEPTED;
+}
+
+/* Reads the hint of a field of a type and a data size, and moves `at` behind it. */
+static uint64_t skip_hint(const uint8_t **at, const uint8_t *end, unsigned type, size_t size)
+{
+    const uint8_t *hint = *at;
+    if (end - hint < 2)
+        return CRUDVIM_CUT;
+    *at = hint + 2;
+    if (type == 9)
+        return hint[0] == 6 ? CRUDVIM_ACCEPTED : CRUDVIM_TYPE_SIZE_OR_HINT;
+    if (!number_size(hint[1]))
+        return CRUDVIM_TYPE_SIZE_OR_HINT;
+    if (type == 8) {
+        int good = hint[0] >= 4 && hint[0] <= 7 && size % hint[1] == 0;
+        return good ? CRUDVIM_ACCEPTED : CRUDVIM_TYPE_SIZE_OR_HINT;
+    }
+    if (hint[0] != 5 && hint[0] != 6)
+        return CRUDVIM_TYPE_SIZE_OR_HINT;
+    if (end - *at < hint[1])
+        return CRUDVIM_CUT;
+    *at += hint[1];
+    return CRUDVIM_ACCEPTED;
+}
+
+/* Reads one field of a TibMsg, and moves `at` behind it. */
+static uint64_t skip_tibmsg_field(const uint8_t **at, const uint8_t *end)
+{
+    uint64_t refusal = skip_name(at, end);
+    if (refusal != CRUDVIM_ACCEPTED)
+        return refusal;
+    if (*at == end)
+        return CRUDVIM_CUT;
+    unsigned octet = *(*at)++;
+    unsigned type = octet & 15;
+    int hinted = (octet & 0x40) != 0;
+    if (type > 10 || (octet & 0x30) != 0 || ((type == 8 || type == 9) && !hinted))
+        return CRUDVIM_TYPE_SIZE_OR_HINT;
+    size_t width = (octet & 0x80) != 0 ? 4 : 1;
+    if ((size_t)(end - *at) < width)
+        return CRUDVIM_CUT;
+    size_t size = (size_t)big_endian(*at, width);
+    *at += width;
+    if ((type == 5 || type == 6) && !number_size(size))
+        return CRUDVIM_TYPE_SIZE_OR_HINT;
+    if (type == 7 && size != 4 && size != 8)
+        return CRUDVIM_TYPE_SIZE_OR_HINT;
+    if ((size_t)(end - *at) < size)
+        return CRUDVIM_PAST_THE_END;
+    *at += size;
+    return hinted ? skip_hint(at, end, type, size) : CRUDVIM_ACCEPTED;
+}
+
+static uint64_t tibmsg_header(const uint8_t *message, size_t message_len)
+{
+    static const uint8_t magic[5] = {0xce, 0x13, 0xaa, 0x1f, 1};
+    if (message_len > MESSAGE_LIMIT)
+        return CRUDVIM_TOO_LONG;
+    if (message_len < TIBMSG_HEADER)
+        return CRUDVIM_CUT;
+    if (memcmp(message, magic, sizeof magic) != 0)
+        return CRUDVIM_MAGIC;
+    return big_endian(message + 5, 4) == message_len - TIBMSG_HEADER ? CRUDVIM_ACCEPTED : CRUDVIM_SIZE;
+}
+
+uint64_t plain_tibmsg_check(const uint8_t *message, size_t message_len, uint64_t *place, uint64_t *fields, uint64_t *depth)
+{
+    *place = *fields = *depth = 0;
+    uint64_t refusal = tibmsg_header(message, message_len);
+    if (refusal != CRUDVIM_ACCEPTED)
+        return refusal;
+    const uint8_t *at = message + TIBMSG_HEADER;
+    const uint8_t *end = message + message_len;
+    uint64_t count = 0;
+    while (at < end) {
+        const uint8_t *start = at;
+        refusal = skip_tibmsg_field(&at, end);
+        if (refusal != CRUDVIM_ACCEPTED) {
+            *place = (uint64_t)(start - message);
+            return refusal;
+        }
+        count++;
+    }
+    *fields = count;
+    *depth = 1;
+    return CRUDVIM_ACCEPTED;
+}
+
+/* Reads the size of a TibrvMsg field and moves `at` to its data, which for a nested message are its size octets. */
+static uint64_t skip_tibrv_size(const uint8_t **at, const uint8_t *end, unsigned type, size_t *size)
+{
+    if (*at == end)
+        return CRUDVIM_CUT;
+    unsigned marker = *(*at)++;
+    if (marker > 0x7a)
+        return CRUDVIM_TYPE_SIZE_OR_HINT;
+    size_t width = marker < 0x79 ? 0 : marker == 0x79 ? 2 : 4;
+    if ((size_t)(end - *at) < width)
+        return CRUDVIM_CUT;
+    size_t count = width == 0 ? marker : (size_t)big_endian(*at, width);
+    size_t own = width == 0 ? 1 : width;
+    if (count < own || (type == 1 && width != 4))
+        return CRUDVIM_TYPE_SIZE_OR_HINT;
+    if (type == 1) {
+        *size = count;
+    } else {
+        *size = count - own;
+        *at += width;
+    }
+    return (size_t)(end - *at) < *size ? CRUDVIM_PAST_THE_END : CRUDVIM_ACCEPTED;
+}
+
+static int tibrv_magic_good(const uint8_t *message)
+{
+    static const uint8_t magic[4] = {0x99, 0x55, 0xee, 0xaa};
+    return memcmp(message + 4, magic, sizeof magic) == 0;
+}
+
+static uint64_t tibrv_message(struct walk *walk, const uint8_t *message, const uint8_t *end, unsigned depth)
+{
+    walk->place = (uint64_t)(message - walk->start);
+    if (end - message < TIBRV_HEADER)
+        return CRUDVIM_CUT;
+    if (!tibrv_magic_good(message))
+        return CRUDVIM_MAGIC;
+    if (depth > walk->depth)
+        walk->depth = depth;
+    if (depth == 1 && big_endian(message, 4) != (uint64_t)(end - message))
+        return CRUDVIM_SIZE;
+    const uint8_t *at = message + TIBRV_HEADER;
+    while (at < end) {
+        walk->place = (uint64_t)(at - walk->start);
+        size_t size;
+        uint64_t refusal = skip_name(&at, end);
+        if (refusal != CRUDVIM_ACCEPTED)
+            return refusal;
+        if (at == end)
+            return CRUDVIM_CUT;
+        unsigned type = *at++;
+        refusal = skip_tibrv_size(&at, end, type, &size);
+        if (refusal != CRUDVIM_ACCEPTED)
+            return refusal;
+        if (type == 1) {
+            if (depth == DEPTH_LIMIT)
+                return CRUDVIM_TOO_DEEP;
+            refusal = tibrv_message(walk, at, at + size, depth + 1);
+            if (refusal != CRUDVIM_ACCEPTED)
+                return refusal;
+        }
+        at += size;
+        walk->fields++;
+    }
+    return CRUDVIM_ACCEPTED;
+}
+
+uint64_t plain_tibrv_check(const uint8_t *message, size_t message_len, uint64_t *place, uint64_t *fields, uint64_t *depth)
+{
+    struct walk walk = {.start = message};
+    uint64_t refusal = CRUDVIM_TOO_LONG;
+    if (message_len <= MESSAGE_LIMIT)
+        refusal = tibrv_message(&walk, message, message + message_len, 1);
+    *place = refusal == CRUDVIM_ACCEPTED ? 0 : walk.place;
+    *fields = refusal == CRUDVIM_ACCEPTED ? walk.fields : 0;
+    *depth = refusal == CRUDVIM_ACCEPTED ? walk.depth : 0;
+    return refusal;
+}

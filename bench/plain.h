@@ -1,0 +1,18 @@
+/* The yardstick of the bench: the same answers as the library's entries of the same names, written the plain way in C. */
+#ifndef PLAIN_H
+#define PLAIN_H
+
+#include <stddef.h>
+#include <stdint.h>
+
+uint64_t plain_check(const uint8_t *table, size_t table_len, uint64_t number, const uint8_t *message, size_t message_len,
+                     uint64_t *place, uint64_t *fields, uint64_t *depth);
+
+uint64_t plain_shorten(const uint8_t *table, size_t table_len, uint64_t number, const uint8_t *message, size_t message_len,
+                       uint8_t *out, size_t out_len, uint64_t *place, uint64_t *length);
+
+uint64_t plain_tibmsg_check(const uint8_t *message, size_t message_len, uint64_t *place, uint64_t *fields, uint64_t *depth);
+
+uint64_t plain_tibrv_check(const uint8_t *message, size_t message_len, uint64_t *place, uint64_t *fields, uint64_t *depth);
+
+#endif
