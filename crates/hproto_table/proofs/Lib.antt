@@ -4,3 +4,4 @@ pub mod Repeat
 pub mod Load
 pub mod Valid
 pub mod Placed
+pub mod Records

@@ -15,6 +15,7 @@ use Rattle.hproto_table.specs.Entry.{entry}
 use Rattle.hproto_table.specs.Load.{inRange, recordAt, wordAt, sound, wordsBefore, pair, seen, faulty, tableOf, accepted, refused, loadFrom, load, Loadable}
 use Rattle.hproto_table.specs.Repeat.{distinct, firstRepeat}
 use Rattle.hproto_table.specs.Valid.{allInRange, allZero, valid}
+use Rattle.hproto_table.specs.Records.{recordFor, recordsFor}
 use Rattle.hproto_table.specs.declared.Table.{Table}
 use Rattle.hproto_table.specs.declared.Loaded.{Loaded}
 use Rattle.hproto_table.proofs.Bools.{and-left, and-right, and-both, or-left, or-right, or-neither, not-of-false, eqb-swap}
@@ -69,7 +70,7 @@ sound-range s i e =
     and-right (eqb (length r) 8 && eqb (getD r 0 0) 1 && eqb (number (take 2 (drop 1 r))) 5) (inRange (entry (number (drop 3 r)))) e
 
 -- A record that is not faulty.
-sound-of : (s : List ℕ) (i : ℕ) → faulty s i ≡ false → sound (recordAt s i) ≡ true
+pub sound-of : (s : List ℕ) (i : ℕ) → faulty s i ≡ false → sound (recordAt s i) ≡ true
 unfolding faulty
 sound-of s i e =
     let a = not (sound (recordAt s i)) in
@@ -110,14 +111,6 @@ loaded-valid s t (suc left) i few r d e = go (leb (length s) (8 * i)) (faulty s 
         (distinct-snoc (wordsBefore s i) (wordAt s i) d (unseen-of s i p)) q
 
 -- ---- a table that is valid can be loaded, from the records of its words
-
--- A record for a word, and records for words.
-unfoldable recordFor : ℕ → List ℕ
-recordFor w = 1 ∷ 0 ∷ 5 ∷ octetsOf 5 w
-
-unfoldable recordsFor : List ℕ → List ℕ
-recordsFor [] = []
-recordsFor (w ∷ ws) = recordFor w ++ recordsFor ws
 
 records-octets : (ws : List ℕ) → Octets (recordsFor ws)
 unfolding recordsFor recordFor Octets
@@ -173,7 +166,7 @@ module _ (ws : List ℕ) (range : allInRange ws ≡ true) where
   records-words zero h = refl
   records-words (suc n) h = rw (records-words n (omega arith), records-word n h) (sym (take-suc ws n 0 h))
 
-  load-records : length ws ≤ 64 → distinct ws ≡ true → load (recordsFor ws) ≡ accepted ws
+  pub load-records : length ws ≤ 64 → distinct ws ≡ true → load (recordsFor ws) ≡ accepted ws
   load-records few d =
       let all : wordsBefore (recordsFor ws) (length ws) ≡ ws = records-words (length ws) (omega arith) ∙ take-length ws in
       let none : firstRepeat ws ≡ length ws = eqb-true (firstRepeat ws) (length ws) (sym (distinct-is ws) ∙ d) in

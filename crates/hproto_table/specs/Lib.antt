@@ -2,3 +2,4 @@ pub mod Entry
 pub mod Load
 pub mod Repeat
 pub mod Valid
+pub mod Records

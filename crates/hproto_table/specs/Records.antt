@@ -1,0 +1,24 @@
+-- The octets of a table, with no word on how they are loaded: a record for each word.
+use Prim.Native.Nat.{ℕ, _≤_}
+use mathlib.Core.Path.{_≡_}
+use mathlib.Core.Bool.{true}
+use mathlib.Core.List.{List, [], _∷_, _++_}
+use lib.ListN.{length}
+use Rattle.octets.specs.Number.{octetsOf}
+use Rattle.hproto_table.specs.Repeat.{distinct}
+use Rattle.hproto_table.specs.Valid.{allInRange}
+
+-- A record: the tag 1, the length 5 on two octets, and the word on five.
+unfoldable pub recordFor : ℕ → List ℕ
+recordFor w = 1 ∷ 0 ∷ 5 ∷ octetsOf 5 w
+
+unfoldable pub recordsFor : List ℕ → List ℕ
+recordsFor [] = []
+recordsFor (w ∷ ws) = recordFor w ++ recordsFor ws
+
+-- Octets are the records of words: at most 64, each word's entry in range, no pair of message number and tag twice.
+pub record IsTable (s ws : List ℕ) : Type 0 where
+  pub joined : s ≡ recordsFor ws
+  pub few : length ws ≤ 64
+  pub in-range : allInRange ws ≡ true
+  pub apart : distinct ws ≡ true
