@@ -1,0 +1,65 @@
+-- Counting the fields of an accepted message by passing over them.
+use Prim.Native.Nat.{ℕ, suc, _+_, _-_, _≤_, _<_}
+use native.Mathlib.Omega.{arith}
+use mathlib.Core.Path.{_≡_, refl, sym, ap, _∙_}
+use mathlib.Core.List.{List}
+use lib.ListN.{length, take, drop, length-drop}
+use lib.Seq.{take-all}
+use Rattle.hproto_table.specs.Entry.{Entry}
+use Rattle.hproto_message.specs.Cut.{Cut, Good}
+use Rattle.hproto_message.specs.Tree.{tree}
+use Rattle.hproto_message.proofs.Accepted.{good-accepted}
+use Rattle.hproto_field.specs.Fronts.{front}
+use Rattle.hproto_field.specs.declared.Field.{Field}
+use Rattle.hproto_print.specs.Text.{direct}
+use Rattle.hproto_print.specs.Walk.{Accepts, heldIn, directRead, directOf}
+use Rattle.hproto_print.specs.declared.Inner.{Inner}
+use Rattle.hproto_print.specs.declared.Inner.the-variants.{None, Number}
+use Rattle.hproto_print.proofs.Values.{plain-of, message-of}
+use Rattle.hproto_print.proofs.Passing.{Left, all-left, none-left, ends, leaf-next, nested-next, accepts-good}
+
+-- The octets that are left, as the code hands them on.
+pub left-octets : (i : ℕ) (s : List ℕ) → take (length s - i) (drop i s) ≡ drop i s
+left-octets i s = take-all (length s - i) (drop i s) (simp length-drop (omega arith))
+
+pub direct-is : (es : List Entry) (n : ℕ) (s : List ℕ) (cut : Cut) → Good es 8 n s cut → directOf es n s ≡ direct (tree es n cut)
+unfolding directOf directRead
+direct-is es n s cut g = rw (good-accepted es 8 n 0 0 s cut g)
+
+module _ (es : List Entry) (n : ℕ) (s : List ℕ) where
+  -- After i octets, k fields are counted.
+  pub record Counted (i k : ℕ) : Type 0 where
+    pub left : Left es 7 n s i
+    pub few : k ≤ i
+    pub whole : directOf es n s ≡ k + direct (tree es n (left .rest))
+
+  pub none-counted : Accepts es 8 n s → Counted 0 0
+  none-counted a =
+      let g = accepts-good es 8 n s a in
+      record { left = all-left es 7 n s (g .0) (g .1); few = omega arith; whole = direct-is es n s (g .0) (g .1) ∙ omega arith }
+
+  pub all-counted : (i k : ℕ) → Counted i k → length s ≤ i → k ≡ directOf es n s
+  unfolding tree direct
+  all-counted i k p h =
+      sym (p .whole ∙ ap (λ (c : Cut). k + direct (tree es n c)) (none-left es 7 n s i (p .left) h) ∙ omega arith)
+
+  module _ (i k : ℕ) (p : Counted i k) (more : i < length s) (f : Field) (found : f ≡ front es n (drop i s)) where
+    pub count-ends : (i < i + f .control + f .contents) × (i + f .control + f .contents ≤ length s)
+    count-ends = ends es 7 n s i (p .left) more f found
+
+    one-more : (left : Left es 7 n s (i + f .control + f .contents)) → direct (tree es n (p .left .rest)) ≡ suc (direct (tree es n (left .rest)))
+        → Counted (i + f .control + f .contents) (k + 1)
+    one-more left e =
+        let h = count-ends .0 in
+        let g = p .few in
+        let w = p .whole in
+        record { left = left; few = omega arith; whole = w ∙ rw e (omega arith) }
+
+    pub counted-turn : Counted (i + f .control + f .contents) (k + 1)
+    unfolding direct
+    counted-turn = go (heldIn (f .kind)) refl
+      where
+        go : (x : Inner) → heldIn (f .kind) ≡ x → Counted (i + f .control + f .contents) (k + 1)
+        go None e = let x = leaf-next es 7 n s i (p .left) more f found (plain-of (f .kind) e) in one-more (x .left) (ap direct (x .tree-is))
+        go (Number m) e =
+            let x = nested-next es 7 n s i (p .left) more f found m (message-of (f .kind) m e) in one-more (x .left) (ap direct (x .tree-is))

@@ -1,0 +1,97 @@
+-- The output is no longer than a number of 64 bits can say.
+use Prim.Native.Nat.{ℕ, suc, _+_, _*_, _≤_}
+use native.Mathlib.Omega.{arith}
+use mathlib.Core.Path.{_≡_, refl, ap}
+use mathlib.Core.List.{List, [], _∷_}
+use lib.ListN.{length, length-append}
+use Rattle.octets.specs.Number.{number}
+use Rattle.octets.specs.Signed.{integer}
+use Rattle.octets.specs.Control.{control}
+use Rattle.hproto_table.specs.Entry.{Entry, find, innerOf}
+use Rattle.hproto_message.specs.Cut.{Cut, end, leaf, nested, joined, Allowed}
+use Rattle.hproto_message.specs.Tree.{Value, raw, uint, int, string, text, tree, value, tagOf}
+use Rattle.hproto_table.specs.declared.Meaning.{Meaning}
+use Rattle.hproto_table.specs.declared.Meaning.the-variants.{Raw, Uint, Int, String, Text, Message}
+use Rattle.hproto_message.proofs.Accepted.{field-size}
+use Rattle.hproto_print.specs.Ascii.{ascii}
+use Rattle.hproto_print.specs.Digits.{decimal, fourDigits, hex, hexOrDash}
+use Rattle.hproto_print.specs.Window.{Room}
+use Rattle.hproto_print.specs.Text.{kindName, valueText, front, line, direct, lines, page, refusal}
+use Rattle.hproto_print.specs.Walk.{Accepts, linesOf}
+use Rattle.hproto_print.proofs.Numbers.{decimal-length, signed-length}
+use Rattle.hproto_print.proofs.Passing.{accepts-good}
+use Rattle.hproto_print.proofs.Writing.{lines-is}
+
+hex-length : (s : List ℕ) → length (hex s) ≡ 2 * length s
+unfolding hex
+hex-length [] = refl
+hex-length (x ∷ s) = let h = hex-length s in omega arith
+
+dash-length : (s : List ℕ) → length (hexOrDash s) ≤ 1 + 2 * length s
+unfolding hexOrDash
+dash-length [] = omega arith
+dash-length (x ∷ s) = let h = hex-length (x ∷ s) in omega arith
+
+value-length : (k : Meaning) (s : List ℕ) → length (valueText (value k s)) ≤ 21 + 2 * length s
+unfolding valueText value
+value-length Raw s = let h = dash-length s in omega arith
+value-length Uint s = let h = decimal-length (number s) in omega arith
+value-length Int s = let h = signed-length (integer s) in omega arith
+value-length String s = let h = dash-length s in omega arith
+value-length Text s = let h = dash-length s in omega arith
+value-length (Message m) s = let h = dash-length s in omega arith
+
+name-length : (v : Value) → length (kindName v) ≤ 7
+unfolding kindName ascii
+name-length (raw s) = omega arith
+name-length (uint n) = omega arith
+name-length (int z) = omega arith
+name-length (string s) = omega arith
+name-length (text s) = omega arith
+
+message-length : length (ascii "message") ≤ 7
+unfolding ascii
+message-length = omega arith
+
+line-length : (depth tag : ℕ) (kind v : List ℕ) → length kind ≤ 7 → length (line depth tag kind v) ≤ 35 + length v
+unfolding line front ascii fourDigits
+line-length depth tag kind v h = let d = decimal-length depth in simp length-append (omega arith)
+
+-- A field takes an octet or more, and its line not many more than its octets. The tree may be that under any number.
+lines-length : (es : List Entry) (cut : Cut) (n k depth : ℕ) → Allowed es k cut → length (lines depth (tree es n cut)) ≤ 60 * length (joined cut)
+unfolding lines tree joined Allowed
+lines-length es end n k depth a = omega arith
+lines-length es (leaf c b rest) n k depth a =
+    let z = field-size (a .0 .tag) c b (a .0 .whole) in
+    let m = find es n (tagOf (control c)) in
+    let v = value-length m b in
+    let l = line-length depth (tagOf (control c)) (kindName (value m b)) (valueText (value m b)) (name-length (value m b)) in
+    let h = lines-length es rest n k depth (a .1) in
+    simp length-append (omega arith)
+lines-length es (nested c inside rest) n k depth a =
+    let z = field-size (a .0 .1 .tag) c (joined inside) (a .0 .1 .whole) in
+    let m = innerOf (find es n (tagOf (control c))) in
+    let v = decimal-length (direct (tree es m inside)) in
+    let l = line-length depth (tagOf (control c)) (ascii "message") (decimal (direct (tree es m inside))) message-length in
+    let g = lines-length es inside m (a .0 .0) (suc depth) (a .0 .2) in
+    let h = lines-length es rest n k depth (a .1) in
+    simp length-append (omega arith)
+
+-- What is printed for a message within the limit, and for a refusal, has room from the start.
+pub page-fits : (es : List Entry) (n : ℕ) (s : List ℕ) (count : ℕ) → length s ≤ 65536 → Accepts es 8 n s → Room 0 (page (linesOf es 8 n s) count (length s))
+unfolding page ascii
+page-fits es n s count h a =
+    let g = accepts-good es 8 n s a in
+    let e = ap length (lines-is es 8 n s (g .0) (g .1)) in
+    let l = lines-length es (g .0) n n 1 (g .1 .allowed) in
+    let d = ap length (g .1 .divides) in
+    let x = decimal-length count in
+    let y = decimal-length (length s) in
+    record { below = simp length-append (omega arith) }
+
+pub refusal-fits : (number place : ℕ) → Room 0 (refusal number place)
+unfolding refusal ascii
+refusal-fits number place =
+    let x = decimal-length number in
+    let y = decimal-length place in
+    record { below = simp length-append (omega arith) }

@@ -1,0 +1,10 @@
+pub mod Windows
+pub mod Pieces
+pub mod Numbers
+pub mod Decimals
+pub mod Values
+pub mod Passing
+pub mod Counting
+pub mod Writing
+pub mod Lengths
+pub mod Messages

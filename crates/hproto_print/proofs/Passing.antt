@@ -1,0 +1,135 @@
+-- Passing over the fields of an accepted message.
+use Prim.Native.Nat.{ℕ, zero, suc, _+_, _-_, _≤_, _<_}
+use native.Mathlib.Omega.{arith}
+use mathlib.Core.Path.{_≡_, sym, ap, _∙_, subst}
+use mathlib.Core.List.{List}
+use lib.ListN.{length, take, drop, length-drop}
+use lib.Seq.{drop-drop}
+use Rattle.octets.specs.Control.{control}
+use Rattle.octets.specs.declared.Control.the-variants.{Whole}
+use Rattle.octets.proofs.ControlPart.{control-size}
+use Rattle.hproto_table.specs.Entry.{Entry, find}
+use Rattle.hproto_table.specs.declared.Meaning.the-variants.{Message}
+use Rattle.hproto_message.specs.Cut.{Cut, end, Contents, Good}
+use Rattle.hproto_message.specs.Tree.{Tree, value, tree}
+use Rattle.hproto_message.specs.Reading.{messageFrom}
+use Rattle.hproto_message.proofs.Accepted.{accepted-good, good-accepted, depth-positive}
+use Rattle.hproto_message.proofs.Next.{Plain, next-leaf, next-nested, fronted, nothing-left}
+use Rattle.hproto_field.specs.Fronts.{front}
+use Rattle.hproto_field.proofs.Fields.{front-whole}
+use Rattle.hproto_field.specs.declared.Field.{Field}
+use Rattle.hproto_print.specs.Walk.{Accepts}
+
+pub accepts-good : (es : List Entry) (room n : ℕ) (s : List ℕ) → Accepts es room n s → (cut : Cut) × Good es room n s cut
+unfolding Accepts
+accepts-good es room n s a = (a .0, accepted-good es room n 0 0 s (a .0) (a .1))
+
+pub good-accepts : (es : List Entry) (room n : ℕ) (s : List ℕ) (cut : Cut) → Good es room n s cut → Accepts es room n s
+unfolding Accepts
+good-accepts es room n s cut g = (cut, good-accepted es room n 0 0 s cut g)
+
+-- A message that is accepted may be one deep or more.
+pub accepts-room : (es : List Entry) (room n : ℕ) (s : List ℕ) → Accepts es room n s → suc (room - 1) ≡ room
+unfolding Accepts messageFrom
+accepts-room es zero n s a = let e = a .1 in let z : _≡_ {A = ℕ} 0 1 = cc in absurd (omega arith)
+accepts-room es (suc room) n s a = omega arith
+
+-- A cut that is good with fewer levels is good with more.
+pub good-deeper : (es : List Entry) (room more n : ℕ) (s : List ℕ) (cut : Cut) → room ≤ more → Good es room n s cut → Good es more n s cut
+good-deeper es room more n s cut h g = let k = g .shallow in record { divides = g .divides; allowed = g .allowed; shallow = omega arith }
+
+module _ (es : List Entry) (room n : ℕ) (s : List ℕ) where
+  -- After i octets, the fields that are left.
+  pub record Left (i : ℕ) : Type 0 where
+    pub rest : Cut
+    pub good : Good es (suc room) n (drop i s) rest
+    pub inside : i ≤ length s
+
+  abbrev pub all-left : (cut : Cut) → Good es (suc room) n s cut → Left 0
+  all-left cut g = record { rest = cut; good = g; inside = omega arith }
+
+  pub none-left : (i : ℕ) (p : Left i) → length s ≤ i → p .rest ≡ end
+  none-left i p h =
+      let k = p .inside in
+      nothing-left es (suc room) n (drop i s) (p .rest) (p .good) (simp length-drop (omega arith))
+
+  module _ (i : ℕ) (p : Left i) (more : i < length s) (f : Field) (found : f ≡ front es n (drop i s)) where
+    -- The field that the code found at the octets that are left.
+    front-is : (control (drop i s) ≡ Whole (f .tag) (f .contents) (f .control)) × (f .kind ≡ find es n (f .tag))
+    front-is =
+        let d = length-drop i s in
+        let w = fronted es (suc room) n (drop i s) (p .rest) (p .good) (omega arith) in
+        let b = w .inside in
+        let e = found ∙ front-whole es n (drop i s) (w .tag) (w .len) (w .size) (w .control-part) (omega arith) in
+        let t : f .tag ≡ w .tag = ap (λ (x : Field). x .tag) e in
+        let k : f .kind ≡ find es n (w .tag) = ap (λ (x : Field). x .kind) e in
+        let l : f .contents ≡ w .len = ap (λ (x : Field). x .contents) e in
+        let z : f .control ≡ w .size = ap (λ (x : Field). x .control) e in
+        (rw (t, l, z) (w .control-part), rw t k)
+
+    -- The field's octets, counted from the start of the message.
+    abbrev pub part : List ℕ
+    part = take (i + f .control + f .contents - (i + f .control)) (drop (i + f .control) s)
+
+    part-is : take (f .contents) (drop (f .control) (drop i s)) ≡ part
+    part-is =
+        let q : i + f .control + f .contents - (i + f .control) ≡ f .contents = omega arith in
+        rw (q, drop-drop (f .control) i s)
+
+    rest-is : drop (f .control + f .contents) (drop i s) ≡ drop (i + f .control + f .contents) s
+    rest-is =
+        let q : i + (f .control + f .contents) ≡ i + f .control + f .contents = omega arith in
+        rw (drop-drop (f .control + f .contents) i s, q)
+
+    -- The field ends within the message.
+    pub ends : (i < i + f .control + f .contents) × (i + f .control + f .contents ≤ length s)
+    ends =
+        let e = front-is .0 in
+        let d = length-drop i s in
+        let x = control-size (drop i s) (f .tag) (f .contents) (f .control) e .0 in
+        let w = fronted es (suc room) n (drop i s) (p .rest) (p .good) (omega arith) in
+        let z = w .inside in
+        let wc = w .control-part in
+        let l : w .len ≡ f .contents = cc in
+        let k : w .size ≡ f .control = cc in
+        let j = p .inside in
+        (omega arith, omega arith)
+
+    -- A field that is no message, and the fields after it.
+    pub record LeafNext : Type 0 where
+      pub left : Left (i + f .control + f .contents)
+      pub contents : Contents (f .kind) part
+      pub tree-is : tree es n (p .rest) ≡ Tree.leaf (f .tag) (value (f .kind) part) (tree es n (left .rest))
+
+    pub leaf-next : Plain (f .kind) → LeafNext
+    leaf-next q =
+        let k = front-is .1 in
+        let x = next-leaf es room n (f .tag) (f .contents) (f .control) (drop i s) (p .rest) (p .good) (front-is .0) (subst Plain k q) in
+        record {
+          left = record { rest = x .rest; good = subst (λ (r : List ℕ). Good es (suc room) n r (x .rest)) rest-is (x .good); inside = ends .1 };
+          contents = rw (k, ← part-is) (x .contents);
+          tree-is = x .tree-is ∙ rw (part-is, ← k);
+        }
+
+    -- A field that is a message of the number m, and the fields after it.
+    pub record NestedNext (m : ℕ) : Type 0 where
+      pub left : Left (i + f .control + f .contents)
+      pub inner : Cut
+      pub good-inner : Good es room m part inner
+      pub positive : 1 ≤ room
+      pub tree-is : tree es n (p .rest) ≡ Tree.nested (f .tag) (tree es m inner) (tree es n (left .rest))
+
+    pub nested-next : (m : ℕ) → f .kind ≡ Message m → NestedNext m
+    nested-next m q =
+        let k = front-is .1 in
+        let x = next-nested es room n (f .tag) (f .contents) (f .control) (drop i s) (p .rest) (p .good) (front-is .0) m (sym k ∙ q) in
+        let g = subst (λ (r : List ℕ). Good es room m r (x .inner)) part-is (x .good-inner) in
+        let y = g .shallow in
+        let z = depth-positive (x .inner) in
+        record {
+          left = record { rest = x .rest; good = subst (λ (r : List ℕ). Good es (suc room) n r (x .rest)) rest-is (x .good); inside = ends .1 };
+          inner = x .inner;
+          good-inner = g;
+          positive = omega arith;
+          tree-is = x .tree-is;
+        }

@@ -1,0 +1,141 @@
+-- Writing the lines of an accepted message by passing over its fields.
+use Prim.Native.Nat.{ℕ, suc, _+_, _-_, _≤_, _<_}
+use native.Mathlib.Omega.{arith}
+use mathlib.Core.Path.{_≡_, sym, ap, _∙_, subst}
+use mathlib.Core.List.{List, [], _++_, append-assoc, append-nil}
+use lib.ListN.{length, drop, length-append}
+use Rattle.hproto_table.specs.Entry.{Entry}
+use Rattle.hproto_table.specs.declared.Meaning.the-variants.{Message}
+use Rattle.hproto_message.specs.Cut.{Cut, Contents, Good}
+use Rattle.hproto_message.specs.Tree.{Tree, value, tree}
+use Rattle.hproto_message.proofs.Accepted.{good-accepted}
+use Rattle.hproto_message.proofs.Next.{Plain}
+use Rattle.hproto_field.specs.Fronts.{front}
+use Rattle.hproto_field.specs.declared.Field.{Field}
+use Rattle.hproto_print.specs.Ascii.{ascii}
+use Rattle.hproto_print.specs.Digits.{decimal}
+use Rattle.hproto_print.specs.Window.{Printed, Room}
+use Rattle.hproto_print.specs.Text.{kindName, valueText, line, lines}
+use Rattle.hproto_print.specs.Walk.{Accepts, linesRead, linesOf, directOf}
+use Rattle.hproto_print.proofs.Windows.{then, printed-nothing, printed-length, same-place, fits-after}
+use Rattle.hproto_print.proofs.Passing.{Left, all-left, none-left, part, ends, leaf-next, nested-next, accepts-good, accepts-room, good-accepts, good-deeper}
+use Rattle.hproto_print.proofs.Counting.{direct-is}
+
+pub lines-is : (es : List Entry) (levels n : ℕ) (s : List ℕ) (cut : Cut) → Good es levels n s cut → linesOf es levels n s ≡ lines (9 - levels) (tree es n cut)
+unfolding linesOf linesRead
+lines-is es levels n s cut g = rw (good-accepted es levels n 0 0 s cut g)
+
+module _ (es : List Entry) (levels n : ℕ) (s before : List ℕ) (from at : ℕ) where
+  abbrev pub whole : List ℕ
+  whole = linesOf es levels n s
+
+  abbrev depth : ℕ
+  depth = 9 - levels
+
+  -- After i octets the lines of the fields passed are put.
+  pub record Progress (i end : ℕ) (out : List ℕ) : Type 0 where
+    pub left : Left es (levels - 1) n s i
+    pub written : List ℕ
+    pub printed : Printed before from at written end out
+    pub whole-is : whole ≡ written ++ lines depth (tree es n (left .rest))
+
+  pub begun : Accepts es levels n s → Progress 0 at before
+  begun a =
+      let g = accepts-good es levels n s a in
+      let r = accepts-room es levels n s a in
+      record {
+        left = all-left es (levels - 1) n s (g .0) (subst (λ (r : ℕ). Good es r n s (g .0)) (sym r) (g .1));
+        written = [];
+        printed = printed-nothing before from at;
+        whole-is = lines-is es levels n s (g .0) (g .1);
+      }
+
+  pub ended : (i end : ℕ) (out : List ℕ) → Progress i end out → length s ≤ i → Printed before from at whole end out
+  unfolding tree lines
+  ended i end out p h =
+      same-place whole
+      (sym (p .whole-is ∙ ap (λ (c : Cut). p .written ++ lines depth (tree es n c)) (none-left es (levels - 1) n s i (p .left) h) ∙ append-nil (p .written)))
+      (p .printed)
+
+  pub same-length : (i end : ℕ) (out : List ℕ) → Progress i end out → length out ≡ length before
+  same-length i end out p = printed-length before from at (p .written) end out (p .printed)
+
+  module _ (fits : Room at whole) (i end : ℕ) (out : List ℕ) (p : Progress i end out) (more : i < length s) (f : Field) (found : f ≡ front es n (drop i s)) where
+    abbrev pub contents : List ℕ
+    contents = part es (levels - 1) n s i (p .left) more f found
+
+    pub next-ends : (i < i + f .control + f .contents) × (i + f .control + f .contents ≤ length s)
+    next-ends = ends es (levels - 1) n s i (p .left) more f found
+
+    -- A piece that is the next part of the whole has room.
+    next-fits : (piece rest : List ℕ) → whole ≡ p .written ++ piece ++ rest → Room end piece
+    next-fits piece rest e = fits-after piece (p .printed) fits (rw e (simp length-append (omega arith)))
+
+    module _ (q : Plain (f .kind)) where
+      abbrev leaf-text : List ℕ
+      leaf-text = line depth (f .tag) (kindName (value (f .kind) contents)) (valueText (value (f .kind) contents))
+
+      leaf-whole : whole ≡ p .written ++ leaf-text ++ lines depth (tree es n (leaf-next es (levels - 1) n s i (p .left) more f found q .left .rest))
+      unfolding lines
+      leaf-whole =
+          let x = leaf-next es (levels - 1) n s i (p .left) more f found q in
+          p .whole-is ∙ ap (λ (t : Tree). p .written ++ lines depth t) (x .tree-is)
+          ∙ sym (append-assoc (p .written) leaf-text (lines depth (tree es n (x .left .rest))))
+
+      pub leaf-contents : Contents (f .kind) contents
+      leaf-contents = leaf-next es (levels - 1) n s i (p .left) more f found q .contents
+
+      pub leaf-fits : Room end leaf-text
+      leaf-fits = next-fits leaf-text (lines depth (tree es n (leaf-next es (levels - 1) n s i (p .left) more f found q .left .rest))) leaf-whole
+
+      pub leaf-written : (r : ℕ) (after : List ℕ) → Printed out from end leaf-text r after → Progress (i + f .control + f .contents) r after
+      leaf-written r after put =
+          record {
+            left = leaf-next es (levels - 1) n s i (p .left) more f found q .left;
+            written = p .written ++ leaf-text;
+            printed = then (p .printed) put;
+            whole-is = leaf-whole;
+          }
+
+    module _ (few : levels ≤ 8) (m : ℕ) (q : f .kind ≡ Message m) where
+      abbrev message-text : List ℕ
+      message-text = line depth (f .tag) (ascii "message") (decimal (directOf es m contents))
+
+      abbrev inner-text : List ℕ
+      inner-text = linesOf es (levels - 1) m contents
+
+      pub nested-accepts : (1 ≤ levels - 1) × Accepts es (levels - 1) m contents × Accepts es 8 m contents
+      nested-accepts =
+          let x = nested-next es (levels - 1) n s i (p .left) more f found m q in
+          let g = good-deeper es (levels - 1) 8 m contents (x .inner) (omega arith) (x .good-inner) in
+          (x .positive, good-accepts es (levels - 1) m contents (x .inner) (x .good-inner), good-accepts es 8 m contents (x .inner) g)
+
+      nested-whole : whole ≡ p .written ++ message-text ++ inner-text ++ lines depth (tree es n (nested-next es (levels - 1) n s i (p .left) more f found m q .left .rest))
+      unfolding lines
+      nested-whole =
+          let x = nested-next es (levels - 1) n s i (p .left) more f found m q in
+          let g = good-deeper es (levels - 1) 8 m contents (x .inner) (omega arith) (x .good-inner) in
+          let h = x .positive in
+          let e : 9 - (levels - 1) ≡ suc depth = omega arith in
+          let a = direct-is es m contents (x .inner) g in
+          let b = lines-is es (levels - 1) m contents (x .inner) (x .good-inner) ∙ ap (λ (d : ℕ). lines d (tree es m (x .inner))) e in
+          let rest = lines depth (tree es n (x .left .rest)) in
+          p .whole-is ∙ ap (λ (t : Tree). p .written ++ lines depth t) (x .tree-is)
+          ∙ rw (← a, ← b) (sym (ap (λ (l : List ℕ). l ++ rest) (append-assoc (p .written) message-text inner-text) ∙ append-assoc (p .written) (message-text ++ inner-text) rest))
+
+      pub message-fits : Room end message-text
+      message-fits =
+          fits-after message-text (p .printed) fits (rw nested-whole (simp length-append (omega arith)))
+
+      module _ (b : ℕ) (between : List ℕ) (put : Printed out from end message-text b between) where
+        pub inner-fits : Room b inner-text
+        inner-fits = fits-after inner-text (then (p .printed) put) fits (rw nested-whole (simp length-append (omega arith)))
+
+        pub nested-written : (r : ℕ) (after : List ℕ) → Printed between from b inner-text r after → Progress (i + f .control + f .contents) r after
+        nested-written r after more-put =
+            record {
+              left = nested-next es (levels - 1) n s i (p .left) more f found m q .left;
+              written = p .written ++ message-text ++ inner-text;
+              printed = then (then (p .printed) put) more-put;
+              whole-is = nested-whole;
+            }

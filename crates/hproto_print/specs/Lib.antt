@@ -1,0 +1,5 @@
+pub mod Ascii
+pub mod Digits
+pub mod Window
+pub mod Text
+pub mod Walk

@@ -1,0 +1,62 @@
+// A message as text, field by field, and a refusal as text. The text of a message may be longer than any buffer at hand, so a call gives
+// the part of it that starts at a place.
+mod lines;
+mod print;
+
+use hproto_table::Table;
+ghost use mathlib.Core.Path.{_≡_};
+ghost use mathlib.Core.List.{map};
+ghost use Prim.Native.Nat.{_≤_};
+ghost use lib.ListN.{length, take};
+ghost use Rattle.hproto_table.specs.Entry.{entry};
+ghost use Rattle.hproto_print.specs.Window.{window, Printed};
+ghost use Rattle.hproto_print.specs.Text.{page as page-of, refusal as refusal-of, messageText};
+ghost use Rattle.hproto_print.specs.Walk.{Accepts, linesOf};
+
+// The number of the message that a field holds, if it holds one.
+enum Inner {
+    None,
+    Number(u64),
+}
+
+// The text of a message with number 0 that was checked before, its count of fields given.
+fn page(words: &[u64], count: usize, fields: u64, s: &[u8], from: u64, out: &mut [u8]) -> u64
+    requires { ⌜ length (now s) ≤ 65536 ⌝ }
+    requires { ⌜ Accepts (map entry (take count (now words))) 8 0 (now s) ⌝ }
+    ensures { λ r. ⌜ Printed (now (out .entry)) from 0 (page-of (linesOf (map entry (take count (now (words .entry)))) 8 0 (now (s .entry))) fields (length (now (s .entry)))) r (now (out .exit)) ⌝ }
+{
+    let a = print::octets(out, from, 0, b"depth tag kind value\n");
+    let b = lines::write(words, count, 0, 8, s, out, from, a);
+    let c = print::octets(out, from, b, b"fields ");
+    let d = print::decimal(out, from, c, fields);
+    let e = print::octets(out, from, d, b" octets ");
+    let f = print::decimal(out, from, e, s.len() as u64);
+    print::put(out, from, f, b'\n')
+}
+
+// The text of a refusal. Like `message`, it puts the part of the text that starts at `from` into `out`, as much of it as there is room
+// for, and answers the length of the whole text.
+pub fn refusal(number: u64, place: u64, from: u64, out: &mut [u8]) -> u64
+    ensures { λ r. ⌜ r ≡ length (refusal-of number place) ⌝ }
+    ensures { λ _. ⌜ now (out .exit) ≡ window (now (out .entry)) from (refusal-of number place) ⌝ }
+{
+    let a = print::octets(out, from, 0, b"refused ");
+    let b = print::decimal(out, from, a, number);
+    let c = print::octets(out, from, b, b" at ");
+    let d = print::decimal(out, from, c, place);
+    print::put(out, from, d, b'\n')
+}
+
+// The text of a message with number 0 under a table, or of the refusal of its check.
+pub fn message(t: Table, s: &[u8], from: u64, out: &mut [u8]) -> u64
+    ensures { λ r. ⌜ r ≡ length (messageText t (now (s .entry))) ⌝ }
+    ensures { λ _. ⌜ now (out .exit) ≡ window (now (out .entry)) from (messageText t (now (s .entry))) ⌝ }
+{
+    let c = hproto_check::check(t, 0, s);
+    if c.refusal != 0 {
+        return refusal(c.refusal, c.place, from, out);
+    }
+    let words = t.words;
+    let count = t.count;
+    page(&words, count, c.fields, s, from, out)
+}

@@ -1,0 +1,197 @@
+// The lines of a message that was checked before. Like those of `print`, each function that puts text puts a piece at `at` and answers
+// the place after it.
+use crate::Inner;
+use crate::print;
+use hproto_table::Meaning;
+use octets::Signed;
+use octets::Unsigned;
+ghost use mathlib.Core.Path.{_≡_};
+ghost use mathlib.Core.List.{map};
+ghost use Prim.Native.Nat.{_≤_};
+ghost use lib.ListN.{length, take};
+ghost use Rattle.octets.specs.Number.{number as number-of};
+ghost use Rattle.octets.specs.Signed.{integer};
+ghost use Rattle.hproto_table.specs.Entry.{entry};
+ghost use Rattle.hproto_message.specs.Cut.{Contents};
+ghost use Rattle.hproto_message.specs.Tree.{value as value-of};
+ghost use Rattle.hproto_print.specs.Ascii.{ascii};
+ghost use Rattle.hproto_print.specs.Digits.{decimal, signedDecimal};
+ghost use Rattle.hproto_print.specs.Window.{Room, Printed};
+ghost use Rattle.hproto_print.specs.Text.{kindName, valueText, front as front-of, line};
+ghost use Rattle.hproto_print.specs.Walk.{Accepts, heldIn, meaningName, directOf, linesOf};
+
+fn held(kind: Meaning) -> Inner
+    ensures { λ r. ⌜ r ≡ heldIn kind ⌝ }
+{
+    match kind {
+        Meaning::Raw => Inner::None,
+        Meaning::Uint => Inner::None,
+        Meaning::Int => Inner::None,
+        Meaning::String => Inner::None,
+        Meaning::Text => Inner::None,
+        Meaning::Message(m) => Inner::Number(m),
+    }
+}
+
+fn kind_name(out: &mut [u8], from: u64, at: u64, kind: Meaning) -> u64
+    requires { ⌜ Room at (meaningName kind) ⌝ }
+    ensures { λ r. ⌜ Printed (now (out .entry)) from at (meaningName kind) r (now (out .exit)) ⌝ }
+{
+    match kind {
+        Meaning::Raw => print::octets(out, from, at, b"raw"),
+        Meaning::Uint => print::octets(out, from, at, b"uint"),
+        Meaning::Int => print::octets(out, from, at, b"int"),
+        Meaning::String => print::octets(out, from, at, b"string"),
+        Meaning::Text => print::octets(out, from, at, b"text"),
+        Meaning::Message(_) => print::octets(out, from, at, b"message"),
+    }
+}
+
+// What stands before the value in a field's line.
+fn front(out: &mut [u8], from: u64, at: u64, depth: u64, tag: u64, kind: Meaning) -> u64
+    requires { ⌜ Room at (front-of depth tag (meaningName kind)) ⌝ }
+    ensures { λ r. ⌜ Printed (now (out .entry)) from at (front-of depth tag (meaningName kind)) r (now (out .exit)) ⌝ }
+{
+    let a = print::decimal(out, from, at, depth);
+    let b = print::put(out, from, a, b' ');
+    let c = print::four_digits(out, from, b, tag);
+    let d = print::put(out, from, c, b' ');
+    let e = kind_name(out, from, d, kind);
+    print::put(out, from, e, b' ')
+}
+
+fn uint(out: &mut [u8], from: u64, at: u64, s: &[u8]) -> u64
+    requires { ⌜ length (now s) ≤ 8 ⌝ }
+    requires { ⌜ Room at (decimal (number-of (now s))) ⌝ }
+    ensures { λ r. ⌜ Printed (now (out .entry)) from at (decimal (number-of (now (s .entry)))) r (now (out .exit)) ⌝ }
+{
+    match octets_read::uint(s) {
+        Unsigned::Value(v) => print::decimal(out, from, at, v),
+        Unsigned::Long => at,
+    }
+}
+
+fn int(out: &mut [u8], from: u64, at: u64, s: &[u8]) -> u64
+    requires { ⌜ length (now s) ≤ 8 ⌝ }
+    requires { ⌜ Room at (signedDecimal (integer (now s))) ⌝ }
+    ensures { λ r. ⌜ Printed (now (out .entry)) from at (signedDecimal (integer (now (s .entry)))) r (now (out .exit)) ⌝ }
+{
+    match octets_read::int(s) {
+        Signed::Value(v) => print::signed(out, from, at, v),
+        Signed::Long => at,
+    }
+}
+
+// The value of a field that is no message.
+fn value(out: &mut [u8], from: u64, at: u64, kind: Meaning, s: &[u8]) -> u64
+    requires { ⌜ Contents kind (now s) ⌝ }
+    requires { ⌜ Room at (valueText (value-of kind (now s))) ⌝ }
+    ensures { λ r. ⌜ Printed (now (out .entry)) from at (valueText (value-of kind (now (s .entry)))) r (now (out .exit)) ⌝ }
+{
+    match kind {
+        Meaning::Raw => print::hex_or_dash(out, from, at, s),
+        Meaning::Uint => uint(out, from, at, s),
+        Meaning::Int => int(out, from, at, s),
+        Meaning::String => print::hex_or_dash(out, from, at, s),
+        Meaning::Text => print::hex_or_dash(out, from, at, s),
+        Meaning::Message(_) => print::hex_or_dash(out, from, at, s),
+    }
+}
+
+// The line of a field that is no message.
+fn leaf_line(
+    out: &mut [u8],
+    from: u64,
+    at: u64,
+    depth: u64,
+    tag: u64,
+    kind: Meaning,
+    s: &[u8],
+) -> u64
+    requires { ⌜ Contents kind (now s) ⌝ }
+    requires { ⌜ Room at (line depth tag (kindName (value-of kind (now s))) (valueText (value-of kind (now s)))) ⌝ }
+    ensures { λ r. ⌜ Printed (now (out .entry)) from at (line depth tag (kindName (value-of kind (now (s .entry)))) (valueText (value-of kind (now (s .entry))))) r (now (out .exit)) ⌝ }
+{
+    let a = front(out, from, at, depth, tag, kind);
+    let b = value(out, from, a, kind, s);
+    print::put(out, from, b, b'\n')
+}
+
+// How many fields a message has itself.
+fn direct(words: &[u64], count: usize, number: u64, s: &[u8]) -> u64
+    requires { ⌜ Accepts (map entry (take count (now words))) 8 number (now s) ⌝ }
+    ensures { λ r. ⌜ r ≡ directOf (map entry (take count (now (words .entry)))) number (now (s .entry)) ⌝ }
+{
+    let mut i: usize = 0;
+    let mut n: u64 = 0;
+    while i < s.len() {
+        let f = hproto_field::field_at(words, count, number, &s[i..]);
+        let a = i + f.control;
+        i = a + f.contents;
+        n += 1;
+    }
+    n
+}
+
+// The line of a field that holds a message of a number. The count of its fields stands in the line, before their own lines.
+fn message_line(
+    words: &[u64],
+    count: usize,
+    number: u64,
+    s: &[u8],
+    out: &mut [u8],
+    from: u64,
+    at: u64,
+    depth: u64,
+    tag: u64,
+) -> u64
+    requires { ⌜ Accepts (map entry (take count (now words))) 8 number (now s) ⌝ }
+    requires { ⌜ Room at (line depth tag (ascii "message") (decimal (directOf (map entry (take count (now words))) number (now s)))) ⌝ }
+    ensures { λ r. ⌜ Printed (now (out .entry)) from at (line depth tag (ascii "message") (decimal (directOf (map entry (take count (now (words .entry)))) number (now (s .entry))))) r (now (out .exit)) ⌝ }
+{
+    let n = direct(words, count, number, s);
+    let a = front(out, from, at, depth, tag, Meaning::Message(number));
+    let b = print::decimal(out, from, a, n);
+    print::put(out, from, b, b'\n')
+}
+
+// The lines of a message of a number that may be `levels` messages deep, itself counted. A nested message's lines follow the line of
+// its field.
+pub(crate) fn write(
+    words: &[u64],
+    count: usize,
+    number: u64,
+    levels: u64,
+    s: &[u8],
+    out: &mut [u8],
+    from: u64,
+    at: u64,
+) -> u64
+    requires { ⌜ levels ≤ 8 ⌝ }
+    requires { ⌜ Accepts (map entry (take count (now words))) levels number (now s) ⌝ }
+    requires { ⌜ Room at (linesOf (map entry (take count (now words))) levels number (now s)) ⌝ }
+    ensures { λ r. ⌜ Printed (now (out .entry)) from at (linesOf (map entry (take count (now (words .entry)))) levels number (now (s .entry))) r (now (out .exit)) ⌝ }
+{
+    let mut i: usize = 0;
+    let mut end = at;
+    while i < s.len() {
+        let f = hproto_field::field_at(words, count, number, &s[i..]);
+        let kind = f.kind;
+        let a = i + f.control;
+        let e = a + f.contents;
+        let depth = 9 - levels;
+        let tag = f.tag;
+        match held(kind) {
+            Inner::None => {
+                end = leaf_line(out, from, end, depth, tag, kind, &s[a..e]);
+                i = e;
+            }
+            Inner::Number(m) => {
+                let b = message_line(words, count, m, &s[a..e], out, from, end, depth, tag);
+                end = write(words, count, m, levels - 1, &s[a..e], out, from, b);
+                i = e;
+            }
+        }
+    }
+    end
+}

@@ -1,0 +1,140 @@
+// Text put piece by piece into a window: a lent buffer that takes up the part of a longer text that starts at `from`. Each function puts
+// a piece that stands at `at` in the text and answers the place after it.
+ghost use mathlib.Core.Path.{_≡_};
+ghost use mathlib.Core.List.{[], _∷_};
+ghost use Prim.Native.Nat.{_<_, _^_};
+ghost use lib.IntN.{pos, negsuc};
+ghost use lib.Signed.{_<ℤ_};
+ghost use Rattle.hproto_print.specs.Digits.{glyph, decimalWithin, decimal as decimal-of, signedDecimal, fourDigits, hex as hex-of, hexOrDash};
+ghost use Rattle.hproto_print.specs.Window.{Room, Printed};
+
+// One octet. Those before the window and those beyond it are counted and not stored.
+pub(crate) fn put(out: &mut [u8], from: u64, at: u64, x: u8) -> u64
+    requires { ⌜ Room at (x ∷ []) ⌝ }
+    ensures { λ r. ⌜ Printed (now (out .entry)) from at (x ∷ []) r (now (out .exit)) ⌝ }
+{
+    if at < from {
+        return at + 1;
+    }
+    let i = (at - from) as usize;
+    if out.len() <= i {
+        return at + 1;
+    }
+    out[i] = x;
+    at + 1
+}
+
+pub(crate) fn octets(out: &mut [u8], from: u64, at: u64, s: &[u8]) -> u64
+    requires { ⌜ Room at (now s) ⌝ }
+    ensures { λ r. ⌜ Printed (now (out .entry)) from at (now (s .entry)) r (now (out .exit)) ⌝ }
+{
+    let mut i = 0;
+    let mut end = at;
+    while i < s.len() {
+        end = put(out, from, end, s[i]);
+        i += 1;
+    }
+    end
+}
+
+// The ASCII code of a digit below 16.
+fn digit(d: u64) -> u8
+    requires { ⌜ d < 16 ⌝ }
+    ensures { λ r. ⌜ r ≡ glyph d ⌝ }
+{
+    if d < 10 { 48 + d as u8 } else { 87 + d as u8 }
+}
+
+// The two hex digits of an octet.
+fn octet(out: &mut [u8], from: u64, at: u64, x: u8) -> u64
+    requires { ⌜ Room at (hex-of (x ∷ [])) ⌝ }
+    ensures { λ r. ⌜ Printed (now (out .entry)) from at (hex-of (x ∷ [])) r (now (out .exit)) ⌝ }
+{
+    let high = put(out, from, at, digit((x / 16) as u64));
+    put(out, from, high, digit((x % 16) as u64))
+}
+
+fn hex(out: &mut [u8], from: u64, at: u64, s: &[u8]) -> u64
+    requires { ⌜ Room at (hex-of (now s)) ⌝ }
+    ensures { λ r. ⌜ Printed (now (out .entry)) from at (hex-of (now (s .entry))) r (now (out .exit)) ⌝ }
+{
+    let mut i = 0;
+    let mut end = at;
+    while i < s.len() {
+        end = octet(out, from, end, s[i]);
+        i += 1;
+    }
+    end
+}
+
+// Octets in hex, `-` where there are none.
+pub(crate) fn hex_or_dash(out: &mut [u8], from: u64, at: u64, s: &[u8]) -> u64
+    requires { ⌜ Room at (hexOrDash (now s)) ⌝ }
+    ensures { λ r. ⌜ Printed (now (out .entry)) from at (hexOrDash (now (s .entry))) r (now (out .exit)) ⌝ }
+{
+    if s.len() == 0 {
+        return put(out, from, at, b'-');
+    }
+    hex(out, from, at, s)
+}
+
+// A number of 16 bits as four hex digits.
+pub(crate) fn four_digits(out: &mut [u8], from: u64, at: u64, n: u64) -> u64
+    requires { ⌜ Room at (fourDigits n) ⌝ }
+    ensures { λ r. ⌜ Printed (now (out .entry)) from at (fourDigits n) r (now (out .exit)) ⌝ }
+{
+    let a = put(out, from, at, digit(n / 4096 % 16));
+    let b = put(out, from, a, digit(n / 256 % 16));
+    let c = put(out, from, b, digit(n / 16 % 16));
+    put(out, from, c, digit(n % 16))
+}
+
+// The decimal digits of a number for which `most` digits are enough. What stands before the last digit is put first.
+fn digits(out: &mut [u8], from: u64, at: u64, most: u64, n: u64) -> u64
+    requires { ⌜ Room at (decimalWithin most n) ⌝ }
+    ensures { λ r. ⌜ Printed (now (out .entry)) from at (decimalWithin most n) r (now (out .exit)) ⌝ }
+{
+    if most == 0 {
+        return at;
+    }
+    if n < 10 {
+        return put(out, from, at, digit(n));
+    }
+    let end = digits(out, from, at, most - 1, n / 10);
+    put(out, from, end, digit(n % 10))
+}
+
+pub(crate) fn decimal(out: &mut [u8], from: u64, at: u64, n: u64) -> u64
+    requires { ⌜ Room at (decimal-of n) ⌝ }
+    ensures { λ r. ⌜ Printed (now (out .entry)) from at (decimal-of n) r (now (out .exit)) ⌝ }
+{
+    digits(out, from, at, 20, n)
+}
+
+// One less than the magnitude of a number below zero. Unlike the magnitude it is in range for each of them.
+fn under_zero(z: i64) -> u64
+    requires { ⌜ z <ℤ pos 0 ⌝ }
+    ensures { λ r. ⌜ z ≡ negsuc r ⌝ }
+{
+    (-1 - z) as u64
+}
+
+// A number below zero, by one less than its magnitude.
+fn minus(out: &mut [u8], from: u64, at: u64, k: u64) -> u64
+    requires { ⌜ k < 2 ^ 63 ⌝ }
+    requires { ⌜ Room at (signedDecimal (negsuc k)) ⌝ }
+    ensures { λ r. ⌜ Printed (now (out .entry)) from at (signedDecimal (negsuc k)) r (now (out .exit)) ⌝ }
+{
+    let a = put(out, from, at, b'-');
+    decimal(out, from, a, k + 1)
+}
+
+pub(crate) fn signed(out: &mut [u8], from: u64, at: u64, z: i64) -> u64
+    requires { ⌜ Room at (signedDecimal z) ⌝ }
+    ensures { λ r. ⌜ Printed (now (out .entry)) from at (signedDecimal z) r (now (out .exit)) ⌝ }
+{
+    if z < 0 {
+        return minus(out, from, at, under_zero(z));
+    }
+    decimal(out, from, at, z as u64)
+}

@@ -1,0 +1,61 @@
+-- Worked samples of what is printed: each side of each equation computes to the same.
+use Prim.Native.Nat.{ℕ}
+use mathlib.Core.Path.{_≡_, refl}
+use mathlib.Core.List.{List, [], _∷_, _++_}
+use Rattle.octets.specs.Number as octets
+use Rattle.octets.specs.Signed as signs
+use Rattle.octets.specs.Control as controls
+use Rattle.octets.specs.Text as texts
+use Rattle.hproto_table.specs.Entry as entries
+use Rattle.hproto_table.specs.Load as loads
+use Rattle.hproto_table.specs.Repeat as repeats
+use Rattle.hproto_table.specs.Valid as valids
+use Rattle.hproto_message.specs.Tree as trees
+use Rattle.hproto_message.specs.Reading as readings
+use Rattle.hproto_check.specs.Check as checks
+use Rattle.hproto_frame.specs.Frame as frames
+use Rattle.hproto_print.specs.Ascii.{ascii}
+use Rattle.hproto_print.specs.Digits as digits
+use Rattle.hproto_print.specs.Text as prints
+use Rattle.hproto_show.specs.Output as shows
+use Rattle.hproto_show.specs.Output.{output}
+
+-- Document 01's input: a framed table of five records, and a framed message.
+unfoldable pub input : List ℕ
+input =
+    0x28 ∷
+    0x01 ∷ 0x00 ∷ 0x05 ∷ 0x00 ∷ 0x00 ∷ 0x01 ∷ 0x01 ∷ 0x00 ∷
+    0x01 ∷ 0x00 ∷ 0x05 ∷ 0x00 ∷ 0x00 ∷ 0x02 ∷ 0x02 ∷ 0x00 ∷
+    0x01 ∷ 0x00 ∷ 0x05 ∷ 0x00 ∷ 0x00 ∷ 0x23 ∷ 0x05 ∷ 0x01 ∷
+    0x01 ∷ 0x00 ∷ 0x05 ∷ 0x01 ∷ 0x00 ∷ 0x00 ∷ 0x04 ∷ 0x00 ∷
+    0x01 ∷ 0x00 ∷ 0x05 ∷ 0x01 ∷ 0x00 ∷ 0x01 ∷ 0x01 ∷ 0x00 ∷
+    0x0d ∷
+    0x11 ∷ 0x2a ∷ 0x21 ∷ 0x8b ∷ 0xe6 ∷ 0x23 ∷ 0x02 ∷ 0x4b ∷ 0x57 ∷ 0x12 ∷ 0x01 ∷ 0xf4 ∷ 0x30 ∷ []
+
+pub samples-hold :
+    (output input
+    ≡ ascii "depth tag kind value\n"
+    ++ ascii "1 0001 uint 42\n"
+    ++ ascii "1 0002 int -11\n"
+    ++ ascii "1 0023 message 2\n"
+    ++ ascii "2 0000 text 4b57\n"
+    ++ ascii "2 0001 uint 500\n"
+    ++ ascii "1 0003 raw -\n"
+    ++ ascii "fields 6 octets 13\n")
+    × (output (0x00 ∷ 0x00 ∷ []) ≡ ascii "depth tag kind value\nfields 0 octets 0\n")
+    × (output [] ≡ ascii "refused 3 at 0\n")
+    × (output (0x00 ∷ []) ≡ ascii "refused 3 at 0\n")
+    × (output (0x01 ∷ 0x02 ∷ 0xff ∷ []) ≡ ascii "refused 2 at 0\n")
+    × (output (0x00 ∷ 0x01 ∷ 0xc3 ∷ 0x00 ∷ []) ≡ ascii "refused 14 at 0\n")
+    × (output (0x00 ∷ 0x02 ∷ 0xc3 ∷ []) ≡ ascii "refused 4 at 0\n")
+    × (output (0x00 ∷ 0x02 ∷ 0xc0 ∷ 0xf1 ∷ []) ≡ ascii "refused 3 at 1\n")
+unfolding input output shows.firstText shows.tableText shows.secondText prints.messageText prints.readText prints.refusal prints.shown prints.page prints.lines prints.direct
+    prints.line prints.front prints.valueText prints.kindName digits.glyph digits.decimalWithin digits.decimal digits.signedDecimal digits.fourDigits digits.hex
+    digits.hexOrDash ascii frames.frameRead frames.frontRead frames.prefixed frames.announced frames.messagePart
+    checks.check checks.checkUnder checks.counts checks.refusal readings.reading readings.messageFrom readings.fieldsFrom readings.afterStep readings.onCut readings.inOrder
+    readings.step readings.stepFrom readings.stepByKind trees.tree trees.tagOf entries.innerOf trees.value trees.fields trees.depth
+    entries.find entries.meaning entries.entries entries.entry loads.load loads.loadFrom loads.accepted loads.refused loads.tableOf loads.faulty
+    loads.seen loads.pair loads.wordsBefore loads.sound loads.wordAt loads.recordAt loads.inRange valids.valid valids.allInRange valids.allZero
+    repeats.distinct texts.text texts.textAfter texts.follower texts.followers octets.number signs.integer signs.withSign signs.lowest
+    controls.control controls.controlOf controls.following controls.coded
+samples-hold = (refl, refl, refl, refl, refl, refl, refl, refl)
