@@ -9,7 +9,11 @@ trap 'rm -rf "$work"' EXIT
 
 tools/install.sh "$work/usr" > /dev/null
 gcc -std=c99 -Wall -Wextra -Werror -pedantic -O2 -I"$work/usr/include" examples/concentrator.c -L"$work/usr/lib" -lcrudvim -o "$work/concentrator"
-g++ -Wall -Wextra -Werror -pedantic -fsyntax-only -x c++ include/crudvim.h
+if command -v g++ > /dev/null; then
+    g++ -Wall -Wextra -Werror -pedantic -fsyntax-only -x c++ include/crudvim.h
+else
+    echo "no g++: the header is not tried as C++"
+fi
 
 python3 $here/unhex.py < $here/table.hex > "$work/table"
 python3 $here/unhex.py < $here/stream.hex > "$work/stream"
