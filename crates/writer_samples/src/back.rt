@@ -1,0 +1,50 @@
+// Reads a message back: its octets, what the check counts, whether there is a shorter form, and the value of a field.
+use crate::compare;
+use crate::print;
+use hproto_lookup::Found;
+use hproto_table::Table;
+
+// Whether the shortener gives the same octets.
+fn shortest(t: Table, number: u64, m: &[u8]) {
+    let mut out = [0u8; 65536];
+    let s = hproto_shorten::shorten(t, number, m, &mut out);
+    if s.refusal != 0 {
+        sample_lines::refusal(s.refusal, s.place);
+        return;
+    }
+    let same = compare::equal(sample_lines::part(&out, 0, s.length), m);
+    print::either(same, b"shortest", b"not the shortest");
+}
+
+pub fn message(t: Table, number: u64, m: &[u8]) {
+    print::octets(m);
+    sample_lines::text(b", ");
+    let c = hproto_check::check(t, number, m);
+    if c.refusal != 0 {
+        sample_lines::refusal(c.refusal, c.place);
+        return;
+    }
+    sample_lines::counts(c.fields, c.depth);
+    sample_lines::text(b", ");
+    shortest(t, number, m);
+}
+
+// A field's kind and value: the number of a uint or an int, the octets of the others.
+pub fn field(f: Found, m: &[u8]) {
+    if f.refusal != 0 {
+        sample_lines::refusal(f.refusal, f.place);
+        return;
+    }
+    if f.kind == 1 {
+        print::named(b"uint ", f.number);
+        return;
+    }
+    if f.kind == 2 {
+        sample_lines::text(b"int ");
+        sample_lines::signed(f.signed);
+        return;
+    }
+    print::named(b"kind ", f.kind);
+    sample_lines::text(b" ");
+    print::octets(sample_lines::part(m, f.start, f.length));
+}

@@ -1,0 +1,32 @@
+// What is printed beyond what sample_lines prints.
+fn wide(x: u8) -> u64 {
+    x as u64
+}
+
+// A word and a number.
+pub fn named(what: &[u8], n: u64) {
+    sample_lines::text(what);
+    sample_lines::number(n);
+}
+
+// All octets in hexadecimal, however many there are.
+pub fn octets(s: &[u8]) {
+    if s.len() == 0 {
+        sample_lines::text(b"-");
+        return;
+    }
+    let mut i = 0;
+    while i < s.len() {
+        io::print_hex(1, wide(s[i]), 2);
+        i += 1;
+    }
+}
+
+// One of two words.
+pub fn either(is: bool, yes: &[u8], no: &[u8]) {
+    if is {
+        sample_lines::text(yes);
+    } else {
+        sample_lines::text(no);
+    }
+}

@@ -1,0 +1,234 @@
+// One line of the script: what it asks for, and what is answered.
+use crate::back;
+use crate::compare;
+use crate::input;
+use crate::print;
+use crate::state;
+use hproto_table::Table;
+use hproto_writer::State;
+use hproto_writer::Written;
+
+// What the lines before have left: the table, the state, how much of the buffer is lent, and the message that is read, with its number
+// and where it stands in the buffer.
+pub struct Run {
+    pub table: Table,
+    pub state: State,
+    pub lent: usize,
+    pub number: u64,
+    pub from: usize,
+    pub to: usize,
+}
+
+pub fn fresh() -> Run {
+    Run {
+        table: Table {
+            count: 0,
+            words: [0u64; 64],
+        },
+        state: state::nothing(),
+        lent: 0,
+        number: 0,
+        from: 0,
+        to: 0,
+    }
+}
+
+fn octets(t: Table, s: State, tag: u64, word: &[u8], out: &mut [u8]) -> Written {
+    let mut xs = [0u8; 65546];
+    let n = sample_lines::octets_in(word, &mut xs);
+    hproto_writer::put_octets(t, s, tag, sample_lines::front(&xs, n), out)
+}
+
+fn call(what: u8, line: &[u8], t: Table, s: State, out: &mut [u8]) -> Written {
+    let tag = input::number(line, 1);
+    let value = sample_lines::word(line, 2);
+    if what == b'u' {
+        return hproto_writer::put_uint(t, s, tag, sample_lines::number_in(value), out);
+    }
+    if what == b'i' {
+        return hproto_writer::put_int(t, s, tag, input::signed(value), out);
+    }
+    if what == b'o' {
+        return octets(t, s, tag, value, out);
+    }
+    if what == b'p' {
+        return hproto_writer::open_field(t, s, tag);
+    }
+    hproto_writer::close_field(t, s, out)
+}
+
+// The octets that a call stored, the place of the first, and whether it stored no others.
+fn stored(given: State, after: State, before: &[u8], now: &[u8]) {
+    print::octets(compare::part(now, after.start, given.start));
+    print::named(b" at ", after.start as u64);
+    let rest = compare::equal_around(before, now, after.start, given.start);
+    print::either(rest, b", rest kept", b", rest changed");
+}
+
+fn as_given(given: State, after: State) {
+    let same = state::same(given, after);
+    print::either(same, b", state kept", b", state changed");
+}
+
+fn answered(w: Written, given: State, before: &[u8], now: &[u8]) {
+    let after = w.state;
+    if w.refusal == 0 {
+        stored(given, after, before, now);
+        return;
+    }
+    sample_lines::refusal(w.refusal, w.place);
+    as_given(given, after);
+    let same = compare::equal(before, now);
+    print::either(same, b", buffer kept", b", buffer changed");
+}
+
+// A put, an open or a close. It gets the part of the buffer that is lent.
+fn calls(what: u8, line: &[u8], r: Run, before: &[u8], buffer: &mut [u8]) -> Run {
+    let n = r.lent;
+    if buffer.len() < n {
+        return r;
+    }
+    let given = r.state;
+    let w = call(what, line, r.table, given, &mut buffer[0..n]);
+    let was = compare::part(before, 0, n);
+    answered(w, given, was, compare::part(buffer, 0, n));
+    let after = w.state;
+    let mut next = r;
+    next.state = after;
+    next
+}
+
+// A start. A refused one answers a state of zeros.
+fn starts(line: &[u8], r: Run, buffer: &[u8]) -> Run {
+    let out = compare::part(buffer, 0, r.lent);
+    let w = hproto_writer::start(r.table, input::number(line, 1), out);
+    let after = w.state;
+    if w.refusal != 0 {
+        sample_lines::refusal(w.refusal, w.place);
+        let zeros = state::same(state::nothing(), after);
+        print::either(zeros, b", state of zeros", b", another state");
+    } else {
+        print::named(b"at ", after.start as u64);
+    }
+    let mut next = r;
+    next.state = after;
+    next
+}
+
+// A finish. The message that it answers is read from here on.
+fn finishes(r: Run) -> Run {
+    let given = r.state;
+    let f = hproto_writer::finish(given);
+    let after = f.state;
+    if f.refusal != 0 {
+        sample_lines::refusal(f.refusal, f.place);
+        sample_lines::text(b", ");
+    }
+    print::named(b"start ", f.start as u64);
+    as_given(given, after);
+    let mut next = r;
+    next.state = after;
+    next.number = after.numbers[0];
+    next.from = f.start;
+    next.to = r.lent;
+    next
+}
+
+fn loaded(word: &[u8]) -> Table {
+    let mut xs = [0u8; 65546];
+    let n = sample_lines::octets_in(word, &mut xs);
+    let l = hproto_load::load(sample_lines::front(&xs, n));
+    let t = l.table;
+    print::named(b"entries ", t.count as u64);
+    t
+}
+
+// A line that sets something: a table, how much of the buffer is lent, or a part of the state.
+fn sets(what: u8, line: &[u8], r: Run) -> Run {
+    let mut next = r;
+    if what == b'T' {
+        let t = loaded(sample_lines::word(line, 1));
+        next.table = t;
+        return next;
+    }
+    sample_lines::text(b"set");
+    if what == b'C' {
+        let mut t = r.table;
+        t.count = input::number(line, 1) as usize;
+        next.table = t;
+        return next;
+    }
+    if what == b'B' {
+        next.lent = input::number(line, 1) as usize;
+        return next;
+    }
+    let s = state::changed(what, line, r.state);
+    next.state = s;
+    next
+}
+
+// A sum, as far as the buffer reaches.
+fn sum(a: usize, b: usize) -> usize {
+    if 65546 < a {
+        return 65546;
+    }
+    if 65546 < b {
+        return 65546;
+    }
+    a + b
+}
+
+// A line that reads what is written.
+fn reads(what: u8, line: &[u8], r: Run, buffer: &[u8]) -> Run {
+    let m = compare::part(buffer, r.from, r.to);
+    let tag = input::number(line, 1);
+    if what == b'w' {
+        back::message(r.table, r.number, m);
+        return r;
+    }
+    if what == b'y' {
+        back::field(hproto_lookup::lookup_last(r.table, r.number, m, tag), m);
+        return r;
+    }
+    let k = input::number(line, 2);
+    let f = hproto_lookup::lookup(r.table, r.number, m, tag, k);
+    back::field(f, m);
+    if what == b'x' {
+        return r;
+    }
+    let mut next = r;
+    next.number = input::number(line, 3);
+    next.from = sum(r.from, f.start as usize);
+    next.to = sum(next.from, f.length as usize);
+    next
+}
+
+fn answer(what: u8, line: &[u8], r: Run, before: &[u8], buffer: &mut [u8]) -> Run {
+    if what < b'a' {
+        return sets(what, line, r);
+    }
+    if b'v' < what {
+        return reads(what, line, r, buffer);
+    }
+    if what == b's' {
+        return starts(line, r, buffer);
+    }
+    if what == b'f' {
+        return finishes(r);
+    }
+    calls(what, line, r, before, buffer)
+}
+
+// A line, with its answer after it. `before` holds the same octets as the buffer.
+pub fn line(s: &[u8], r: Run, before: &[u8; 65546], buffer: &mut [u8; 65546]) -> Run {
+    sample_lines::text(s);
+    let what = input::letter(s);
+    if what == b'#' {
+        sample_lines::text(b"\n");
+        return r;
+    }
+    sample_lines::text(b": ");
+    let next = answer(what, s, r, before, buffer);
+    sample_lines::text(b"\n");
+    next
+}
