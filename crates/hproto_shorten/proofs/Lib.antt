@@ -1,3 +1,4 @@
+pub mod Behind
 pub mod Passing
 pub mod Puts
 pub mod Writing

@@ -17,10 +17,10 @@ use Rattle.hproto_field.specs.Fronts.{front}
 use Rattle.hproto_field.specs.declared.Field.{Field}
 use Rattle.hproto_put.specs.Store.{stored, moved}
 use Rattle.hproto_put.proofs.Stores.{stored-nothing, stored-after, length-stored}
-use Rattle.hproto_put.proofs.Moves.{stored-moved}
 use Rattle.hproto_shorten.specs.Written.{short, Accepts, Put}
 use Rattle.hproto_shorten.proofs.Passing.{Passed, nothing-passed, all-passed, passed-length, part, ends, leaf-passed, nested-passed}
-use Rattle.hproto_shorten.proofs.Puts.{field-length}
+use Rattle.hproto_shorten.proofs.Puts.{field-length, control-some}
+use Rattle.hproto_shorten.proofs.Behind.{stored-behind}
 
 -- A message that is accepted may be one deep or more.
 pub accepts-levels : (es : List Entry) (levels n : ℕ) (s : List ℕ) → Accepts es levels n s → suc (levels - 1) ≡ levels
@@ -109,24 +109,25 @@ module _ (es : List Entry) (levels n : ℕ) (s before : List ℕ) (to : ℕ) whe
             subst (λ (l : ℕ). end + l ≤ length out) (field-length (f .tag) (short es levels m contents))
             (next-fits next (field (f .tag) (short es levels m contents)) (h .passed))
 
-        pub nested-fits : end + length (short es levels m contents) ≤ length out
-        nested-fits = let h = whole-fits in omega arith
+        pub nested-fits : end + 1 + length (short es levels m contents) ≤ length out
+        nested-fits = let h = whole-fits in let o = control-some (f .tag) (length (short es levels m contents)) in omega arith
 
-        module _ (x : ℕ) (between : List ℕ) (put : Put out end (short es levels m contents) x between) where
-          inner-length : x - end ≡ length (short es levels m contents)
+        module _ (x : ℕ) (between : List ℕ) (put : Put out (end + 1) (short es levels m contents) x between) where
+          inner-length : x - (end + 1) ≡ length (short es levels m contents)
           inner-length = let h = put .place in omega arith
 
-          pub inner-after : end ≤ x
+          pub inner-after : end + 1 ≤ x
           inner-after = let h = put .place in omega arith
 
-          pub wrap-fits : end + length (leastControl (f .tag % 65536) (x - end)) + (x - end) ≤ length between
+          pub wrap-fits : end + length (leastControl (f .tag % 65536) (x - (end + 1))) + (x - (end + 1)) ≤ length between
           wrap-fits =
               let h = whole-fits in
-              let l = ap length (put .buffer) ∙ length-stored out end (short es levels m contents) in
+              let l = ap length (put .buffer) ∙ length-stored out (end + 1) (short es levels m contents) in
               rw (small, inner-length) (omega arith)
 
-          pub nested-written : (r : ℕ) (after : List ℕ) → r ≡ end + length (leastControl (f .tag % 65536) (x - end)) + (x - end)
-              → after ≡ stored (moved between end (x - end) (length (leastControl (f .tag % 65536) (x - end)))) end (leastControl (f .tag % 65536) (x - end))
+          pub nested-written : (r : ℕ) (after : List ℕ) → r ≡ end + length (leastControl (f .tag % 65536) (x - (end + 1))) + (x - (end + 1))
+              → after
+              ≡ stored (moved between (end + 1) (x - (end + 1)) (length (leastControl (f .tag % 65536) (x - (end + 1))) - 1)) end (leastControl (f .tag % 65536) (x - (end + 1)))
               → Progress next r after
           unfolding field
           nested-written r after a b =
@@ -134,11 +135,12 @@ module _ (es : List Entry) (levels n : ℕ) (s before : List ℕ) (to : ℕ) whe
               let xs = short es levels m contents in
               let k = whole-fits in
               let fl = field-length (f .tag) xs in
+              let o = control-some (f .tag) (length xs) in
               let a′ : r ≡ end + length (leastControl (f .tag) (length xs)) + length xs = rw (small, inner-length) at a in
-              let b′ : after ≡ stored (moved between end (length xs) (length (leastControl (f .tag) (length xs)))) end (leastControl (f .tag) (length xs)) =
+              let b′ : after ≡ stored (moved between (end + 1) (length xs) (length (leastControl (f .tag) (length xs)) - 1)) end (leastControl (f .tag) (length xs)) =
               rw (small, inner-length) at b in
               stored-next next r (field (f .tag) xs) after (h .passed)
               (record {
                 place = omega arith;
-                buffer = b′ ∙ rw (put .buffer) (stored-moved out end xs (leastControl (f .tag) (length xs)) (omega arith));
+                buffer = b′ ∙ rw (put .buffer) (stored-behind out end xs (leastControl (f .tag) (length xs)) o (omega arith));
               })

@@ -6,7 +6,7 @@ use octets::Signed;
 use octets::Unsigned;
 ghost use mathlib.Core.Path.{_≡_};
 ghost use mathlib.Core.List.{map};
-ghost use Prim.Native.Nat.{_+_, _≤_};
+ghost use Prim.Native.Nat.{_+_, _-_, _≤_};
 ghost use lib.ListN.{length, take, drop};
 ghost use Rattle.octets.specs.Number.{Octets, number as number-of, octetsOf, leastUint};
 ghost use Rattle.octets.specs.Signed.{integer, leastInt};
@@ -46,6 +46,32 @@ fn held(kind: Meaning) -> Inner
     }
 }
 
+// The octets of a number. Most numbers take one.
+fn put_digits(out: &mut [u8], at: usize, w: u64, v: u64) -> usize
+    requires { ⌜ at + length (octetsOf w v) ≤ length (now out) ⌝ }
+    ensures { λ r. ⌜ Put (now (out .entry)) at (octetsOf w v) r (now (out .exit)) ⌝ }
+{
+    if w == 1 {
+        out[at] = (v % 256) as u8;
+        return at + 1;
+    }
+    hproto_put::put_number(out, at, w, v);
+    at + (w as usize)
+}
+
+// The least control part where there is room for it. Most take one octet.
+fn put_front(tag: u16, n: usize, out: &mut [u8], to: usize) -> usize
+    requires { ⌜ to + length (leastControl tag n) ≤ length (now out) ⌝ }
+    ensures { λ r. ⌜ Put (now (out .entry)) to (leastControl tag n) r (now (out .exit)) ⌝ }
+{
+    if tag < 14 && n < 12 {
+        out[to] = ((tag as usize) * 16 + n) as u8;
+        return to + 1;
+    }
+    hproto_put::put_control(out, to, tag, n as u64);
+    to + hproto_put::control_size(tag, n as u64)
+}
+
 // A field whose contents are the octets of a number.
 fn put_least(tag: u16, least: Least, out: &mut [u8], to: usize) -> usize
     requires { ⌜ to + length (field tag (octetsOf (least .width) (least .bits))) ≤ length (now out) ⌝ }
@@ -53,10 +79,8 @@ fn put_least(tag: u16, least: Least, out: &mut [u8], to: usize) -> usize
 {
     let w = least.width;
     let v = least.bits;
-    let a = to + hproto_put::control_size(tag, w);
-    hproto_put::put_control(out, to, tag, w);
-    hproto_put::put_number(out, a, w, v);
-    a + (w as usize)
+    let a = put_front(tag, w as usize, out, to);
+    put_digits(out, a, w, v)
 }
 
 // A field whose contents stay as they are.
@@ -65,8 +89,7 @@ fn put_plain(tag: u16, s: &[u8], out: &mut [u8], to: usize) -> usize
     ensures { λ r. ⌜ Put (now (out .entry)) to (field tag (now (s .entry))) r (now (out .exit)) ⌝ }
 {
     let n = s.len();
-    let a = to + hproto_put::control_size(tag, n as u64);
-    hproto_put::put_control(out, to, tag, n as u64);
+    let a = put_front(tag, n, out, to);
     hproto_put::put_octets(out, a, s);
     a + n
 }
@@ -109,14 +132,19 @@ fn put_value(kind: Meaning, tag: u16, s: &[u8], out: &mut [u8], to: usize) -> us
     }
 }
 
-// Puts a control part before the n octets that stand at `to`, which are final by then: the length that it says is theirs.
+// Puts a control part before the n octets that stand behind room for one octet at `to`. They are final by then: the length that it says
+// is theirs. Only where the control part takes more octets are they moved.
 fn wrap(tag: u16, out: &mut [u8], to: usize, n: usize) -> usize
     requires { ⌜ to + length (leastControl tag n) + n ≤ length (now out) ⌝ }
     ensures { λ r. ⌜ r ≡ to + length (leastControl tag n) + n ⌝ }
-    ensures { λ r. ⌜ now (out .exit) ≡ stored (moved (now (out .entry)) to n (length (leastControl tag n))) to (leastControl tag n) ⌝ }
+    ensures { λ r. ⌜ now (out .exit) ≡ stored (moved (now (out .entry)) (to + 1) n (length (leastControl tag n) - 1)) to (leastControl tag n) ⌝ }
 {
+    if tag < 14 && n < 12 {
+        out[to] = ((tag as usize) * 16 + n) as u8;
+        return to + 1 + n;
+    }
     let size = hproto_put::control_size(tag, n as u64);
-    hproto_put::move_up(out, to, n, size);
+    hproto_put::move_up(out, to + 1, n, size - 1);
     hproto_put::put_control(out, to, tag, n as u64);
     to + size + n
 }
@@ -152,8 +180,8 @@ fn write(
                 i = e;
             }
             Inner::Number(m) => {
-                let after = write(words, count, m, levels - 1, &s[a..e], out, end);
-                end = wrap(tag, out, end, after - end);
+                let after = write(words, count, m, levels - 1, &s[a..e], out, end + 1);
+                end = wrap(tag, out, end, after - (end + 1));
                 i = e;
             }
         }

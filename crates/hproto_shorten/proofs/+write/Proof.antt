@@ -176,6 +176,16 @@ write-part-write-start t c = search needs
 write-part-write-end : (t : ℕ) → write-lts.Need-part-write-end (field-at-reads.Asked, field-at-reads.Learnt, held-reads.Asked, held-reads.Learnt, put-value-reads.Asked, put-value-reads.Learnt, write-below t, write.Post, wrap-reads.Asked, wrap-reads.Learnt) (write-at t) write.Post write-Inv-loop write-μ-loop
 write-part-write-end t c = let f = c .before .before .before .before .before .before .before in let h = next-onward (es t (b t f)) (b t f .args .levels - 1) (b t f .args .number) (now (b t f .args .s)) (now (b t f .args .out)) (b t f .args .to) (fits t (b t f)) (i t f) (f .before .before .before .loop .end) (f .before .before .before .loop .out) (state t f) (more t f) (octets t (b t f)) (f .field-at .result) (found t f) .1 in omega arith
 
+write-add-write : (t : ℕ) → write-lts.Need-add-write (field-at-reads.Asked, field-at-reads.Learnt, held-reads.Asked, held-reads.Learnt, put-value-reads.Asked, put-value-reads.Learnt, write-below t, write.Post, wrap-reads.Asked, wrap-reads.Learnt) (write-at t) write.Post write-Inv-loop write-μ-loop
+write-add-write t c =
+    let f = c .before .before .before .before .before .before .before .before .before in
+    let m = c .before .before .before .m .given .0 .0 in
+    let q = message-of (f .field-at .result .kind) m (sym (c .before .before .before .before .before .held .ensures) ∙ c .before .before .before .m .given .1) in
+    let h = nested-fits (es t (b t f)) (b t f .args .levels - 1) (b t f .args .number) (now (b t f .args .s)) (now (b t f .args .out)) (b t f .args .to) (fits t (b t f)) (i t f) (f .before .before .before .loop .end) (f .before .before .before .loop .out) (state t f) (more t f) (octets t (b t f)) (f .field-at .result) (found t f) m q in
+    let l = same-length (es t (b t f)) (b t f .args .levels - 1) (b t f .args .number) (now (b t f .args .s)) (now (b t f .args .out)) (b t f .args .to) (i t f) (f .before .before .before .loop .end) (f .before .before .before .loop .out) (state t f) in
+    let g = b t f .good in
+    omega arith
+
 -- src/lib.rt:152:21
 write-write-requires : (t : ℕ) → write-lts.Need-write-requires (field-at-reads.Asked, field-at-reads.Learnt, held-reads.Asked, held-reads.Learnt, put-value-reads.Asked, put-value-reads.Learnt, write-below t, write.Post, wrap-reads.Asked, wrap-reads.Learnt) (write-at t) write.Post write-Inv-loop write-μ-loop
 write-write-requires t c κs =
@@ -186,6 +196,16 @@ write-write-requires t c κs =
     let k = h .0 in
     let p = b t f .pre .0 in
     (omega arith, (octets-part (i t f + f .field-at .result .control + f .field-at .result .contents - (i t f + f .field-at .result .control)) (i t f + f .field-at .result .control) (now (b t f .args .s)) (octets t (b t f)), (h .1, nested-fits (es t (b t f)) (b t f .args .levels - 1) (b t f .args .number) (now (b t f .args .s)) (now (b t f .args .out)) (b t f .args .to) (fits t (b t f)) (i t f) (f .before .before .before .loop .end) (f .before .before .before .loop .out) (state t f) (more t f) (octets t (b t f)) (f .field-at .result) (found t f) m q)))
+
+write-add-wrap : (t : ℕ) → write-lts.Need-add-wrap (field-at-reads.Asked, field-at-reads.Learnt, held-reads.Asked, held-reads.Learnt, put-value-reads.Asked, put-value-reads.Learnt, write-below t, write.Post, wrap-reads.Asked, wrap-reads.Learnt) (write-at t) write.Post write-Inv-loop write-μ-loop
+write-add-wrap t c =
+    let f = c .before .before .before .before .before .before .before .before .before .before .before .before .before in
+    let m = c .before .before .before .before .before .before .before .m .given .0 .0 in
+    let q = message-of (f .field-at .result .kind) m (sym (c .before .before .before .before .before .before .before .before .before .held .ensures) ∙ c .before .before .before .before .before .before .before .m .given .1) in
+    let h = nested-fits (es t (b t f)) (b t f .args .levels - 1) (b t f .args .number) (now (b t f .args .s)) (now (b t f .args .out)) (b t f .args .to) (fits t (b t f)) (i t f) (f .before .before .before .loop .end) (f .before .before .before .loop .out) (state t f) (more t f) (octets t (b t f)) (f .field-at .result) (found t f) m q in
+    let l = same-length (es t (b t f)) (b t f .args .levels - 1) (b t f .args .number) (now (b t f .args .s)) (now (b t f .args .out)) (b t f .args .to) (i t f) (f .before .before .before .loop .end) (f .before .before .before .loop .out) (state t f) in
+    let g = b t f .good in
+    omega arith
 
 -- src/lib.rt:153:43
 write-sub-wrap : (t : ℕ) → write-lts.Need-sub-wrap (field-at-reads.Asked, field-at-reads.Learnt, held-reads.Asked, held-reads.Learnt, put-value-reads.Asked, put-value-reads.Learnt, write-below t, write.Post, wrap-reads.Asked, wrap-reads.Learnt) (write-at t) write.Post write-Inv-loop write-μ-loop
@@ -250,7 +270,9 @@ pub +write-spec : {M : Type 1} → statement M
     (write-sub-write-2 t)
     (write-part-write-start t)
     (write-part-write-end t)
+    (write-add-write t)
     (write-write-requires t)
+    (write-add-wrap t)
     (write-sub-wrap t)
     (write-wrap-requires t)
     (write-loop-less-2 t)
