@@ -1,2 +1,3 @@
 pub mod Ranges
 pub mod RecordLaws
+pub mod Skipping

@@ -2,8 +2,9 @@
 use hproto_table::Loaded;
 use hproto_table::Table;
 ghost use mathlib.Core.Path.{_≡_};
-ghost use Prim.Native.Nat.{_+_, _≤_, _<_, min};
-ghost use lib.ListN.{length, take, drop};
+ghost use Prim.Native.Nat.{ℕ, _+_, _/_, _≤_, _<_, min};
+ghost use lib.Bits.{bitXor};
+ghost use lib.ListN.{length, take, drop, getD};
 ghost use Rattle.octets.specs.Number.{number};
 ghost use Rattle.hproto_table.specs.Entry.{entry};
 ghost use Rattle.hproto_table.specs.Load.{load as load-of, refused as refused-at, inRange};
@@ -123,6 +124,35 @@ fn rises(words: &[u64], n: usize) -> bool
     true
 }
 
+// Below 2^48 only where a word has a pair: without the sum it is 0 there, and nowhere else.
+fn apart(w: u64, p: u64) -> u64
+    requires { ⌜ p < 281474976710656 ⌝ }
+    ensures { λ r. ⌜ r ≡ bitXor (w / 65536) p + 281474976710655 ⌝ }
+{
+    ((w >> 16) ^ p) + 281474976710655
+}
+
+// A number of words at the front none of which has a pair, eight at once. One by one takes longer in a long table.
+fn skip(words: &[u64], n: usize, p: u64) -> usize
+    requires { ⌜ n ≤ length (now words) ⌝ }
+    requires { ⌜ p < 281474976710656 ⌝ }
+    ensures { λ r. ⌜ r ≤ n ⌝ }
+    ensures { λ r. ⌜ ((j : ℕ) → j < r → getD (now (words .entry)) j 0 / 65536 ≡ p → ⊥) ⌝ }
+{
+    let mut i = 0;
+    while 8 <= n - i {
+        let a = apart(words[i], p) & apart(words[i + 1], p);
+        let b = apart(words[i + 2], p) & apart(words[i + 3], p);
+        let c = apart(words[i + 4], p) & apart(words[i + 5], p);
+        let d = apart(words[i + 6], p) & apart(words[i + 7], p);
+        if (a & b & c & d) < 281474976710656 {
+            return i;
+        }
+        i += 8;
+    }
+    i
+}
+
 // The first of the first n words whose pair stands in a word before it; n where there is none. The outer loop runs over the later
 // word of two, so that the first repeat that is met is the one at the least place.
 fn search(words: &[u64], n: usize) -> usize
@@ -135,7 +165,7 @@ fn search(words: &[u64], n: usize) -> usize
             break n;
         }
         let p = words[later] / 65536;
-        let mut earlier = 0;
+        let mut earlier = skip(words, later, p);
         while earlier < later {
             if words[earlier] / 65536 == p {
                 break 'outer later;

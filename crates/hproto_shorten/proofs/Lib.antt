@@ -1,4 +1,5 @@
 pub mod Behind
+pub mod Directs
 pub mod Passing
 pub mod Puts
 pub mod Writing

@@ -1,4 +1,5 @@
 // The shortener: writes the shortest octets that read the same as a message.
+use hproto_field::Field;
 use hproto_table::Meaning;
 use hproto_table::Table;
 use octets::Least;
@@ -13,6 +14,7 @@ ghost use Rattle.octets.specs.Signed.{integer, leastInt};
 ghost use Rattle.octets.specs.Control.{leastControl};
 ghost use Rattle.hproto_put.specs.Store.{stored, moved};
 ghost use Rattle.hproto_table.specs.Entry.{entry};
+ghost use Rattle.hproto_field.specs.Fronts.{front as front-of};
 ghost use Rattle.hproto_message.specs.Cut.{Contents};
 ghost use Rattle.hproto_message.specs.Tree.{value};
 ghost use Rattle.hproto_message.specs.Shortest.{field, leastContents};
@@ -149,6 +151,26 @@ fn wrap(tag: u16, out: &mut [u8], to: usize, n: usize) -> usize
     to + size + n
 }
 
+// The field at the front of octets, its contents unread. Most control parts are one octet, so that case is tested first.
+fn next_field(words: &[u64], count: usize, number: u64, s: &[u8]) -> Field
+    ensures { λ r. ⌜ r ≡ front-of (map entry (take count (now (words .entry)))) number (now (s .entry)) ⌝ }
+{
+    if 0 < s.len() {
+        let c = s[0];
+        let tag = (c >> 4) as u64;
+        let n = (c & 15) as usize;
+        if tag < 14 && n < 12 && n < s.len() {
+            return Field {
+                tag,
+                kind: hproto_find::find(words, count, number, tag),
+                control: 1,
+                contents: n,
+            };
+        }
+    }
+    hproto_field::field_at(words, count, number, s)
+}
+
 // Writes the shortest form of an accepted message at `to` and answers the place after it. A nested message is written first, so that
 // its control part is chosen when its length is final.
 fn write(
@@ -168,7 +190,7 @@ fn write(
     let mut i: usize = 0;
     let mut end = to;
     while i < s.len() {
-        let f = hproto_field::field_at(words, count, number, &s[i..]);
+        let f = next_field(words, count, number, &s[i..]);
         let kind = f.kind;
         let a = i + f.control;
         let e = a + f.contents;

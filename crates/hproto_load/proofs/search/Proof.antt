@@ -1,7 +1,7 @@
 -- `search` gives what the definition says. Before each turn of the outer loop the words before the later one have no repeat; before each
 -- turn of the inner loop the later word's pair is not among the words before the earlier one.
 use lib.ListN.{getD}
-use Prim.Native.Nat.{_-_, _≤_}
+use Prim.Native.Nat.{_-_, _/_, _≤_}
 use native.Mathlib.Omega.{arith}
 use mathlib.Core.Path.{_≡_, refl, sym, _∙_}
 use mathlib.Core.Bool.{false}
@@ -9,6 +9,7 @@ use lib.ListN.{take}
 use Rattle.hproto_table.specs.Load.{pair, seen}
 use Rattle.hproto_table.specs.Repeat.{firstRepeat}
 use Rattle.hproto_table.proofs.Repeat.{searched, search-starts, search-ends, search-hits, search-moves, seen-more}
+use Rattle.hproto_load.proofs.Skipping.{seen-none}
 use Rattle.hproto_load.proofs.search.Statement.{statement}
 use Rattle.hproto_load.proofs.search.Tie as tie
 
@@ -25,7 +26,7 @@ abbrev μ-outer : tie.MeasureT-outer
 μ-outer words n later₀ later = n - later
 
 outer-holds : tie.Need-outer-holds Inv-loop μ-loop Inv-outer μ-outer
-outer-holds c = (omega arith, search-starts (c .args .words .now) (c .args .n))
+outer-holds c = (omega arith, search-starts (c .before .args .words .now) (c .before .args .n))
 
 mul-p : tie.Need-mul-p Inv-loop μ-loop Inv-outer μ-outer
 mul-p c = omega arith
@@ -33,10 +34,15 @@ mul-p c = omega arith
 shared-slice-read-p : tie.Need-shared-slice-read-p Inv-loop μ-loop Inv-outer μ-outer
 shared-slice-read-p c = omega arith
 
+skip-requires : tie.Need-skip-requires Inv-loop μ-loop Inv-outer μ-outer
+skip-requires c κs = (omega arith, omega (arith, c .shared-slice-known2 .given (c .before .before .outer .later) .fits))
+
 loop-holds : tie.Need-loop-holds Inv-loop μ-loop Inv-outer μ-outer
-unfolding seen
 loop-holds c =
-    (omega arith, refl)
+    let k = c .skip in
+    let words = c .before .before .before .before .before .args .words .now in
+    let later = c .before .before .before .outer .later in
+    (omega arith, seen-none words (getD words later 0 / 65536) (k .result) (omega arith) (k .ensures .1))
 
 mul-if2 : tie.Need-mul-if2 Inv-loop μ-loop Inv-outer μ-outer
 mul-if2 c = omega arith
@@ -53,8 +59,8 @@ loop-less c = omega arith
 loop-again : tie.Need-loop-again Inv-loop μ-loop Inv-outer μ-outer
 unfolding pair
 loop-again c =
-    let words = c .before .before .before .before .before .before .before .args .words .now in
-    let later = c .before .before .before .before .before .before .outer .later in
+    let words = c .before .before .before .before .before .before .before .before .before .args .words .now in
+    let later = c .before .before .before .before .before .before .before .outer .later in
     let l = c .before .before .before .loop in
     (omega arith, seen-more (pair (getD words later 0)) words (l .earlier) (omega arith) (l .inv .1) (c .if2 .left))
 
@@ -67,8 +73,8 @@ outer-less c = omega arith
 outer-again : tie.Need-outer-again Inv-loop μ-loop Inv-outer μ-outer
 unfolding pair
 outer-again c =
-    let a = c .before .before .before .before .before .args in
-    let o = c .before .before .before .before .outer in
+    let a = c .before .before .before .before .before .before .before .args in
+    let o = c .before .before .before .before .before .outer in
     let l = c .before .loop in
     let e : l .earlier ≡ o .later = omega arith in (
       omega arith,
@@ -77,15 +83,15 @@ outer-again c =
 
 returns : tie.Need-returns Inv-loop μ-loop Inv-outer μ-outer
 returns c =
-    let a = c .before .before .args in
+    let a = c .before .before .before .args in
     let o = c .before .outer in
     sym (o .inv .1 ∙ search-ends (a .words .now) (a .n) (o .later) (omega arith) (omega arith) (omega arith))
 
 returns-2 : tie.Need-returns-2 Inv-loop μ-loop Inv-outer μ-outer
 unfolding pair
 returns-2 c =
-    let a = c .before .before .before .before .before .before .before .args in
-    let o = c .before .before .before .before .before .before .outer in
+    let a = c .before .before .before .before .before .before .before .before .before .args in
+    let o = c .before .before .before .before .before .before .before .outer in
     let k = c .before .before .before .loop .earlier in
     sym (o .inv .1 ∙ search-hits (a .words .now) (a .n) (o .later) (omega arith) (omega arith) k (omega arith) (c .if2 .taken))
 
@@ -100,6 +106,7 @@ search-spec =
     outer-holds
     mul-p
     shared-slice-read-p
+    skip-requires
     loop-holds
     mul-if2
     shared-slice-read-if2

@@ -17,7 +17,7 @@ use borrow.Fn.PlainCycle.{Measures, is, falls, and}
 use Rattle.hproto_shorten.proofs.write.Reads as write
 use Rattle.hproto_shorten.proofs.write.Kinds as write-kinds
 use Rattle.hproto_shorten.proofs.+write.Lts-write as write-lts
-use Rattle.hproto_field.proofs.field_at.Reads as field-at-reads
+use Rattle.hproto_shorten.proofs.next_field.Reads as next-field-reads
 use Rattle.hproto_shorten.proofs.held.Reads as held-reads
 use Rattle.hproto_shorten.proofs.put_value.Reads as put-value-reads
 use Rattle.hproto_shorten.proofs.wrap.Reads as wrap-reads
@@ -41,10 +41,10 @@ write-μ-loop words count number levels s out₀ to i₀ end₀ out i end = leng
 
 -- The place after the field at the front of the octets that are left was found.
 abbrev Found : ℕ → Type 0
-Found t = write-lts.After-field-at (field-at-reads.Asked, field-at-reads.Learnt, held-reads.Asked, held-reads.Learnt, put-value-reads.Asked, put-value-reads.Learnt, write-below t, write.Post, wrap-reads.Asked, wrap-reads.Learnt) (write-at t) write.Post write-Inv-loop write-μ-loop
+Found t = write-lts.After-next-field (next-field-reads.Asked, next-field-reads.Learnt, held-reads.Asked, held-reads.Learnt, put-value-reads.Asked, put-value-reads.Learnt, write-below t, write.Post, wrap-reads.Asked, wrap-reads.Learnt) (write-at t) write.Post write-Inv-loop write-μ-loop
 
 abbrev At-start : ℕ → Type 0
-At-start t = write-lts.Start (field-at-reads.Asked, field-at-reads.Learnt, held-reads.Asked, held-reads.Learnt, put-value-reads.Asked, put-value-reads.Learnt, write-below t, write.Post, wrap-reads.Asked, wrap-reads.Learnt) (write-at t) write.Post write-Inv-loop write-μ-loop
+At-start t = write-lts.Start (next-field-reads.Asked, next-field-reads.Learnt, held-reads.Asked, held-reads.Learnt, put-value-reads.Asked, put-value-reads.Learnt, write-below t, write.Post, wrap-reads.Asked, wrap-reads.Learnt) (write-at t) write.Post write-Inv-loop write-μ-loop
 
 module _ (t : ℕ) (b : At-start t) where
   abbrev es : List Entry
@@ -75,185 +75,185 @@ module _ (t : ℕ) (c : Found t) where
   abbrev more : i < length (now (b .args .s))
   more = c .before .before .loop-test .taken
 
-  found : c .field-at .result ≡ front (es t b) (b .args .number) (drop i (now (b .args .s)))
-  found = let h = more in c .field-at .ensures ∙ rw (take-all (length (now (b .args .s)) - i) (drop i (now (b .args .s))) (simp length-drop (omega arith)))
+  found : c .next-field .result ≡ front (es t b) (b .args .number) (drop i (now (b .args .s)))
+  found = let h = more in c .next-field .ensures ∙ rw (take-all (length (now (b .args .s)) - i) (drop i (now (b .args .s))) (simp length-drop (omega arith)))
 
 -- src/lib.rt:140:5
-write-loop-holds : (t : ℕ) → write-lts.Need-loop-holds (field-at-reads.Asked, field-at-reads.Learnt, held-reads.Asked, held-reads.Learnt, put-value-reads.Asked, put-value-reads.Learnt, write-below t, write.Post, wrap-reads.Asked, wrap-reads.Learnt) (write-at t) write.Post write-Inv-loop write-μ-loop
+write-loop-holds : (t : ℕ) → write-lts.Need-loop-holds (next-field-reads.Asked, next-field-reads.Learnt, held-reads.Asked, held-reads.Learnt, put-value-reads.Asked, put-value-reads.Learnt, write-below t, write.Post, wrap-reads.Asked, wrap-reads.Learnt) (write-at t) write.Post write-Inv-loop write-μ-loop
 write-loop-holds t c =
     let s = c .before .before .before in
     begun (es t s) (s .args .levels - 1) (s .args .number) (now (s .args .s)) (now (s .args .out)) (s .args .to) (accepts t s)
 
 -- src/lib.rt:141:62
-write-sub-field-at : (t : ℕ) → write-lts.Need-sub-field-at (field-at-reads.Asked, field-at-reads.Learnt, held-reads.Asked, held-reads.Learnt, put-value-reads.Asked, put-value-reads.Learnt, write-below t, write.Post, wrap-reads.Asked, wrap-reads.Learnt) (write-at t) write.Post write-Inv-loop write-μ-loop
-write-sub-field-at t c = search needs
+write-sub-next-field : (t : ℕ) → write-lts.Need-sub-next-field (next-field-reads.Asked, next-field-reads.Learnt, held-reads.Asked, held-reads.Learnt, put-value-reads.Asked, put-value-reads.Learnt, write-below t, write.Post, wrap-reads.Asked, wrap-reads.Learnt) (write-at t) write.Post write-Inv-loop write-μ-loop
+write-sub-next-field t c = search needs
 
 -- src/lib.rt:141:62
-write-part-field-at-start : (t : ℕ) → write-lts.Need-part-field-at-start (field-at-reads.Asked, field-at-reads.Learnt, held-reads.Asked, held-reads.Learnt, put-value-reads.Asked, put-value-reads.Learnt, write-below t, write.Post, wrap-reads.Asked, wrap-reads.Learnt) (write-at t) write.Post write-Inv-loop write-μ-loop
-write-part-field-at-start t c = search needs
+write-part-next-field-start : (t : ℕ) → write-lts.Need-part-next-field-start (next-field-reads.Asked, next-field-reads.Learnt, held-reads.Asked, held-reads.Learnt, put-value-reads.Asked, put-value-reads.Learnt, write-below t, write.Post, wrap-reads.Asked, wrap-reads.Learnt) (write-at t) write.Post write-Inv-loop write-μ-loop
+write-part-next-field-start t c = search needs
 
 -- src/lib.rt:141:62
-write-part-field-at-end : (t : ℕ) → write-lts.Need-part-field-at-end (field-at-reads.Asked, field-at-reads.Learnt, held-reads.Asked, held-reads.Learnt, put-value-reads.Asked, put-value-reads.Learnt, write-below t, write.Post, wrap-reads.Asked, wrap-reads.Learnt) (write-at t) write.Post write-Inv-loop write-μ-loop
-write-part-field-at-end t c = search needs
+write-part-next-field-end : (t : ℕ) → write-lts.Need-part-next-field-end (next-field-reads.Asked, next-field-reads.Learnt, held-reads.Asked, held-reads.Learnt, put-value-reads.Asked, put-value-reads.Learnt, write-below t, write.Post, wrap-reads.Asked, wrap-reads.Learnt) (write-at t) write.Post write-Inv-loop write-μ-loop
+write-part-next-field-end t c = search needs
 
 -- src/lib.rt:141:13
-write-field-at-requires : (t : ℕ) → write-lts.Need-field-at-requires (field-at-reads.Asked, field-at-reads.Learnt, held-reads.Asked, held-reads.Learnt, put-value-reads.Asked, put-value-reads.Learnt, write-below t, write.Post, wrap-reads.Asked, wrap-reads.Learnt) (write-at t) write.Post write-Inv-loop write-μ-loop
-write-field-at-requires t c κs = search needs
+write-next-field-requires : (t : ℕ) → write-lts.Need-next-field-requires (next-field-reads.Asked, next-field-reads.Learnt, held-reads.Asked, held-reads.Learnt, put-value-reads.Asked, put-value-reads.Learnt, write-below t, write.Post, wrap-reads.Asked, wrap-reads.Learnt) (write-at t) write.Post write-Inv-loop write-μ-loop
+write-next-field-requires t c κs = search needs
 
 -- src/lib.rt:143:17
-write-add-a : (t : ℕ) → write-lts.Need-add-a (field-at-reads.Asked, field-at-reads.Learnt, held-reads.Asked, held-reads.Learnt, put-value-reads.Asked, put-value-reads.Learnt, write-below t, write.Post, wrap-reads.Asked, wrap-reads.Learnt) (write-at t) write.Post write-Inv-loop write-μ-loop
-write-add-a t c = let f = c .before in let h = next-onward (es t (b t f)) (b t f .args .levels - 1) (b t f .args .number) (now (b t f .args .s)) (now (b t f .args .out)) (b t f .args .to) (fits t (b t f)) (i t f) (f .before .before .before .loop .end) (f .before .before .before .loop .out) (state t f) (more t f) (octets t (b t f)) (f .field-at .result) (found t f) .1 in let g = b t f .good in omega arith
+write-add-a : (t : ℕ) → write-lts.Need-add-a (next-field-reads.Asked, next-field-reads.Learnt, held-reads.Asked, held-reads.Learnt, put-value-reads.Asked, put-value-reads.Learnt, write-below t, write.Post, wrap-reads.Asked, wrap-reads.Learnt) (write-at t) write.Post write-Inv-loop write-μ-loop
+write-add-a t c = let f = c .before in let h = next-onward (es t (b t f)) (b t f .args .levels - 1) (b t f .args .number) (now (b t f .args .s)) (now (b t f .args .out)) (b t f .args .to) (fits t (b t f)) (i t f) (f .before .before .before .loop .end) (f .before .before .before .loop .out) (state t f) (more t f) (octets t (b t f)) (f .next-field .result) (found t f) .1 in let g = b t f .good in omega arith
 
 -- src/lib.rt:144:17
-write-add-e : (t : ℕ) → write-lts.Need-add-e (field-at-reads.Asked, field-at-reads.Learnt, held-reads.Asked, held-reads.Learnt, put-value-reads.Asked, put-value-reads.Learnt, write-below t, write.Post, wrap-reads.Asked, wrap-reads.Learnt) (write-at t) write.Post write-Inv-loop write-μ-loop
-write-add-e t c = let f = c .before .before in let h = next-onward (es t (b t f)) (b t f .args .levels - 1) (b t f .args .number) (now (b t f .args .s)) (now (b t f .args .out)) (b t f .args .to) (fits t (b t f)) (i t f) (f .before .before .before .loop .end) (f .before .before .before .loop .out) (state t f) (more t f) (octets t (b t f)) (f .field-at .result) (found t f) .1 in let g = b t f .good in omega arith
+write-add-e : (t : ℕ) → write-lts.Need-add-e (next-field-reads.Asked, next-field-reads.Learnt, held-reads.Asked, held-reads.Learnt, put-value-reads.Asked, put-value-reads.Learnt, write-below t, write.Post, wrap-reads.Asked, wrap-reads.Learnt) (write-at t) write.Post write-Inv-loop write-μ-loop
+write-add-e t c = let f = c .before .before in let h = next-onward (es t (b t f)) (b t f .args .levels - 1) (b t f .args .number) (now (b t f .args .s)) (now (b t f .args .out)) (b t f .args .to) (fits t (b t f)) (i t f) (f .before .before .before .loop .end) (f .before .before .before .loop .out) (state t f) (more t f) (octets t (b t f)) (f .next-field .result) (found t f) .1 in let g = b t f .good in omega arith
 
 -- src/lib.rt:145:19
-write-cast-tag : (t : ℕ) → write-lts.Need-cast-tag (field-at-reads.Asked, field-at-reads.Learnt, held-reads.Asked, held-reads.Learnt, put-value-reads.Asked, put-value-reads.Learnt, write-below t, write.Post, wrap-reads.Asked, wrap-reads.Learnt) (write-at t) write.Post write-Inv-loop write-μ-loop
+write-cast-tag : (t : ℕ) → write-lts.Need-cast-tag (next-field-reads.Asked, next-field-reads.Learnt, held-reads.Asked, held-reads.Learnt, put-value-reads.Asked, put-value-reads.Learnt, write-below t, write.Post, wrap-reads.Asked, wrap-reads.Learnt) (write-at t) write.Post write-Inv-loop write-μ-loop
 write-cast-tag t c = search needs
 
 -- src/lib.rt:146:15
-write-held-requires : (t : ℕ) → write-lts.Need-held-requires (field-at-reads.Asked, field-at-reads.Learnt, held-reads.Asked, held-reads.Learnt, put-value-reads.Asked, put-value-reads.Learnt, write-below t, write.Post, wrap-reads.Asked, wrap-reads.Learnt) (write-at t) write.Post write-Inv-loop write-μ-loop
+write-held-requires : (t : ℕ) → write-lts.Need-held-requires (next-field-reads.Asked, next-field-reads.Learnt, held-reads.Asked, held-reads.Learnt, put-value-reads.Asked, put-value-reads.Learnt, write-below t, write.Post, wrap-reads.Asked, wrap-reads.Learnt) (write-at t) write.Post write-Inv-loop write-μ-loop
 write-held-requires t c κs = search needs
 
 -- src/lib.rt:148:44
-write-enum-told : (t : ℕ) → write-lts.Need-enum-told (field-at-reads.Asked, field-at-reads.Learnt, held-reads.Asked, held-reads.Learnt, put-value-reads.Asked, put-value-reads.Learnt, write-below t, write.Post, wrap-reads.Asked, wrap-reads.Learnt) (write-at t) write.Post write-Inv-loop write-μ-loop
+write-enum-told : (t : ℕ) → write-lts.Need-enum-told (next-field-reads.Asked, next-field-reads.Learnt, held-reads.Asked, held-reads.Learnt, put-value-reads.Asked, put-value-reads.Learnt, write-below t, write.Post, wrap-reads.Asked, wrap-reads.Learnt) (write-at t) write.Post write-Inv-loop write-μ-loop
 write-enum-told t c = search needs
 
 -- src/lib.rt:148:44
-write-sub-put-value : (t : ℕ) → write-lts.Need-sub-put-value (field-at-reads.Asked, field-at-reads.Learnt, held-reads.Asked, held-reads.Learnt, put-value-reads.Asked, put-value-reads.Learnt, write-below t, write.Post, wrap-reads.Asked, wrap-reads.Learnt) (write-at t) write.Post write-Inv-loop write-μ-loop
+write-sub-put-value : (t : ℕ) → write-lts.Need-sub-put-value (next-field-reads.Asked, next-field-reads.Learnt, held-reads.Asked, held-reads.Learnt, put-value-reads.Asked, put-value-reads.Learnt, write-below t, write.Post, wrap-reads.Asked, wrap-reads.Learnt) (write-at t) write.Post write-Inv-loop write-μ-loop
 write-sub-put-value t c = search needs
 
 -- src/lib.rt:148:44
-write-part-put-value-start : (t : ℕ) → write-lts.Need-part-put-value-start (field-at-reads.Asked, field-at-reads.Learnt, held-reads.Asked, held-reads.Learnt, put-value-reads.Asked, put-value-reads.Learnt, write-below t, write.Post, wrap-reads.Asked, wrap-reads.Learnt) (write-at t) write.Post write-Inv-loop write-μ-loop
+write-part-put-value-start : (t : ℕ) → write-lts.Need-part-put-value-start (next-field-reads.Asked, next-field-reads.Learnt, held-reads.Asked, held-reads.Learnt, put-value-reads.Asked, put-value-reads.Learnt, write-below t, write.Post, wrap-reads.Asked, wrap-reads.Learnt) (write-at t) write.Post write-Inv-loop write-μ-loop
 write-part-put-value-start t c = search needs
 
 -- src/lib.rt:148:44
-write-part-put-value-end : (t : ℕ) → write-lts.Need-part-put-value-end (field-at-reads.Asked, field-at-reads.Learnt, held-reads.Asked, held-reads.Learnt, put-value-reads.Asked, put-value-reads.Learnt, write-below t, write.Post, wrap-reads.Asked, wrap-reads.Learnt) (write-at t) write.Post write-Inv-loop write-μ-loop
-write-part-put-value-end t c = let f = c .before .before .before .before .before .before in let h = next-onward (es t (b t f)) (b t f .args .levels - 1) (b t f .args .number) (now (b t f .args .s)) (now (b t f .args .out)) (b t f .args .to) (fits t (b t f)) (i t f) (f .before .before .before .loop .end) (f .before .before .before .loop .out) (state t f) (more t f) (octets t (b t f)) (f .field-at .result) (found t f) .1 in omega arith
+write-part-put-value-end : (t : ℕ) → write-lts.Need-part-put-value-end (next-field-reads.Asked, next-field-reads.Learnt, held-reads.Asked, held-reads.Learnt, put-value-reads.Asked, put-value-reads.Learnt, write-below t, write.Post, wrap-reads.Asked, wrap-reads.Learnt) (write-at t) write.Post write-Inv-loop write-μ-loop
+write-part-put-value-end t c = let f = c .before .before .before .before .before .before in let h = next-onward (es t (b t f)) (b t f .args .levels - 1) (b t f .args .number) (now (b t f .args .s)) (now (b t f .args .out)) (b t f .args .to) (fits t (b t f)) (i t f) (f .before .before .before .loop .end) (f .before .before .before .loop .out) (state t f) (more t f) (octets t (b t f)) (f .next-field .result) (found t f) .1 in omega arith
 
 -- src/lib.rt:148:17
-write-put-value-requires : (t : ℕ) → write-lts.Need-put-value-requires (field-at-reads.Asked, field-at-reads.Learnt, held-reads.Asked, held-reads.Learnt, put-value-reads.Asked, put-value-reads.Learnt, write-below t, write.Post, wrap-reads.Asked, wrap-reads.Learnt) (write-at t) write.Post write-Inv-loop write-μ-loop
+write-put-value-requires : (t : ℕ) → write-lts.Need-put-value-requires (next-field-reads.Asked, next-field-reads.Learnt, held-reads.Asked, held-reads.Learnt, put-value-reads.Asked, put-value-reads.Learnt, write-below t, write.Post, wrap-reads.Asked, wrap-reads.Learnt) (write-at t) write.Post write-Inv-loop write-μ-loop
 write-put-value-requires t c κs =
     let f = c .before .before .before .before .before .before .before .before in
-    let q = plain-of (f .field-at .result .kind) (sym (c .before .before .before .before .held .ensures) ∙ c .before .before .enum-told .given .1) in (
+    let q = plain-of (f .next-field .result .kind) (sym (c .before .before .before .before .held .ensures) ∙ c .before .before .enum-told .given .1) in (
       leaf-contents (es t (b t f)) (b t f .args .levels - 1) (b t f .args .number) (now (b t f .args .s)) (i t f) (state t f .written) (state t f .passed) (more t f)
-          (f .field-at .result) (found t f) q,
-      leaf-fits (es t (b t f)) (b t f .args .levels - 1) (b t f .args .number) (now (b t f .args .s)) (now (b t f .args .out)) (b t f .args .to) (fits t (b t f)) (i t f) (f .before .before .before .loop .end) (f .before .before .before .loop .out) (state t f) (more t f) (octets t (b t f)) (f .field-at .result) (found t f) q,
+          (f .next-field .result) (found t f) q,
+      leaf-fits (es t (b t f)) (b t f .args .levels - 1) (b t f .args .number) (now (b t f .args .s)) (now (b t f .args .out)) (b t f .args .to) (fits t (b t f)) (i t f) (f .before .before .before .loop .end) (f .before .before .before .loop .out) (state t f) (more t f) (octets t (b t f)) (f .next-field .result) (found t f) q,
     )
 
 -- src/lib.rt:140:5
-write-loop-less : (t : ℕ) → write-lts.Need-loop-less (field-at-reads.Asked, field-at-reads.Learnt, held-reads.Asked, held-reads.Learnt, put-value-reads.Asked, put-value-reads.Learnt, write-below t, write.Post, wrap-reads.Asked, wrap-reads.Learnt) (write-at t) write.Post write-Inv-loop write-μ-loop
-write-loop-less t c = let f = c .before .before .before .before .before .before .before .before .before .before .before in let h = next-onward (es t (b t f)) (b t f .args .levels - 1) (b t f .args .number) (now (b t f .args .s)) (now (b t f .args .out)) (b t f .args .to) (fits t (b t f)) (i t f) (f .before .before .before .loop .end) (f .before .before .before .loop .out) (state t f) (more t f) (octets t (b t f)) (f .field-at .result) (found t f) in let p = h .0 in let q = h .1 in omega arith
+write-loop-less : (t : ℕ) → write-lts.Need-loop-less (next-field-reads.Asked, next-field-reads.Learnt, held-reads.Asked, held-reads.Learnt, put-value-reads.Asked, put-value-reads.Learnt, write-below t, write.Post, wrap-reads.Asked, wrap-reads.Learnt) (write-at t) write.Post write-Inv-loop write-μ-loop
+write-loop-less t c = let f = c .before .before .before .before .before .before .before .before .before .before .before in let h = next-onward (es t (b t f)) (b t f .args .levels - 1) (b t f .args .number) (now (b t f .args .s)) (now (b t f .args .out)) (b t f .args .to) (fits t (b t f)) (i t f) (f .before .before .before .loop .end) (f .before .before .before .loop .out) (state t f) (more t f) (octets t (b t f)) (f .next-field .result) (found t f) in let p = h .0 in let q = h .1 in omega arith
 
 -- src/lib.rt:140:5
-write-loop-again : (t : ℕ) → write-lts.Need-loop-again (field-at-reads.Asked, field-at-reads.Learnt, held-reads.Asked, held-reads.Learnt, put-value-reads.Asked, put-value-reads.Learnt, write-below t, write.Post, wrap-reads.Asked, wrap-reads.Learnt) (write-at t) write.Post write-Inv-loop write-μ-loop
+write-loop-again : (t : ℕ) → write-lts.Need-loop-again (next-field-reads.Asked, next-field-reads.Learnt, held-reads.Asked, held-reads.Learnt, put-value-reads.Asked, put-value-reads.Learnt, write-below t, write.Post, wrap-reads.Asked, wrap-reads.Learnt) (write-at t) write.Post write-Inv-loop write-μ-loop
 write-loop-again t c =
     let f = c .before .before .before .before .before .before .before .before .before .before .before in
-    let q = plain-of (f .field-at .result .kind) (sym (c .before .before .before .before .before .before .before .held .ensures) ∙ c .before .before .before .before .before .enum-told .given .1) in
-    leaf-written (es t (b t f)) (b t f .args .levels - 1) (b t f .args .number) (now (b t f .args .s)) (now (b t f .args .out)) (b t f .args .to) (fits t (b t f)) (i t f) (f .before .before .before .loop .end) (f .before .before .before .loop .out) (state t f) (more t f) (octets t (b t f)) (f .field-at .result) (found t f) (c .before .before .put-value .result) (c .before .before .put-value .last .1 .1 .1 .0) q (c .before .before .put-value .ensures)
+    let q = plain-of (f .next-field .result .kind) (sym (c .before .before .before .before .before .before .before .held .ensures) ∙ c .before .before .before .before .before .enum-told .given .1) in
+    leaf-written (es t (b t f)) (b t f .args .levels - 1) (b t f .args .number) (now (b t f .args .s)) (now (b t f .args .out)) (b t f .args .to) (fits t (b t f)) (i t f) (f .before .before .before .loop .end) (f .before .before .before .loop .out) (state t f) (more t f) (octets t (b t f)) (f .next-field .result) (found t f) (c .before .before .put-value .result) (c .before .before .put-value .last .1 .1 .1 .0) q (c .before .before .put-value .ensures)
 
 -- src/lib.rt:151:27
-write-enum-known-m : (t : ℕ) → write-lts.Need-enum-known-m (field-at-reads.Asked, field-at-reads.Learnt, held-reads.Asked, held-reads.Learnt, put-value-reads.Asked, put-value-reads.Learnt, write-below t, write.Post, wrap-reads.Asked, wrap-reads.Learnt) (write-at t) write.Post write-Inv-loop write-μ-loop
+write-enum-known-m : (t : ℕ) → write-lts.Need-enum-known-m (next-field-reads.Asked, next-field-reads.Learnt, held-reads.Asked, held-reads.Learnt, put-value-reads.Asked, put-value-reads.Learnt, write-below t, write.Post, wrap-reads.Asked, wrap-reads.Learnt) (write-at t) write.Post write-Inv-loop write-μ-loop
 write-enum-known-m t c = search needs
 
 -- src/lib.rt:152:52
-write-sub-write : (t : ℕ) → write-lts.Need-sub-write (field-at-reads.Asked, field-at-reads.Learnt, held-reads.Asked, held-reads.Learnt, put-value-reads.Asked, put-value-reads.Learnt, write-below t, write.Post, wrap-reads.Asked, wrap-reads.Learnt) (write-at t) write.Post write-Inv-loop write-μ-loop
+write-sub-write : (t : ℕ) → write-lts.Need-sub-write (next-field-reads.Asked, next-field-reads.Learnt, held-reads.Asked, held-reads.Learnt, put-value-reads.Asked, put-value-reads.Learnt, write-below t, write.Post, wrap-reads.Asked, wrap-reads.Learnt) (write-at t) write.Post write-Inv-loop write-μ-loop
 write-sub-write t c =
     let f = c .before .before .before .before .before .before .before in
-    let h = nested-accepts (es t (b t f)) (b t f .args .levels - 1) (b t f .args .number) (now (b t f .args .s)) (now (b t f .args .out)) (b t f .args .to) (fits t (b t f)) (i t f) (f .before .before .before .loop .end) (f .before .before .before .loop .out) (state t f) (more t f) (octets t (b t f)) (f .field-at .result) (found t f) (c .before .m .given .0 .0) (message-of (f .field-at .result .kind) (c .before .m .given .0 .0) (sym (c .before .before .before .held .ensures) ∙ c .before .m .given .1)) .0 in
+    let h = nested-accepts (es t (b t f)) (b t f .args .levels - 1) (b t f .args .number) (now (b t f .args .s)) (now (b t f .args .out)) (b t f .args .to) (fits t (b t f)) (i t f) (f .before .before .before .loop .end) (f .before .before .before .loop .out) (state t f) (more t f) (octets t (b t f)) (f .next-field .result) (found t f) (c .before .m .given .0 .0) (message-of (f .next-field .result .kind) (c .before .m .given .0 .0) (sym (c .before .before .before .held .ensures) ∙ c .before .m .given .1)) .0 in
     omega arith
 
 -- src/lib.rt:152:62
-write-sub-write-2 : (t : ℕ) → write-lts.Need-sub-write-2 (field-at-reads.Asked, field-at-reads.Learnt, held-reads.Asked, held-reads.Learnt, put-value-reads.Asked, put-value-reads.Learnt, write-below t, write.Post, wrap-reads.Asked, wrap-reads.Learnt) (write-at t) write.Post write-Inv-loop write-μ-loop
+write-sub-write-2 : (t : ℕ) → write-lts.Need-sub-write-2 (next-field-reads.Asked, next-field-reads.Learnt, held-reads.Asked, held-reads.Learnt, put-value-reads.Asked, put-value-reads.Learnt, write-below t, write.Post, wrap-reads.Asked, wrap-reads.Learnt) (write-at t) write.Post write-Inv-loop write-μ-loop
 write-sub-write-2 t c = search needs
 
 -- src/lib.rt:152:62
-write-part-write-start : (t : ℕ) → write-lts.Need-part-write-start (field-at-reads.Asked, field-at-reads.Learnt, held-reads.Asked, held-reads.Learnt, put-value-reads.Asked, put-value-reads.Learnt, write-below t, write.Post, wrap-reads.Asked, wrap-reads.Learnt) (write-at t) write.Post write-Inv-loop write-μ-loop
+write-part-write-start : (t : ℕ) → write-lts.Need-part-write-start (next-field-reads.Asked, next-field-reads.Learnt, held-reads.Asked, held-reads.Learnt, put-value-reads.Asked, put-value-reads.Learnt, write-below t, write.Post, wrap-reads.Asked, wrap-reads.Learnt) (write-at t) write.Post write-Inv-loop write-μ-loop
 write-part-write-start t c = search needs
 
 -- src/lib.rt:152:62
-write-part-write-end : (t : ℕ) → write-lts.Need-part-write-end (field-at-reads.Asked, field-at-reads.Learnt, held-reads.Asked, held-reads.Learnt, put-value-reads.Asked, put-value-reads.Learnt, write-below t, write.Post, wrap-reads.Asked, wrap-reads.Learnt) (write-at t) write.Post write-Inv-loop write-μ-loop
-write-part-write-end t c = let f = c .before .before .before .before .before .before .before in let h = next-onward (es t (b t f)) (b t f .args .levels - 1) (b t f .args .number) (now (b t f .args .s)) (now (b t f .args .out)) (b t f .args .to) (fits t (b t f)) (i t f) (f .before .before .before .loop .end) (f .before .before .before .loop .out) (state t f) (more t f) (octets t (b t f)) (f .field-at .result) (found t f) .1 in omega arith
+write-part-write-end : (t : ℕ) → write-lts.Need-part-write-end (next-field-reads.Asked, next-field-reads.Learnt, held-reads.Asked, held-reads.Learnt, put-value-reads.Asked, put-value-reads.Learnt, write-below t, write.Post, wrap-reads.Asked, wrap-reads.Learnt) (write-at t) write.Post write-Inv-loop write-μ-loop
+write-part-write-end t c = let f = c .before .before .before .before .before .before .before in let h = next-onward (es t (b t f)) (b t f .args .levels - 1) (b t f .args .number) (now (b t f .args .s)) (now (b t f .args .out)) (b t f .args .to) (fits t (b t f)) (i t f) (f .before .before .before .loop .end) (f .before .before .before .loop .out) (state t f) (more t f) (octets t (b t f)) (f .next-field .result) (found t f) .1 in omega arith
 
-write-add-write : (t : ℕ) → write-lts.Need-add-write (field-at-reads.Asked, field-at-reads.Learnt, held-reads.Asked, held-reads.Learnt, put-value-reads.Asked, put-value-reads.Learnt, write-below t, write.Post, wrap-reads.Asked, wrap-reads.Learnt) (write-at t) write.Post write-Inv-loop write-μ-loop
+write-add-write : (t : ℕ) → write-lts.Need-add-write (next-field-reads.Asked, next-field-reads.Learnt, held-reads.Asked, held-reads.Learnt, put-value-reads.Asked, put-value-reads.Learnt, write-below t, write.Post, wrap-reads.Asked, wrap-reads.Learnt) (write-at t) write.Post write-Inv-loop write-μ-loop
 write-add-write t c =
     let f = c .before .before .before .before .before .before .before .before .before in
     let m = c .before .before .before .m .given .0 .0 in
-    let q = message-of (f .field-at .result .kind) m (sym (c .before .before .before .before .before .held .ensures) ∙ c .before .before .before .m .given .1) in
-    let h = nested-fits (es t (b t f)) (b t f .args .levels - 1) (b t f .args .number) (now (b t f .args .s)) (now (b t f .args .out)) (b t f .args .to) (fits t (b t f)) (i t f) (f .before .before .before .loop .end) (f .before .before .before .loop .out) (state t f) (more t f) (octets t (b t f)) (f .field-at .result) (found t f) m q in
+    let q = message-of (f .next-field .result .kind) m (sym (c .before .before .before .before .before .held .ensures) ∙ c .before .before .before .m .given .1) in
+    let h = nested-fits (es t (b t f)) (b t f .args .levels - 1) (b t f .args .number) (now (b t f .args .s)) (now (b t f .args .out)) (b t f .args .to) (fits t (b t f)) (i t f) (f .before .before .before .loop .end) (f .before .before .before .loop .out) (state t f) (more t f) (octets t (b t f)) (f .next-field .result) (found t f) m q in
     let l = same-length (es t (b t f)) (b t f .args .levels - 1) (b t f .args .number) (now (b t f .args .s)) (now (b t f .args .out)) (b t f .args .to) (i t f) (f .before .before .before .loop .end) (f .before .before .before .loop .out) (state t f) in
     let g = b t f .good in
     omega arith
 
 -- src/lib.rt:152:21
-write-write-requires : (t : ℕ) → write-lts.Need-write-requires (field-at-reads.Asked, field-at-reads.Learnt, held-reads.Asked, held-reads.Learnt, put-value-reads.Asked, put-value-reads.Learnt, write-below t, write.Post, wrap-reads.Asked, wrap-reads.Learnt) (write-at t) write.Post write-Inv-loop write-μ-loop
+write-write-requires : (t : ℕ) → write-lts.Need-write-requires (next-field-reads.Asked, next-field-reads.Learnt, held-reads.Asked, held-reads.Learnt, put-value-reads.Asked, put-value-reads.Learnt, write-below t, write.Post, wrap-reads.Asked, wrap-reads.Learnt) (write-at t) write.Post write-Inv-loop write-μ-loop
 write-write-requires t c κs =
     let f = c .before .before .before .before .before .before .before .before .before in
     let m = c .before .before .before .m .given .0 .0 in
-    let q = message-of (f .field-at .result .kind) (c .before .before .before .m .given .0 .0) (sym (c .before .before .before .before .before .held .ensures) ∙ c .before .before .before .m .given .1) in
-    let h = nested-accepts (es t (b t f)) (b t f .args .levels - 1) (b t f .args .number) (now (b t f .args .s)) (now (b t f .args .out)) (b t f .args .to) (fits t (b t f)) (i t f) (f .before .before .before .loop .end) (f .before .before .before .loop .out) (state t f) (more t f) (octets t (b t f)) (f .field-at .result) (found t f) m q in
+    let q = message-of (f .next-field .result .kind) (c .before .before .before .m .given .0 .0) (sym (c .before .before .before .before .before .held .ensures) ∙ c .before .before .before .m .given .1) in
+    let h = nested-accepts (es t (b t f)) (b t f .args .levels - 1) (b t f .args .number) (now (b t f .args .s)) (now (b t f .args .out)) (b t f .args .to) (fits t (b t f)) (i t f) (f .before .before .before .loop .end) (f .before .before .before .loop .out) (state t f) (more t f) (octets t (b t f)) (f .next-field .result) (found t f) m q in
     let k = h .0 in
     let p = b t f .pre .0 in
-    (omega arith, (octets-part (i t f + f .field-at .result .control + f .field-at .result .contents - (i t f + f .field-at .result .control)) (i t f + f .field-at .result .control) (now (b t f .args .s)) (octets t (b t f)), (h .1, nested-fits (es t (b t f)) (b t f .args .levels - 1) (b t f .args .number) (now (b t f .args .s)) (now (b t f .args .out)) (b t f .args .to) (fits t (b t f)) (i t f) (f .before .before .before .loop .end) (f .before .before .before .loop .out) (state t f) (more t f) (octets t (b t f)) (f .field-at .result) (found t f) m q)))
+    (omega arith, (octets-part (i t f + f .next-field .result .control + f .next-field .result .contents - (i t f + f .next-field .result .control)) (i t f + f .next-field .result .control) (now (b t f .args .s)) (octets t (b t f)), (h .1, nested-fits (es t (b t f)) (b t f .args .levels - 1) (b t f .args .number) (now (b t f .args .s)) (now (b t f .args .out)) (b t f .args .to) (fits t (b t f)) (i t f) (f .before .before .before .loop .end) (f .before .before .before .loop .out) (state t f) (more t f) (octets t (b t f)) (f .next-field .result) (found t f) m q)))
 
-write-add-wrap : (t : ℕ) → write-lts.Need-add-wrap (field-at-reads.Asked, field-at-reads.Learnt, held-reads.Asked, held-reads.Learnt, put-value-reads.Asked, put-value-reads.Learnt, write-below t, write.Post, wrap-reads.Asked, wrap-reads.Learnt) (write-at t) write.Post write-Inv-loop write-μ-loop
+write-add-wrap : (t : ℕ) → write-lts.Need-add-wrap (next-field-reads.Asked, next-field-reads.Learnt, held-reads.Asked, held-reads.Learnt, put-value-reads.Asked, put-value-reads.Learnt, write-below t, write.Post, wrap-reads.Asked, wrap-reads.Learnt) (write-at t) write.Post write-Inv-loop write-μ-loop
 write-add-wrap t c =
     let f = c .before .before .before .before .before .before .before .before .before .before .before .before .before in
     let m = c .before .before .before .before .before .before .before .m .given .0 .0 in
-    let q = message-of (f .field-at .result .kind) m (sym (c .before .before .before .before .before .before .before .before .before .held .ensures) ∙ c .before .before .before .before .before .before .before .m .given .1) in
-    let h = nested-fits (es t (b t f)) (b t f .args .levels - 1) (b t f .args .number) (now (b t f .args .s)) (now (b t f .args .out)) (b t f .args .to) (fits t (b t f)) (i t f) (f .before .before .before .loop .end) (f .before .before .before .loop .out) (state t f) (more t f) (octets t (b t f)) (f .field-at .result) (found t f) m q in
+    let q = message-of (f .next-field .result .kind) m (sym (c .before .before .before .before .before .before .before .before .before .held .ensures) ∙ c .before .before .before .before .before .before .before .m .given .1) in
+    let h = nested-fits (es t (b t f)) (b t f .args .levels - 1) (b t f .args .number) (now (b t f .args .s)) (now (b t f .args .out)) (b t f .args .to) (fits t (b t f)) (i t f) (f .before .before .before .loop .end) (f .before .before .before .loop .out) (state t f) (more t f) (octets t (b t f)) (f .next-field .result) (found t f) m q in
     let l = same-length (es t (b t f)) (b t f .args .levels - 1) (b t f .args .number) (now (b t f .args .s)) (now (b t f .args .out)) (b t f .args .to) (i t f) (f .before .before .before .loop .end) (f .before .before .before .loop .out) (state t f) in
     let g = b t f .good in
     omega arith
 
 -- src/lib.rt:153:43
-write-sub-wrap : (t : ℕ) → write-lts.Need-sub-wrap (field-at-reads.Asked, field-at-reads.Learnt, held-reads.Asked, held-reads.Learnt, put-value-reads.Asked, put-value-reads.Learnt, write-below t, write.Post, wrap-reads.Asked, wrap-reads.Learnt) (write-at t) write.Post write-Inv-loop write-μ-loop
+write-sub-wrap : (t : ℕ) → write-lts.Need-sub-wrap (next-field-reads.Asked, next-field-reads.Learnt, held-reads.Asked, held-reads.Learnt, put-value-reads.Asked, put-value-reads.Learnt, write-below t, write.Post, wrap-reads.Asked, wrap-reads.Learnt) (write-at t) write.Post write-Inv-loop write-μ-loop
 write-sub-wrap t c =
     let f = c .before .before .before .before .before .before .before .before .before .before .before .before .before in
-    inner-after (es t (b t f)) (b t f .args .levels - 1) (b t f .args .number) (now (b t f .args .s)) (now (b t f .args .out)) (b t f .args .to) (fits t (b t f)) (i t f) (f .before .before .before .loop .end) (f .before .before .before .loop .out) (state t f) (more t f) (octets t (b t f)) (f .field-at .result) (found t f) (c .before .before .before .before .before .before .before .m .given .0 .0) (message-of (f .field-at .result .kind) (c .before .before .before .before .before .before .before .m .given .0 .0) (sym (c .before .before .before .before .before .before .before .before .before .held .ensures) ∙ c .before .before .before .before .before .before .before .m .given .1)) (c .before .before .before .write .result) (c .before .before .before .write .last .1 .1 .1 .1 .1 .0) (c .before .before .before .write .ensures)
+    inner-after (es t (b t f)) (b t f .args .levels - 1) (b t f .args .number) (now (b t f .args .s)) (now (b t f .args .out)) (b t f .args .to) (fits t (b t f)) (i t f) (f .before .before .before .loop .end) (f .before .before .before .loop .out) (state t f) (more t f) (octets t (b t f)) (f .next-field .result) (found t f) (c .before .before .before .before .before .before .before .m .given .0 .0) (message-of (f .next-field .result .kind) (c .before .before .before .before .before .before .before .m .given .0 .0) (sym (c .before .before .before .before .before .before .before .before .before .held .ensures) ∙ c .before .before .before .before .before .before .before .m .given .1)) (c .before .before .before .write .result) (c .before .before .before .write .last .1 .1 .1 .1 .1 .0) (c .before .before .before .write .ensures)
 
 -- src/lib.rt:153:17
-write-wrap-requires : (t : ℕ) → write-lts.Need-wrap-requires (field-at-reads.Asked, field-at-reads.Learnt, held-reads.Asked, held-reads.Learnt, put-value-reads.Asked, put-value-reads.Learnt, write-below t, write.Post, wrap-reads.Asked, wrap-reads.Learnt) (write-at t) write.Post write-Inv-loop write-μ-loop
+write-wrap-requires : (t : ℕ) → write-lts.Need-wrap-requires (next-field-reads.Asked, next-field-reads.Learnt, held-reads.Asked, held-reads.Learnt, put-value-reads.Asked, put-value-reads.Learnt, write-below t, write.Post, wrap-reads.Asked, wrap-reads.Learnt) (write-at t) write.Post write-Inv-loop write-μ-loop
 write-wrap-requires t c κs =
     let f = c .before .before .before .before .before .before .before .before .before .before .before .before .before in
-    wrap-fits (es t (b t f)) (b t f .args .levels - 1) (b t f .args .number) (now (b t f .args .s)) (now (b t f .args .out)) (b t f .args .to) (fits t (b t f)) (i t f) (f .before .before .before .loop .end) (f .before .before .before .loop .out) (state t f) (more t f) (octets t (b t f)) (f .field-at .result) (found t f) (c .before .before .before .before .before .before .before .m .given .0 .0) (message-of (f .field-at .result .kind) (c .before .before .before .before .before .before .before .m .given .0 .0) (sym (c .before .before .before .before .before .before .before .before .before .held .ensures) ∙ c .before .before .before .before .before .before .before .m .given .1)) (c .before .before .before .write .result) (c .before .before .before .write .last .1 .1 .1 .1 .1 .0) (c .before .before .before .write .ensures)
+    wrap-fits (es t (b t f)) (b t f .args .levels - 1) (b t f .args .number) (now (b t f .args .s)) (now (b t f .args .out)) (b t f .args .to) (fits t (b t f)) (i t f) (f .before .before .before .loop .end) (f .before .before .before .loop .out) (state t f) (more t f) (octets t (b t f)) (f .next-field .result) (found t f) (c .before .before .before .before .before .before .before .m .given .0 .0) (message-of (f .next-field .result .kind) (c .before .before .before .before .before .before .before .m .given .0 .0) (sym (c .before .before .before .before .before .before .before .before .before .held .ensures) ∙ c .before .before .before .before .before .before .before .m .given .1)) (c .before .before .before .write .result) (c .before .before .before .write .last .1 .1 .1 .1 .1 .0) (c .before .before .before .write .ensures)
 
 -- src/lib.rt:140:5
-write-loop-less-2 : (t : ℕ) → write-lts.Need-loop-less-2 (field-at-reads.Asked, field-at-reads.Learnt, held-reads.Asked, held-reads.Learnt, put-value-reads.Asked, put-value-reads.Learnt, write-below t, write.Post, wrap-reads.Asked, wrap-reads.Learnt) (write-at t) write.Post write-Inv-loop write-μ-loop
-write-loop-less-2 t c = let f = c .before .before .before .before .before .before .before .before .before .before .before .before .before .before .before .before in let h = next-onward (es t (b t f)) (b t f .args .levels - 1) (b t f .args .number) (now (b t f .args .s)) (now (b t f .args .out)) (b t f .args .to) (fits t (b t f)) (i t f) (f .before .before .before .loop .end) (f .before .before .before .loop .out) (state t f) (more t f) (octets t (b t f)) (f .field-at .result) (found t f) in let p = h .0 in let q = h .1 in omega arith
+write-loop-less-2 : (t : ℕ) → write-lts.Need-loop-less-2 (next-field-reads.Asked, next-field-reads.Learnt, held-reads.Asked, held-reads.Learnt, put-value-reads.Asked, put-value-reads.Learnt, write-below t, write.Post, wrap-reads.Asked, wrap-reads.Learnt) (write-at t) write.Post write-Inv-loop write-μ-loop
+write-loop-less-2 t c = let f = c .before .before .before .before .before .before .before .before .before .before .before .before .before .before .before .before in let h = next-onward (es t (b t f)) (b t f .args .levels - 1) (b t f .args .number) (now (b t f .args .s)) (now (b t f .args .out)) (b t f .args .to) (fits t (b t f)) (i t f) (f .before .before .before .loop .end) (f .before .before .before .loop .out) (state t f) (more t f) (octets t (b t f)) (f .next-field .result) (found t f) in let p = h .0 in let q = h .1 in omega arith
 
 -- src/lib.rt:140:5
-write-loop-again-2 : (t : ℕ) → write-lts.Need-loop-again-2 (field-at-reads.Asked, field-at-reads.Learnt, held-reads.Asked, held-reads.Learnt, put-value-reads.Asked, put-value-reads.Learnt, write-below t, write.Post, wrap-reads.Asked, wrap-reads.Learnt) (write-at t) write.Post write-Inv-loop write-μ-loop
+write-loop-again-2 : (t : ℕ) → write-lts.Need-loop-again-2 (next-field-reads.Asked, next-field-reads.Learnt, held-reads.Asked, held-reads.Learnt, put-value-reads.Asked, put-value-reads.Learnt, write-below t, write.Post, wrap-reads.Asked, wrap-reads.Learnt) (write-at t) write.Post write-Inv-loop write-μ-loop
 write-loop-again-2 t c =
     let f = c .before .before .before .before .before .before .before .before .before .before .before .before .before .before .before .before in
-    nested-written (es t (b t f)) (b t f .args .levels - 1) (b t f .args .number) (now (b t f .args .s)) (now (b t f .args .out)) (b t f .args .to) (fits t (b t f)) (i t f) (f .before .before .before .loop .end) (f .before .before .before .loop .out) (state t f) (more t f) (octets t (b t f)) (f .field-at .result) (found t f) (c .before .before .before .before .before .before .before .before .before .before .m .given .0 .0) (message-of (f .field-at .result .kind) (c .before .before .before .before .before .before .before .before .before .before .m .given .0 .0) (sym (c .before .before .before .before .before .before .before .before .before .before .before .before .held .ensures) ∙ c .before .before .before .before .before .before .before .before .before .before .m .given .1)) (c .before .before .before .before .before .before .write .result) (c .before .before .before .before .before .before .write .last .1 .1 .1 .1 .1 .0) (c .before .before .before .before .before .before .write .ensures)
+    nested-written (es t (b t f)) (b t f .args .levels - 1) (b t f .args .number) (now (b t f .args .s)) (now (b t f .args .out)) (b t f .args .to) (fits t (b t f)) (i t f) (f .before .before .before .loop .end) (f .before .before .before .loop .out) (state t f) (more t f) (octets t (b t f)) (f .next-field .result) (found t f) (c .before .before .before .before .before .before .before .before .before .before .m .given .0 .0) (message-of (f .next-field .result .kind) (c .before .before .before .before .before .before .before .before .before .before .m .given .0 .0) (sym (c .before .before .before .before .before .before .before .before .before .before .before .before .held .ensures) ∙ c .before .before .before .before .before .before .before .before .before .before .m .given .1)) (c .before .before .before .before .before .before .write .result) (c .before .before .before .before .before .before .write .last .1 .1 .1 .1 .1 .0) (c .before .before .before .before .before .before .write .ensures)
     (c .before .before .wrap .result) (c .before .before .wrap .last .1 .0) (c .before .before .wrap .ensures .0) (c .before .before .wrap .ensures .1)
 
 -- src/lib.rt:124:1
-write-same-length : (t : ℕ) → write-lts.Need-same-length (field-at-reads.Asked, field-at-reads.Learnt, held-reads.Asked, held-reads.Learnt, put-value-reads.Asked, put-value-reads.Learnt, write-below t, write.Post, wrap-reads.Asked, wrap-reads.Learnt) (write-at t) write.Post write-Inv-loop write-μ-loop
+write-same-length : (t : ℕ) → write-lts.Need-same-length (next-field-reads.Asked, next-field-reads.Learnt, held-reads.Asked, held-reads.Learnt, put-value-reads.Asked, put-value-reads.Learnt, write-below t, write.Post, wrap-reads.Asked, wrap-reads.Learnt) (write-at t) write.Post write-Inv-loop write-μ-loop
 write-same-length t c =
     let s = c .before .before .before .before .before in
     same-length (es t s) (s .args .levels - 1) (s .args .number) (now (s .args .s)) (now (s .args .out)) (s .args .to) (c .before .loop .i) (c .before .loop .end) (c .before .loop .out) (c .before .loop .inv)
 
 -- src/lib.rt:124:1
-write-returns : (t : ℕ) → write-lts.Need-returns (field-at-reads.Asked, field-at-reads.Learnt, held-reads.Asked, held-reads.Learnt, put-value-reads.Asked, put-value-reads.Learnt, write-below t, write.Post, wrap-reads.Asked, wrap-reads.Learnt) (write-at t) write.Post write-Inv-loop write-μ-loop
+write-returns : (t : ℕ) → write-lts.Need-returns (next-field-reads.Asked, next-field-reads.Learnt, held-reads.Asked, held-reads.Learnt, put-value-reads.Asked, put-value-reads.Learnt, write-below t, write.Post, wrap-reads.Asked, wrap-reads.Learnt) (write-at t) write.Post write-Inv-loop write-μ-loop
 write-returns t c =
     let s = c .before .before .before .before .before in
     subst (λ (r : ℕ). Put (now (s .args .out)) (s .args .to) (short (es t s) r (s .args .number) (now (s .args .s))) (c .before .loop .end) (c .before .loop .out)) (levels-is t s)
     (ended (es t s) (s .args .levels - 1) (s .args .number) (now (s .args .s)) (now (s .args .out)) (s .args .to) (c .before .loop .i) (c .before .loop .end) (c .before .loop .out) (c .before .loop .inv) (c .loop-test .left))
 
 pub +write-spec : {M : Type 1} → statement M
-+write-spec = close μ-write λ t. write-lts.spec (field-at-reads.Asked, field-at-reads.Learnt, held-reads.Asked, held-reads.Learnt, put-value-reads.Asked, put-value-reads.Learnt, write-below t, write.Post, wrap-reads.Asked, wrap-reads.Learnt)
++write-spec = close μ-write λ t. write-lts.spec (next-field-reads.Asked, next-field-reads.Learnt, held-reads.Asked, held-reads.Learnt, put-value-reads.Asked, put-value-reads.Learnt, write-below t, write.Post, wrap-reads.Asked, wrap-reads.Learnt)
     (write-at t)
     write.Post
     write-Inv-loop
     write-μ-loop
     (write-loop-holds t)
-    (write-sub-field-at t)
-    (write-part-field-at-start t)
-    (write-part-field-at-end t)
-    (write-field-at-requires t)
+    (write-sub-next-field t)
+    (write-part-next-field-start t)
+    (write-part-next-field-end t)
+    (write-next-field-requires t)
     (write-add-a t)
     (write-add-e t)
     (write-cast-tag t)

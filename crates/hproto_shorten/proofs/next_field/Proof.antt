@@ -1,0 +1,62 @@
+use borrow.Author.Needs.{needs}
+use native.Mathlib.Omega.{arith}
+use Prim.Native.Nat.{_/_}
+use mathlib.Core.Path.{refl}
+use mathlib.Core.List.{map}
+use denote.Ref.{now}
+use lib.Bits.{bitAnd, mask-lt}
+use lib.ListN.{getD, length, take}
+use borrow.Author.Tests.{ltb-true}
+use Rattle.hproto_table.specs.Entry.{entry}
+use Rattle.hproto_shorten.proofs.Directs.{direct-front}
+use Rattle.hproto_shorten.proofs.next_field.Statement.{statement}
+use Rattle.hproto_shorten.proofs.next_field.Tie as tie
+use Rattle.hproto_shorten.proofs.next_field.Reads as reads
+use Rattle.hproto_shorten.proofs.next_field.Lts as lts
+use Rattle.hproto_field.proofs.field_at.Reads as field-at-reads
+use Rattle.hproto_find.proofs.find.Reads as find-reads
+
+-- src/lib.rt:159:17
+shared-slice-read-c : tie.Need-shared-slice-read-c
+shared-slice-read-c c = search needs
+
+-- src/lib.rt:160:19
+cast-tag : tie.Need-cast-tag
+cast-tag c = let h = c .before .before .shared-slice-known2 .given 0 .fits in omega arith
+
+-- src/lib.rt:161:17
+cast-n : tie.Need-cast-n
+cast-n c = let h = mask-lt (getD (now (c .before .before .before .before .args .s)) 0 0) 4 in omega arith
+
+-- src/lib.rt:165:23
+find-requires : tie.Need-find-requires
+find-requires c κs = search needs
+
+-- src/lib.rt:163:13
+returns : tie.Need-returns
+returns c =
+    let a = c .before .before .before .before .before .before .before .before .args in
+    let s = now (a .s) in
+    let x = getD s 0 0 in
+    direct-front (map entry (take (a .count) (now (a .words)))) (a .number) s (x / 16) (bitAnd x 15) (c .find .result) refl refl
+    (c .before .before .before .if2 .taken) (ltb-true (bitAnd x 15) 12 (c .before .before .if3 .taken)) (ltb-true (bitAnd x 15) (length s) (c .before .if4 .taken)) (c .find .ensures)
+
+-- src/lib.rt:171:5
+field-at-requires : tie.Need-field-at-requires
+field-at-requires c κs = search needs
+
+-- src/lib.rt:155:1
+returns-2 : tie.Need-returns-2
+returns-2 c = search needs
+
+pub next-field-spec : {M : Type 1} → statement M
+next-field-spec =
+    tie.close
+    (tie.spec
+    shared-slice-read-c
+    cast-tag
+    cast-n
+    find-requires
+    returns
+    field-at-requires
+    returns-2)
