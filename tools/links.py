@@ -1,10 +1,13 @@
 #!/usr/bin/env python3
-"""Checks the links of the pages: every target exists, and a link whose text is code, as [`name`](file), has that name in the file.
-Run at the project's root: python3 tools/links.py"""
+"""Checks the links of the pages: every target exists, and a link whose text is code, as [`name`](file), has that name in the file. In
+docs/DEMANDS.md a name in code with an underscore that is no link has to be a must-fail edit. Run at the project's root: python3 tools/links.py"""
+import glob
 import os
 import re
 import sys
 
+DEMANDS = os.path.join('docs', 'DEMANDS.md')
+EDIT = re.compile(r'`([a-z0-9]+(?:_[a-z0-9]+)+)`')
 LINK = re.compile(r'\[([^\]]+)\]\(([^)\s]+)\)')
 
 
@@ -30,8 +33,15 @@ def faults(page):
                 yield f'{page}: {target} has no {name}'
 
 
+def unknown_edits():
+    edits = {os.path.basename(path)[:-len('.edit')] for path in glob.glob('crates/*/must-fail/*.edit')}
+    text = LINK.sub('', open(DEMANDS, encoding='utf-8').read())
+    for name in sorted(set(EDIT.findall(text)) - edits):
+        yield f'{DEMANDS}: no must-fail edit is named {name}'
+
+
 def main():
-    found = [fault for page in pages() for fault in faults(page)]
+    found = [fault for page in pages() for fault in faults(page)] + list(unknown_edits())
     print('\n'.join(found) if found else 'links: all lead somewhere')
     sys.exit(1 if found else 0)
 

@@ -1,6 +1,7 @@
 //! One call of one entry, and what the oracle says that it answers.
 
 use crate::oracle::lookup::Found;
+use crate::oracle::tib::Span;
 use crate::oracle::{frame, lookup, message, real, shorten, show, tibmsg, tibrv, Refusal};
 use std::fmt::Write;
 use std::rc::Rc;
@@ -200,25 +201,16 @@ fn tibmsg_field(field: tibmsg::Field) -> Vec<u64> {
         Some(hint) => (1, u64::from(hint.kind), hint.number),
         None => (0, 0, 0),
     };
-    vec![
-        field.name.start as u64,
-        field.name.length as u64,
-        u64::from(field.kind),
-        field.data.start as u64,
-        field.data.length as u64,
-        hinted,
-        hint_type,
-        hint,
-        field.real_bits,
-    ]
+    let mut results = parts(field.name, field.kind, field.data);
+    results.extend([hinted, hint_type, hint, field.real_bits]);
+    results
 }
 
 fn tibrv_field(field: tibrv::Field) -> Vec<u64> {
-    vec![
-        field.name.start as u64,
-        field.name.length as u64,
-        u64::from(field.kind),
-        field.data.start as u64,
-        field.data.length as u64,
-    ]
+    parts(field.name, field.kind, field.data)
+}
+
+/// What both Tib entries answer of a field: where its name stands, its type, and where its data stand.
+fn parts(name: Span, kind: u8, data: Span) -> Vec<u64> {
+    vec![name.start as u64, name.length as u64, u64::from(kind), data.start as u64, data.length as u64]
 }
