@@ -7,9 +7,10 @@ import sys
 REFUSED = re.compile(r'^rt: must-fail (\w+)/(\S+): refused, as it must be \(first at (\S+):\d+:\d+;')
 HEAD = '''# Stand-ins: wrong programs that the gate has to refuse
 
-Each must-fail edit changes one line of a crate, of its code or of a definition, into something wrong of the same shape, and the gate is only
-passed where the prover refuses every one of them. The last column is the proof at which each is refused first: the proof of a function whose
-contract no longer holds, or a law that no longer does. `python3 tools/stand_ins.py LOG` prints this page from the edits and the gate's output.
+Each must-fail edit changes a line, or a few, of one file of a crate, of its code or of a definition, into something wrong of the same shape, and
+the gate is only passed where the prover refuses every one of them. The last column is where each is refused first: the proof of a function
+whose contract no longer holds, a law that no longer does, or the contract itself. `python3 tools/stand_ins.py LOG` prints this page from the
+edits and the gate's output.
 '''
 
 
