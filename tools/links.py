@@ -1,13 +1,14 @@
 #!/usr/bin/env python3
 """Checks the links of the pages: every target exists, and a link whose text is code, as [`name`](file), has that name in the file. In
-docs/DEMANDS.md a name in code with an underscore that is no link has to be a must-fail edit. Run at the project's root: python3 tools/links.py"""
+docs/DEMANDS.md a name in code with an underscore that is no link has to be a must-fail edit of one crate; an edit whose name stands in two
+crates is written `crate/name`. Run at the project's root: python3 tools/links.py"""
 import glob
 import os
 import re
 import sys
 
 DEMANDS = os.path.join('docs', 'DEMANDS.md')
-EDIT = re.compile(r'`([a-z0-9]+(?:_[a-z0-9]+)+)`')
+EDIT = re.compile(r'`([a-z0-9_]+/[a-z0-9_]+|[a-z0-9]+(?:_[a-z0-9]+)+)`')
 LINK = re.compile(r'\[([^\]]+)\]\(([^)\s]+)\)')
 
 
@@ -33,15 +34,29 @@ def faults(page):
                 yield f'{page}: {target} has no {name}'
 
 
-def unknown_edits():
-    edits = {os.path.basename(path)[:-len('.edit')] for path in glob.glob('crates/*/must-fail/*.edit')}
+def edits():
+    """The crates that have an edit of each name, and of each name with the crate before it."""
+    crates = {}
+    for path in sorted(glob.glob('crates/*/must-fail/*.edit')):
+        crate, name = path.split(os.sep)[1], os.path.basename(path)[:-len('.edit')]
+        crates.setdefault(name, []).append(crate)
+        crates[f'{crate}/{name}'] = [crate]
+    return crates
+
+
+def unclear_edits():
+    crates = edits()
     text = LINK.sub('', open(DEMANDS, encoding='utf-8').read())
-    for name in sorted(set(EDIT.findall(text)) - edits):
-        yield f'{DEMANDS}: no must-fail edit is named {name}'
+    for name in sorted(set(EDIT.findall(text))):
+        found = crates.get(name, [])
+        if not found:
+            yield f'{DEMANDS}: no must-fail edit is named {name}'
+        elif len(found) > 1:
+            yield f'{DEMANDS}: {name} is an edit of {" and ".join(found)}: write crate/{name}'
 
 
 def main():
-    found = [fault for page in pages() for fault in faults(page)] + list(unknown_edits())
+    found = [fault for page in pages() for fault in faults(page)] + list(unclear_edits())
     print('\n'.join(found) if found else 'links: all lead somewhere')
     sys.exit(1 if found else 0)
 
