@@ -1,10 +1,12 @@
 -- Laws for the frame writer, a law for each of its answers.
 use Prim.Native.Nat.{ℕ, _+_, _≤_, _<_}
 use native.Mathlib.Omega.{arith}
-use mathlib.Core.Path.{_≡_, sym}
+use mathlib.Core.Path.{_≡_, refl, sym}
+use mathlib.Core.Bool.{Bool, true, false, cond}
 use mathlib.Core.List.{List}
 use lib.ListN.{length, set}
-use borrow.Author.Tests.{lt-ltb, le-ltb}
+use lib.Dec.{ltb}
+use borrow.Author.Tests.{ltb-true, lt-ltb, le-ltb}
 use Rattle.octets.specs.Number.{octetsOf}
 use Rattle.octets.proofs.Number.{length-octetsOf}
 use Rattle.hproto_put.specs.Store.{stored}
@@ -38,3 +40,15 @@ module _ (m out : List ℕ) (octet w : ℕ) (p : LeastPrefix (length m) octet w)
         rw (le-ltb 65536 (length m) h, prefix-parts (length m) octet w p)
             (stored-three out 0 octet w (octetsOf w (length m)) m (sym (length-octetsOf w (length m))) (omega arith)),
       )
+
+-- A refused call leaves the buffer as it was.
+pub frame-refused-leaves : (m out : List ℕ) → (frameWritten m (length out) .refusal ≡ 0 → ⊥) → frameStored m out ≡ out
+unfolding frameWritten frameStored
+frame-refused-leaves m out ne = go (ltb 65536 (length m)) (ltb (length out) (length (framed m))) refl ne
+  where
+    go : (t u : Bool) → ltb (length out) (length (framed m)) ≡ u
+        → (cond t (writeRefused 1) (cond u (writeRefused 9) (record { refusal = 0; place = 0; length = length (framed m) })) .refusal ≡ 0 → ⊥)
+        → cond t out (stored out 0 (framed m)) ≡ out
+    go true u p k = refl
+    go false true p k = let h = ltb-true (length out) (length (framed m)) p in stored-too-long out 0 (framed m) (omega arith)
+    go false false p k = absurd (k refl)

@@ -1,17 +1,18 @@
--- The loader accepts octets exactly where they are the records of words, and gives just these words.
-use Prim.Native.Nat.{ℕ, zero, suc, _+_, _*_, _-_, _^_, _≤_, _<_}
+-- The loader accepts octets exactly where they are the records of words, and gives just these words. A record has its entry's numbers in
+-- document 01's order, and a table that is loaded has the entries of its words.
+use Prim.Native.Nat.{ℕ, zero, suc, _+_, _*_, _-_, _/_, _%_, _^_, _≤_, _<_}
 use native.Mathlib.Omega.{arith}
 use mathlib.Core.Path.{_≡_, refl, sym, ap, ap₂, _∙_, subst}
 use mathlib.Core.Logic.{_↔_}
 use mathlib.Core.Bool.{Bool, true, false, cond, _&&_}
-use mathlib.Core.List.{List, [], _∷_, _++_, append-nil, append-assoc}
+use mathlib.Core.List.{List, [], _∷_, _++_, map, append-nil, append-assoc}
 use lib.ListN.{length, take, drop, getD, replicate, take-append-drop}
 use lib.Seq.{take-add, take-at, take-all}
 use lib.Dec.{eqb, leb}
 use borrow.Author.Tests.{eqb-true, eqb-false, leb-true}
 use Rattle.octets.specs.Number.{Octets, number, octetsOf}
 use Rattle.octets.proofs.Number.{octets-octetsOf, number-octetsOf, length-octetsOf, number-injective, number-below, octets-before, octets-after}
-use Rattle.hproto_table.specs.Entry.{entry}
+use Rattle.hproto_table.specs.Entry.{entry, entries}
 use Rattle.hproto_table.specs.Load.{inRange, recordAt, wordAt, sound, wordsBefore, faulty, tableOf, accepted, refused, loadFrom, load, Loadable}
 use Rattle.hproto_table.specs.Repeat.{distinct}
 use Rattle.hproto_table.specs.Valid.{allInRange, allZero, valid}
@@ -20,7 +21,28 @@ use Rattle.hproto_table.specs.declared.Table.{Table}
 use Rattle.hproto_table.specs.declared.Loaded.{Loaded}
 use Rattle.hproto_table.proofs.Bools.{and-left, and-right}
 use Rattle.hproto_table.proofs.Load.{length-words, sound-whole}
-use Rattle.hproto_table.proofs.Valid.{sound-of, load-records, loadable-valid}
+use Rattle.hproto_table.proofs.Valid.{sound-of, number-small, load-records, loadable-valid}
+
+-- An entry's numbers as a record has them: the message number, the field tag on two octets, the kind, the inner number.
+pub record-in-order : (w : ℕ) → inRange (entry w) ≡ true
+    → recordFor w ≡ 1 ∷ 0 ∷ 5 ∷ entry w .number ∷ (octetsOf 2 (entry w .tag) ++ (entry w .kind ∷ entry w .inner ∷ []))
+unfolding recordFor octetsOf entry
+record-in-order w e =
+    let h : w / 4294967296 < 16 = number-small (entry w) e in
+    let number : w / 4294967296 % 256 ≡ w / 4294967296 = omega arith in
+    let high : w / 16777216 % 256 ≡ w / 65536 % 65536 / 256 % 256 = omega arith in
+    let low : w / 65536 % 256 ≡ w / 65536 % 65536 / 1 % 256 = omega arith in
+    let inner : w / 1 % 256 ≡ w % 256 = omega arith in
+    same number high low inner
+  where
+    same : {a b c d f p q r s : ℕ} → a ≡ p → b ≡ q → c ≡ r → f ≡ s
+        → _≡_ {A = List ℕ} (1 ∷ 0 ∷ 5 ∷ a ∷ b ∷ c ∷ d ∷ f ∷ []) (1 ∷ 0 ∷ 5 ∷ p ∷ q ∷ r ∷ d ∷ s ∷ [])
+    same x y z v = rw (x, y, z, v)
+
+-- The entries of the table that holds words are those in the words, in their order.
+pub loaded-entries : (ws : List ℕ) → entries (tableOf ws) ≡ map entry ws
+unfolding entries tableOf
+loaded-entries ws = ap (map entry) (take-at ws (replicate (64 - length ws) 0) (length ws) refl)
 
 -- A sound record is the record of its word.
 sound-record : (r : List ℕ) → Octets r → sound r ≡ true → r ≡ recordFor (number (drop 3 r))

@@ -11,7 +11,7 @@ use lib.Dec.{eqb, leb, ltb, lit<}
 use borrow.Author.Tests.{eqb-true, le-leb, leb-true, ltb-true, not-true, not-false}
 use Rattle.octets.specs.Number.{Octets, number, octetsOf}
 use Rattle.octets.proofs.Number.{octets-append, octets-octetsOf, number-octetsOf, length-octetsOf}
-use Rattle.hproto_table.specs.Entry.{entry}
+use Rattle.hproto_table.specs.Entry.{Entry, entry}
 use Rattle.hproto_table.specs.Load.{inRange, recordAt, wordAt, sound, wordsBefore, pair, seen, faulty, tableOf, accepted, refused, loadFrom, load, Loadable}
 use Rattle.hproto_table.specs.Repeat.{distinct, firstRepeat}
 use Rattle.hproto_table.specs.Valid.{allInRange, allZero, valid}
@@ -137,16 +137,21 @@ range-at [] i e h = absurd (omega arith)
 range-at (w ∷ ws) zero e h = and-left (inRange (entry w)) (allInRange ws) e
 range-at (w ∷ ws) (suc i) e h = range-at ws i (and-right (inRange (entry w)) (allInRange ws) e) (omega arith)
 
+-- The message number of an entry in range.
+pub number-small : (e : Entry) → inRange e ≡ true → e .number < 16
+unfolding inRange
+number-small e h =
+    let a = ltb (e .number) 16 in
+    let b = leb 1 (e .kind) in
+    let c = leb (e .kind) 5 in
+    let d = cond (eqb (e .kind) 5) (ltb (e .inner) 16) (eqb (e .inner) 0) in
+    ltb-true (e .number) 16 (and-left a b (and-left (a && b) c (and-left (a && b && c) d h)))
+
 -- A word whose entry is in range fits five octets.
 word-small : (w : ℕ) → inRange (entry w) ≡ true → w < 256 ^ 5
 unfolding inRange entry
 word-small w e =
-    let k = w / 256 % 256 in
-    let a = ltb (w / 4294967296) 16 in
-    let b = leb 1 k in
-    let c = leb k 5 in
-    let d = cond (eqb k 5) (ltb (w % 256) 16) (eqb (w % 256) 0) in
-    let h : w / 4294967296 < 16 = ltb-true (w / 4294967296) 16 (and-left a b (and-left (a && b) c (and-left (a && b && c) d e))) in
+    let h : w / 4294967296 < 16 = number-small (entry w) e in
     omega arith
 
 for-sound : (w : ℕ) → inRange (entry w) ≡ true → sound (recordFor w) ≡ true

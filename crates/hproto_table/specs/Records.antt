@@ -1,4 +1,5 @@
--- The octets of a table, with no word on how they are loaded: a record for each word.
+-- What a table is (document 01, Field table), apart from how it is loaded: one record for each entry. No contract cites it;
+-- proofs/Records.antt shows that the loader accepts just these octets and gives just these entries.
 use Prim.Native.Nat.{ℕ, _≤_}
 use mathlib.Core.Path.{_≡_}
 use mathlib.Core.Bool.{true}
