@@ -1,4 +1,4 @@
--- Laws of names: the computed test is the rule, and its loop.
+-- Laws of names: the computed test is the rule, and the test by places.
 use Prim.Native.Nat.{ℕ, zero, suc, _+_, _-_, _≤_, _<_}
 use native.Mathlib.Numerals.{add-one}
 use native.Mathlib.Omega.{arith}
@@ -7,9 +7,9 @@ use mathlib.Core.Bool.{Bool, true, false, cond}
 use mathlib.Core.List.{List, [], _∷_, _++_}
 use lib.Dec.{eqb, ltb, eqb·suc-suc, eqb·suc-zero}
 use lib.ListN.{length, getD, take, drop, drop-of-length-le, length-drop, length-append, take-append-drop}
-use lib.Seq.{drop-cons, take-at, length-take-le}
+use lib.Seq.{take-at, length-take-le, getD-take}
 use borrow.Author.Tests.{eq-eqb, ne-eqb, eqb-true, eqb-false, lt-ltb, le-ltb, ltb-false}
-use Rattle.tib_field.specs.Name.{NoZero, Name, none, closed, closes, named, nameFront}
+use Rattle.tib_field.specs.Name.{NoZero, Name, none, closed, closes, named, nameFront, faultOf, nameFault, ZeroIn}
 use Rattle.tib_field.specs.declared.Front.{Front}
 use Rattle.tib_field.specs.declared.Front.the-variants.{End, Fault, Name as Sized}
 
@@ -46,69 +46,131 @@ name-named s none = refl
 name-named s (closed [] h) = closed-closes [] h
 name-named s (closed (x ∷ r) h) = closed-closes (x ∷ r) h
 
--- The first i octets are not zero.
-pub record Open (s : List ℕ) (i : ℕ) : Type 0 where
-  pub inside : i ≤ length s
-  pub same : closes s ≡ closes (drop i s)
+-- The computed test by places: k octets that are not zero and then a zero; a zero before the last octet; a last octet that is not zero.
+both-false : (t u v : Bool) → u ≡ false → v ≡ false → cond t u v ≡ false
+both-false true u v f g = f
+both-false false u v f g = g
 
-pub start : (s : List ℕ) → Open s 0
-start s = record { inside = omega arith; same = refl }
+closes-good : (l : List ℕ) (k : ℕ) → length l ≡ suc k → ((j : ℕ) → j < k → getD l j 0 ≡ 0 → ⊥) → getD l k 0 ≡ 0 → closes l ≡ true
+unfolding closes
+closes-good [] k h f e = absurd (omega arith)
+closes-good (x ∷ l) zero h f e = rw (eq-eqb x 0 e, eq-eqb (length l) 0 (omega arith))
+closes-good (x ∷ l) (suc k) h f e =
+    rw (ne-eqb x 0 (f 0 (omega arith))) (closes-good l k (omega arith) (λ j g. f (suc j) (omega arith)) e)
+
+closes-early : (l : List ℕ) (j : ℕ) → suc j < length l → getD l j 0 ≡ 0 → closes l ≡ false
+unfolding closes
+closes-early [] j h e = absurd (omega arith)
+closes-early (x ∷ l) zero h e = rw (eq-eqb x 0 e, ne-eqb (length l) 0 (λ z. omega arith))
+closes-early (x ∷ l) (suc j) h e =
+    both-false (eqb x 0) (eqb (length l) 0) (closes l) (ne-eqb (length l) 0 (λ z. omega arith)) (closes-early l j (omega arith) e)
+
+closes-open : (l : List ℕ) (k : ℕ) → length l ≡ suc k → (getD l k 0 ≡ 0 → ⊥) → closes l ≡ false
+unfolding closes
+closes-open [] k h f = absurd (omega arith)
+closes-open (x ∷ []) zero h f = rw (ne-eqb x 0 f)
+closes-open (x ∷ (y ∷ l)) zero h f = absurd (omega arith)
+closes-open (x ∷ l) (suc k) h f =
+    both-false (eqb x 0) (eqb (length l) 0) (closes l) (ne-eqb (length l) 0 (λ z. omega arith)) (closes-open l k (omega arith) f)
 
 named-some : (s : List ℕ) → 0 < length s → closes s ≡ named s
 unfolding named
 named-some [] h = absurd (omega arith)
 named-some (x ∷ s) h = refl
 
-one-left : (n : ℕ) → 0 < n → eqb n 1 ≡ eqb (n - 1) 0
-one-left zero h = absurd (omega arith)
-one-left (suc n) h = let e : suc n - 1 ≡ n = omega arith in rw e (eqb·suc-suc n 0)
+-- The same of a name of n octets after the octet x of its size, at the places 1 to n.
+module _ (x : ℕ) (s : List ℕ) where
+  name-good : (n : ℕ) → n ≤ length s → getD (x ∷ s) n 0 ≡ 0 → ZeroIn false (x ∷ s) 1 n n → named (take n s) ≡ true
+  unfolding named ZeroIn
+  name-good zero h e p = refl
+  name-good (suc k) h e p =
+      let l = length-take-le (suc k) s h in
+      sym (named-some (take (suc k) s) (omega arith))
+      ∙ closes-good (take (suc k) s) k l
+      (λ j g z. p (suc j) (omega arith) (omega arith) (omega arith) (sym (getD-take (suc k) s j 0 (omega arith)) ∙ z))
+      (getD-take (suc k) s k 0 (omega arith) ∙ e)
 
-module _ (s : List ℕ) (i : ℕ) (p : Open s i) where
-  pub no-zero : length s ≤ i → eqb i 0 ≡ named s
-  unfolding closes named
-  no-zero h = go s refl
-    where
-      go : (r : List ℕ) → s ≡ r → eqb i 0 ≡ named s
-      go [] e = let l = ap length e in let k = p .inside in rw e (eq-eqb i 0 (omega arith))
-      go (x ∷ r) e =
-          let l = ap length e in
-          ne-eqb i 0 (λ z. omega arith) ∙ sym (p .same ∙ rw (drop-of-length-le s h)) ∙ named-some s (omega arith)
+  name-open : (n : ℕ) → n ≤ length s → n ≡ x → (getD (x ∷ s) n 0 ≡ 0 → ⊥) → named (take n s) ≡ false
+  unfolding named
+  name-open zero h e f = absurd (f (sym e))
+  name-open (suc k) h e f =
+      let l = length-take-le (suc k) s h in
+      sym (named-some (take (suc k) s) (omega arith))
+      ∙ closes-open (take (suc k) s) k l (λ z. f (sym (getD-take (suc k) s k 0 (omega arith)) ∙ z))
 
-  module _ (h : i < length s) where
-    next : closes s ≡ cond (eqb (getD s i 0) 0) (eqb (length (drop (i + 1) s)) 0) (closes (drop (i + 1) s))
-    unfolding closes
-    next = p .same ∙ rw (add-one i, drop-cons s i 0 h)
+  name-early : (n j : ℕ) → n ≤ length s → 1 ≤ j → j < n → getD (x ∷ s) j 0 ≡ 0 → named (take n s) ≡ false
+  name-early n zero h f g e = absurd (omega arith)
+  name-early n (suc j) h f g e =
+      let l = length-take-le n s h in
+      sym (named-some (take n s) (omega arith))
+      ∙ closes-early (take n s) j (omega arith) (getD-take n s j 0 (omega arith) ∙ e)
 
-    pub zero-octet : getD s i 0 ≡ 0 → eqb (length s - i) 1 ≡ named s
-    zero-octet e =
-        let l : length (drop (i + 1) s) ≡ length s - i - 1 = rw length-drop (omega arith) in
-        one-left (length s - i) (omega arith) ∙ rw (← l)
-        (sym (next ∙ rw (eq-eqb (getD s i 0) 0 e)) ∙ named-some s (omega arith))
+  name-zero : (n : ℕ) → n ≤ length s → ZeroIn true (x ∷ s) 1 n n → named (take n s) ≡ false
+  unfolding ZeroIn
+  name-zero n h p = name-early n (p .0) h (p .1) (p .2) (p .4)
 
-    pub other-octet : (getD s i 0 ≡ 0 → ⊥) → Open s (i + 1)
-    other-octet e = record { inside = omega arith; same = next ∙ rw (ne-eqb (getD s i 0) 0 e) }
+-- Why the name at the front of octets is refused.
+pub fault-of-none : (s : List ℕ) → length s ≡ 0 → 0 ≡ nameFault s
+unfolding nameFault nameFront faultOf
+fault-of-none [] h = refl
+fault-of-none (x ∷ s) h = absurd (omega arith)
 
--- The name at the front of octets.
-pub front-of-none : (s : List ℕ) → length s ≡ 0 → End ≡ nameFront s
+pub fault-cut : (s : List ℕ) (n : ℕ) → 0 < length s → n ≡ getD s 0 0 → length s - 1 < n → 3 ≡ nameFault s
+unfolding nameFault nameFront faultOf
+fault-cut [] n h e g = absurd (omega arith)
+fault-cut (x ∷ s) n h e g = rw (lt-ltb (length s) x (omega arith))
+
+fault-whole : (x : ℕ) (s : List ℕ) (t : Bool) → x ≤ length s → named (take x s) ≡ t → faultOf (cond t (Sized x) (Fault 15)) ≡ nameFault (x ∷ s)
+unfolding nameFault nameFront
+fault-whole x s t h e = rw (le-ltb (length s) x h, e)
+
+pub fault-open : (s : List ℕ) (n : ℕ) → 0 < length s → n ≡ getD s 0 0 → n ≤ length s - 1 → (getD s n 0 ≡ 0 → ⊥) → 15 ≡ nameFault s
+unfolding faultOf
+fault-open [] n h e g f = absurd (omega arith)
+fault-open (x ∷ s) n h e g f =
+    fault-whole x s false (omega arith) (rw e at (name-open x s n (omega arith) e f))
+
+pub fault-early : (s : List ℕ) (n : ℕ) → 0 < length s → n ≡ getD s 0 0 → n ≤ length s - 1 → (t : Bool) → t ≡ true
+    → ZeroIn t s 1 (getD s 0 0) (getD s 0 0) → 15 ≡ nameFault s
+unfolding faultOf
+fault-early [] n h e g t f p = absurd (omega arith)
+fault-early (x ∷ s) n h e g t f p =
+    fault-whole x s false (omega arith) (name-zero x s x (omega arith) (subst (λ (u : Bool). ZeroIn u (x ∷ s) 1 x x) f p))
+
+pub fault-good : (s : List ℕ) (n : ℕ) → 0 < length s → n ≡ getD s 0 0 → n ≤ length s - 1 → getD s n 0 ≡ 0 → (t : Bool) → t ≡ false
+    → ZeroIn t s 1 (getD s 0 0) (getD s 0 0) → 0 ≡ nameFault s
+unfolding faultOf
+fault-good [] n h e g z t f p = absurd (omega arith)
+fault-good (x ∷ s) n h e g z t f p =
+    fault-whole x s true (omega arith)
+    (name-good x s x (omega arith) (subst (λ (m : ℕ). getD (x ∷ s) m 0 ≡ 0) e z) (subst (λ (u : Bool). ZeroIn u (x ∷ s) 1 x x) f p))
+
+-- What stands at the front, from the refusal of its name.
+pub front-of-none : (s : List ℕ) → length s ≡ 0 → nameFront s ≡ End
 unfolding nameFront
 front-of-none [] h = refl
 front-of-none (x ∷ s) h = absurd (omega arith)
 
-front-of-some : (s : List ℕ) → 0 < length s
-    → nameFront s ≡ cond (ltb (length s - 1) (getD s 0 0)) (Fault 3) (cond (named (take (getD s 0 0) (drop 1 s))) (Sized (getD s 0 0)) (Fault 15))
-unfolding nameFront
-front-of-some [] h = absurd (omega arith)
-front-of-some (x ∷ s) h = let e : suc (length s) - 1 ≡ length s = omega arith in rw e
+refused-front : (f : Front) (k : ℕ) → k ≡ faultOf f → (k ≡ 0 → ⊥) → f ≡ Fault k
+unfolding faultOf
+refused-front End k e h = absurd (h e)
+refused-front (Fault m) k e h = ap Fault (sym e)
+refused-front (Sized n) k e h = absurd (h e)
 
-module _ (s : List ℕ) (n : ℕ) (h : 0 < length s) (e : n ≡ getD s 0 0) where
-  pub front-cut : length s - 1 < n → Fault 3 ≡ nameFront s
-  front-cut g = sym (front-of-some s h ∙ rw (← e, lt-ltb (length s - 1) n g))
+pub front-refused : (s : List ℕ) (k : ℕ) → k ≡ nameFault s → (k ≡ 0 → ⊥) → nameFront s ≡ Fault k
+unfolding nameFault
+front-refused s k e h = refused-front (nameFront s) k e h
 
-  pub front-whole : n ≤ length s - 1 → (t : Bool) → t ≡ named (take (1 + n - 1) (drop 1 s)) → cond t (Sized n) (Fault 15) ≡ nameFront s
-  front-whole g t f =
-      let k : 1 + n - 1 ≡ n = omega arith in
-      let m : named (take n (drop 1 s)) ≡ t = rw k at (sym f) in
-      sym (front-of-some s h ∙ rw (← e, le-ltb (length s - 1) n g, m))
+sized-front : (n : ℕ) (t u : Bool) → 0 ≡ faultOf (cond t (Fault 3) (cond u (Sized n) (Fault 15))) → cond t (Fault 3) (cond u (Sized n) (Fault 15)) ≡ Sized n
+unfolding faultOf
+sized-front n true u e = absurd (omega arith)
+sized-front n false true e = refl
+sized-front n false false e = absurd (omega arith)
+
+pub front-sized : (s : List ℕ) (n k : ℕ) → (length s ≡ 0 → ⊥) → k ≡ nameFault s → k ≡ 0 → n ≡ getD s 0 0 → nameFront s ≡ Sized n
+unfolding nameFault nameFront
+front-sized [] n k h e z m = absurd (h refl)
+front-sized (x ∷ s) n k h e z m = sized-front x (ltb (length s) x) (named (take x s)) (sym z ∙ e) ∙ ap Sized (sym m)
 
 -- Only where no octet is left does a message end.
 some-front : (n : ℕ) (t u : Bool) → cond t (Fault 3) (cond u (Sized n) (Fault 15)) ≡ End → ⊥
@@ -162,3 +224,6 @@ found-inside s n e =
     let m = length-append (f .name) (f .rest) in
     let k = f .sized in
     omega arith
+
+pub sized-inside : (s : List ℕ) (n k : ℕ) → (length s ≡ 0 → ⊥) → k ≡ nameFault s → k ≡ 0 → n ≡ getD s 0 0 → 1 + n ≤ length s
+sized-inside s n k h e z m = found-inside s n (front-sized s n k h e z m)

@@ -1,9 +1,9 @@
 -- The name of a field: no octets, or octets of which the last is zero and all others are not.
-use Prim.Native.Nat.{ℕ, zero, suc}
+use Prim.Native.Nat.{ℕ, zero, suc, _≤_, _<_}
 use mathlib.Core.Path.{_≡_}
 use mathlib.Core.Bool.{Bool, true, false, cond}
 use mathlib.Core.List.{List, [], _∷_, _++_}
-use lib.ListN.{length, take, drop}
+use lib.ListN.{length, getD, take, drop}
 use lib.Dec.{eqb, ltb}
 use Rattle.tib_field.specs.declared.Front.{Front}
 use Rattle.tib_field.specs.declared.Front.the-variants.{End, Fault, Name as Sized}
@@ -32,3 +32,17 @@ named (x ∷ s) = closes (x ∷ s)
 unfoldable pub nameFront : List ℕ → Front
 nameFront [] = End
 nameFront (n ∷ s) = cond (ltb (length s) n) (Fault 3) (cond (named (take n s)) (Sized n) (Fault 15))
+
+-- The number with which the name at the front is refused, 0 where it is not.
+unfoldable pub faultOf : Front → ℕ
+faultOf End = 0
+faultOf (Fault k) = k
+faultOf (Sized n) = 0
+
+unfoldable pub nameFault : List ℕ → ℕ
+nameFault s = faultOf (nameFront s)
+
+-- Whether a zero stands at a place from a on that is below both b and n: one does, or none.
+unfoldable pub ZeroIn : Bool → List ℕ → ℕ → ℕ → ℕ → Type 0
+ZeroIn true s a b n = (j : ℕ) × (a ≤ j) × (j < b) × (j < n) × (getD s j 0 ≡ 0)
+ZeroIn false s a b n = (j : ℕ) → a ≤ j → j < b → j < n → getD s j 0 ≡ 0 → ⊥

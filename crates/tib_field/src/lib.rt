@@ -2,8 +2,12 @@
 use octets::Unsigned;
 use tib_real::types::Real;
 ghost use mathlib.Core.Path.{_≡_};
+ghost use mathlib.Core.Bool.{false, cond};
+ghost use Prim.Native.Nat.{_+_, _≤_, _<_};
+ghost use lib.Dec.{eqb, ltb};
+ghost use lib.ListN.{length};
 ghost use Rattle.octets.specs.Number.{unsigned};
-ghost use Rattle.tib_field.specs.Name.{named, nameFront};
+ghost use Rattle.tib_field.specs.Name.{ZeroIn, nameFault};
 ghost use Rattle.tib_field.specs.Refused.{refusedCheck, noReal, refusedField};
 ghost use Rattle.tib_field.specs.Octets.{orZero, begins as begins-with};
 
@@ -112,35 +116,111 @@ pub fn begins(s: &[u8], mark: &[u8]) -> bool
     true
 }
 
-// Whether octets are a name. The first zero has to be the last octet, and there has to be one unless there is no octet.
-fn closed(s: &[u8]) -> bool
-    ensures { λ r. ⌜ r ≡ named (now (s .entry)) ⌝ }
+// Whether an octet at a place is zero and the place is below n.
+fn zero_below(x: u8, i: u8, n: u8) -> bool
+    ensures { λ r. ⌜ r ≡ cond (ltb i n) (eqb x 0) false ⌝ }
 {
-    let mut i = 0;
-    while i < s.len() {
+    if i < n { x == 0 } else { false }
+}
+
+// Whether a zero stands at one of the places 1 to 16 that are below n. All sixteen octets are read at once and none decides a branch:
+// a loop that ends at n takes longer, since most names are short and of different sizes.
+fn zero_near(s: &[u8], n: u8) -> bool
+    requires { ⌜ 17 ≤ length (now s) ⌝ }
+    ensures { λ r. ⌜ ZeroIn r (now (s .entry)) 1 17 n ⌝ }
+{
+    let mut z = false;
+    let mut i: u8 = 1;
+    while i < 17 {
+        z = z | zero_below(s[i as usize], i, n);
+        i += 1;
+    }
+    z
+}
+
+// Whether a zero stands among the sixteen octets from a place on.
+fn zero_of_sixteen(s: &[u8], at: usize) -> bool
+    requires { ⌜ at + 16 ≤ length (now s) ⌝ }
+    ensures { λ r. ⌜ ZeroIn r (now (s .entry)) at (at + 16) (at + 16) ⌝ }
+{
+    let mut z = false;
+    let mut i = at;
+    let end = at + 16;
+    while i < end {
+        z = z | (s[i] == 0);
+        i += 1;
+    }
+    z
+}
+
+// Whether a zero stands from the place 1 to n where none stands before the place 17, sixteen octets at once. The last sixteen end at n,
+// and may have been read in part.
+fn zero_far(s: &[u8], n: usize) -> bool
+    requires { ⌜ (17 < n) × (n ≤ length (now s)) ⌝ }
+    requires { ⌜ ZeroIn false (now s) 1 17 n ⌝ }
+    ensures { λ r. ⌜ ZeroIn r (now (s .entry)) 1 n n ⌝ }
+{
+    let mut i: usize = 17;
+    while 16 < n - i {
+        if zero_of_sixteen(s, i) {
+            return true;
+        }
+        i += 16;
+    }
+    zero_of_sixteen(s, n - 16)
+}
+
+// Whether a zero stands from the place 1 to n, one octet after the other.
+fn zero_of_few(s: &[u8], n: usize) -> bool
+    requires { ⌜ n ≤ length (now s) ⌝ }
+    ensures { λ r. ⌜ ZeroIn r (now (s .entry)) 1 n n ⌝ }
+{
+    let mut i: usize = 1;
+    while i < n {
         if s[i] == 0 {
-            return s.len() - i == 1;
+            return true;
         }
         i += 1;
     }
-    i == 0
+    false
 }
 
-// The size of a name and the name at the front of octets. A name that is cut short is refused before its octets are looked at.
-pub fn name_front(s: &[u8]) -> Front
-    ensures { λ r. ⌜ r ≡ nameFront (now (s .entry)) ⌝ }
+// Whether a zero stands from the place 1 to n.
+fn zero_inside(s: &[u8], n: u8) -> bool
+    requires { ⌜ n ≤ length (now s) ⌝ }
+    ensures { λ r. ⌜ ZeroIn r (now (s .entry)) 1 n n ⌝ }
+{
+    let end = wide(n) as usize;
+    if s.len() < 17 {
+        return zero_of_few(s, end);
+    }
+    if zero_near(s, n) {
+        return true;
+    }
+    if end <= 17 {
+        return false;
+    }
+    zero_far(s, end)
+}
+
+// Why the name at the front of octets is refused, 0 where it is good or there are no octets. A name that is cut short is refused before
+// its octets are looked at. The last octet of a name of n octets stands at the place n, after the octet of its size; where n is 0, that
+// octet is the one there, and zero. The octets are handed on as a part of their own: the compiler then keeps their place in registers.
+pub fn name_fault(s: &[u8]) -> u64
+    ensures { λ r. ⌜ r ≡ nameFault (now (s .entry)) ⌝ }
 {
     if s.len() == 0 {
-        return Front::End;
+        return 0;
     }
     let n = wide(s[0]) as usize;
     if s.len() - 1 < n {
-        return Front::Fault(3);
+        return 3;
     }
-    let end = 1 + n;
-    if closed(&s[1..end]) {
-        Front::Name(n)
-    } else {
-        Front::Fault(15)
+    if s[n] != 0 {
+        return 15;
     }
+    if zero_inside(&s[0..], s[0]) {
+        return 15;
+    }
+    0
 }

@@ -1,6 +1,5 @@
 // One step through a TibrvMsg message: the field at the front of octets. This crate also has the definitions of a message and of its
 // reading, and the laws between them.
-use tib_field::Front;
 ghost use mathlib.Core.Path.{_≡_};
 ghost use mathlib.Core.Bool.{cond};
 ghost use Prim.Native.Nat.{_≤_};
@@ -134,16 +133,19 @@ fn from_type(n: usize, s: &[u8]) -> Step
     from_size(n, s[0], &s[1..])
 }
 
-// What stands at the front of octets.
+// What stands at the front of octets. The size of the name is read from its octet, not handed on by the test of the name, so that the
+// place of the next field need not wait for that test.
 pub fn next_field(s: &[u8]) -> Step
     ensures { λ r. ⌜ r ≡ nextField (now (s .entry)) ⌝ }
 {
-    match tib_field::name_front(s) {
-        Front::End => Step::Done,
-        Front::Fault(k) => Step::Fault(k),
-        Front::Name(n) => {
-            let start = 1 + n;
-            from_type(n, &s[start..])
-        }
+    if s.len() == 0 {
+        return Step::Done;
     }
+    let fault = tib_field::name_fault(s);
+    if fault != 0 {
+        return Step::Fault(fault);
+    }
+    let n = tib_field::wide(s[0]) as usize;
+    let start = 1 + n;
+    from_type(n, &s[start..])
 }
