@@ -89,10 +89,13 @@ pub fn wide(x: u8) -> u64
     x as u64
 }
 
-// The number that at most eight octets hold, 0 for more.
+// The number that at most eight octets hold, 0 for more. One octet is the most common, and needs no loop.
 pub fn number(s: &[u8]) -> u64
     ensures { λ r. ⌜ r ≡ orZero (unsigned (now (s .entry))) ⌝ }
 {
+    if s.len() == 1 {
+        return wide(s[0]);
+    }
     match octets_read::uint(s) {
         Unsigned::Value(v) => v,
         Unsigned::Long => 0,
