@@ -31,27 +31,45 @@ unfolding fromSize
 size-some n c [] m h e = absurd (h refl)
 size-some n c (x ∷ s) m h e = let l : suc (length s) - 1 ≡ length s = omega arith in rw (l, e)
 
+abbrev long : ℕ → ℕ → ℕ → ℕ → List ℕ → Step
+long n c m w s = cond (ltb (length s) w) (Fault 3) (fromCount n c m (number (take w s)) (length s - w))
+
 module _ (n c : ℕ) (s : List ℕ) (m : ℕ) (h : length s ≡ 0 → ⊥) (e : m ≡ getD s 0 0) where
   pub marker-bad : 0x7a < m → Fault 16 ≡ fromSize n c s
   marker-bad g = rw (lt-ltb 0x7a m g) at (size-some n c s m h e)
 
-  module _ (w : ℕ) (low : m ≤ 0x7a) (f : w ≡ following m) where
-    pub size-cut : length s - 1 < w → Fault 3 ≡ fromSize n c s
-    size-cut g = rw (← f, le-ltb 0x7a m low, lt-ltb (length s - 1) w g) at (size-some n c s m h e)
+  pub size-short : m < 0x79 → fromCount n c m m (length s - 1) ≡ fromSize n c s
+  unfolding following counted
+  size-short g =
+      let a : length s - 1 - 0 ≡ length s - 1 = omega arith in
+      rw (le-ltb 0x7a m (omega arith), ne-eqb m 0x79 (λ z. omega arith), ne-eqb m 0x7a (λ z. omega arith), le-ltb (length s - 1) 0 (omega arith), lt-ltb m 0x79 g, a) at
+      (size-some n c s m h e)
 
-    module _ (g : w ≤ length s - 1) (few : w ≤ 4) (k : ℕ) (r : k ≡ cond (ltb m 0x79) m (orZero (unsigned (take (1 + w - 1) (drop 1 s))))) where
-      count-read : k ≡ counted m (drop 1 s)
-      unfolding counted
-      count-read =
-          let a : 1 + w - 1 ≡ w = omega arith in
-          let l = length-drop 1 s in
-          let d : length (take w (drop 1 s)) ≡ w = length-take-le w (drop 1 s) (omega arith) in
-          r ∙ rw (a, ← f, few-octets (take w (drop 1 s)) (omega arith))
+  pub size-long : (w : ℕ) (r : Step) → 0x79 ≤ m → m ≤ 0x7a → w ≡ following m → r ≡ long n c m w (take (length s - 1) (drop 1 s)) → r ≡ fromSize n c s
+  unfolding counted
+  size-long w r g low f q =
+      q
+      ∙ rw (tail-part s 1, length-drop 1 s, f)
+      (rw (le-ltb 0x7a m low, le-ltb m 0x79 g) at (size-some n c s m h e))
 
-      pub size-whole : fromCount n c m k (length s - (1 + w)) ≡ fromSize n c s
-      size-whole =
-          let b : length s - (1 + w) ≡ length s - 1 - w = omega arith in
-          rw (b, count-read) (rw (← f, le-ltb 0x7a m low, le-ltb (length s - 1) w g) at (size-some n c s m h e))
+pub follows-79 : (m : ℕ) → m ≡ 0x79 → 2 ≡ following m
+unfolding following
+follows-79 m e = rw e
+
+pub follows-7a : (m : ℕ) → m ≡ 0x7a → 4 ≡ following m
+unfolding following
+follows-7a m e = rw e
+
+-- The size octets that follow the first.
+module _ (n c m w : ℕ) (s : List ℕ) where
+  pub long-cut : length s < w → Fault 3 ≡ long n c m w s
+  long-cut g = rw (lt-ltb (length s) w g)
+
+  pub long-whole : w ≤ length s → w ≤ 4 → (k : ℕ) → k ≡ orZero (unsigned (take (w - 0) (drop 0 s))) → fromCount n c m k (length s - w) ≡ long n c m w s
+  long-whole g few k r =
+      let d = length-take-le w s g in
+      let a : k ≡ number (take w s) = r ∙ rw (front-part s w) (few-octets (take w s) (omega arith)) in
+      rw (le-ltb (length s) w g, a)
 
 pub type-cut : (n : ℕ) (s : List ℕ) → length s ≡ 0 → Fault 3 ≡ fromType n s
 unfolding fromType

@@ -2,10 +2,10 @@
 // reading, and the laws between them.
 ghost use mathlib.Core.Path.{_≡_};
 ghost use mathlib.Core.Bool.{cond};
-ghost use Prim.Native.Nat.{_≤_};
+ghost use Prim.Native.Nat.{_-_, _≤_};
 ghost use lib.Dec.{ltb};
-ghost use Rattle.octets.specs.Number.{unsigned};
-ghost use Rattle.tib_field.specs.Octets.{orZero};
+ghost use lib.ListN.{length, take};
+ghost use Rattle.octets.specs.Number.{number};
 ghost use Rattle.tib_rv_field.specs.Reading.{following as following-of, own as own-of, countAllowed, found as found-of, fromCount, fromSize, fromType, nextField};
 
 // The sizes of the parts of a field, and its type octet. Of a field that holds a message the width is 1, for the marker alone, and the
@@ -48,13 +48,6 @@ fn own(m: u64) -> u64
         return following(m) as u64;
     }
     1
-}
-
-// What a size says, by its first octet and the octets that belong to it after that.
-fn counted(m: u64, s: &[u8]) -> u64
-    ensures { λ r. ⌜ r ≡ cond (ltb m 0x79) m (orZero (unsigned (now (s .entry)))) ⌝ }
-{
-    if m < 0x79 { m } else { tib_field::number(s) }
 }
 
 fn count_allowed(c: u8, m: u64, k: u64) -> bool
@@ -103,7 +96,19 @@ fn from_count(n: usize, c: u8, m: u64, k: u64, left: usize) -> Step
     found(n, c, m, k)
 }
 
-// The field from its size on.
+// The field from the w octets of its size that follow the first.
+fn from_long(n: usize, c: u8, m: u64, w: usize, s: &[u8]) -> Step
+    requires { ⌜ w ≤ 4 ⌝ }
+    ensures { λ r. ⌜ r ≡ cond (ltb (length (now (s .entry))) w) (Step.Fault 3) (fromCount n c m (number (take w (now (s .entry)))) (length (now (s .entry)) - w)) ⌝ }
+{
+    if s.len() < w {
+        return Step::Fault(3);
+    }
+    let k = tib_field::number(&s[0..w]);
+    from_count(n, c, m, k, s.len() - w)
+}
+
+// The field from its size on. Most sizes are one octet, so that case is tested first.
 fn from_size(n: usize, c: u8, s: &[u8]) -> Step
     ensures { λ r. ⌜ r ≡ fromSize n c (now (s .entry)) ⌝ }
 {
@@ -111,16 +116,16 @@ fn from_size(n: usize, c: u8, s: &[u8]) -> Step
         return Step::Fault(3);
     }
     let m = tib_field::wide(s[0]);
-    if 0x7a < m {
-        return Step::Fault(16);
+    if m < 0x79 {
+        return from_count(n, c, m, m, s.len() - 1);
     }
-    let w = following(m);
-    if s.len() - 1 < w {
-        return Step::Fault(3);
+    if m == 0x79 {
+        return from_long(n, c, m, 2, &s[1..]);
     }
-    let end = 1 + w;
-    let k = counted(m, &s[1..end]);
-    from_count(n, c, m, k, s.len() - end)
+    if m == 0x7a {
+        return from_long(n, c, m, 4, &s[1..]);
+    }
+    Step::Fault(16)
 }
 
 // The field from its type on, after a name of n octets.

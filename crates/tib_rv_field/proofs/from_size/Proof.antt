@@ -1,12 +1,13 @@
 -- `tib_rv_field::from_size` meets its contract.
 use mathlib.Core.Path.{_∙_}
-use Rattle.tib_rv_field.proofs.Fronts.{size-none, marker-bad, size-cut, size-whole}
 use borrow.Author.Needs.{needs}
+use native.Mathlib.Omega.{arith}
+use Rattle.tib_rv_field.proofs.Fronts.{size-none, marker-bad, size-short, size-long, follows-79, follows-7a}
 use Rattle.tib_rv_field.proofs.from_size.Statement.{statement}
 use Rattle.tib_rv_field.proofs.from_size.Tie as tie
 
 returns : tie.Need-returns
-returns c = size-none (c .before .before .args .n) (c .before .before .args .c) (c .before .before .args .s .now) (c .if1 .taken)
+returns c = let a = c .before .before .args in size-none (a .n) (a .c) (a .s .now) (c .if1 .taken)
 
 shared-slice-read-wide : tie.Need-shared-slice-read-wide
 shared-slice-read-wide c = search needs
@@ -14,46 +15,61 @@ shared-slice-read-wide c = search needs
 wide-requires : tie.Need-wide-requires
 wide-requires c κs = search needs
 
-returns-2 : tie.Need-returns-2
-returns-2 c = marker-bad (c .before .before .before .before .before .args .n) (c .before .before .before .before .before .args .c) (c .before .before .before .before .before .args .s .now) (c .before .wide .result) (c .before .before .before .if1 .left) (c .before .wide .ensures) (c .if2 .taken)
-
-following-requires : tie.Need-following-requires
-following-requires c κs = search needs
-
-sub-if3 : tie.Need-sub-if3
-sub-if3 c = search needs
-
-returns-3 : tie.Need-returns-3
-returns-3 c =
-    size-cut (c .before .before .before .before .before .before .before .args .n) (c .before .before .before .before .before .before .before .args .c) (c .before .before .before .before .before .before .before .args .s .now) (c .before .before .before .wide .result) (c .before .before .before .before .before .if1 .left) (c .before .before .before .wide .ensures) (c .before .following .result) (c .before .before .if2 .left)
-    (c .before .following .ensures .0) (c .if3 .taken)
-
-add-end : tie.Need-add-end
-add-end c = search needs
-
-sub-counted : tie.Need-sub-counted
-sub-counted c = search needs
-
-part-counted-start : tie.Need-part-counted-start
-part-counted-start c = search needs
-
-part-counted-end : tie.Need-part-counted-end
-part-counted-end c = search needs
-
-counted-requires : tie.Need-counted-requires
-counted-requires c κs = search needs
-
 sub-from-count : tie.Need-sub-from-count
 sub-from-count c = search needs
 
 from-count-requires : tie.Need-from-count-requires
 from-count-requires c κs = search needs
 
+returns-2 : tie.Need-returns-2
+returns-2 c =
+    let w = c .before .before in
+    let a = w .before .before .before .before .args in
+    c .from-count .ensures ∙ size-short (a .n) (a .c) (a .s .now) (w .wide .result) (w .before .before .if1 .left) (w .wide .ensures) (c .before .if2 .taken)
+
+sub-from-long : tie.Need-sub-from-long
+sub-from-long c = search needs
+
+part-from-long-start : tie.Need-part-from-long-start
+part-from-long-start c = search needs
+
+part-from-long-end : tie.Need-part-from-long-end
+part-from-long-end c = search needs
+
+from-long-requires : tie.Need-from-long-requires
+from-long-requires c κs = search needs
+
+returns-3 : tie.Need-returns-3
+returns-3 c =
+    let w = c .before .before .before .before in
+    let a = w .before .before .before .before .args in
+    let t = c .before .before in
+    size-long (a .n) (a .c) (a .s .now) (w .wide .result) (w .before .before .if1 .left) (w .wide .ensures) 2 _ (t .before .if2 .left) (omega (arith, t .if3 .taken)) (follows-79 _ (t .if3 .taken)) (c .from-long .ensures)
+
+sub-from-long-2 : tie.Need-sub-from-long-2
+sub-from-long-2 c = search needs
+
+part-from-long-start-2 : tie.Need-part-from-long-start-2
+part-from-long-start-2 c = search needs
+
+part-from-long-end-2 : tie.Need-part-from-long-end-2
+part-from-long-end-2 c = search needs
+
+from-long-requires-2 : tie.Need-from-long-requires-2
+from-long-requires-2 c κs = search needs
+
 returns-4 : tie.Need-returns-4
 returns-4 c =
-    c .from-count .ensures
-    ∙ size-whole (c .before .before .before .before .before .before .before .before .before .before .args .n) (c .before .before .before .before .before .before .before .before .before .before .args .c) (c .before .before .before .before .before .before .before .before .before .before .args .s .now) (c .before .before .before .before .before .before .wide .result) (c .before .before .before .before .before .before .before .before .if1 .left) (c .before .before .before .before .before .before .wide .ensures) (c .before .before .before .before .following .result) (c .before .before .before .before .before .if2 .left)
-    (c .before .before .before .before .following .ensures .0) (c .before .before .before .if3 .left) (c .before .before .before .before .following .ensures .1) (c .before .counted .result) (c .before .counted .ensures)
+    let w = c .before .before .before .before .before in
+    let a = w .before .before .before .before .args in
+    let t = c .before .before in
+    size-long (a .n) (a .c) (a .s .now) (w .wide .result) (w .before .before .if1 .left) (w .wide .ensures) 4 _ (t .before .before .if2 .left) (omega (arith, t .if4 .taken)) (follows-7a _ (t .if4 .taken)) (c .from-long2 .ensures)
+
+returns-5 : tie.Need-returns-5
+returns-5 c =
+    let w = c .before .before .before in
+    let a = w .before .before .before .before .args in
+    marker-bad (a .n) (a .c) (a .s .now) (w .wide .result) (w .before .before .if1 .left) (w .wide .ensures) (omega (arith, c .if4 .left, c .before .if3 .left, c .before .before .if2 .left))
 
 pub from-size-spec : {M : Type 1} → statement M
 from-size-spec =
@@ -62,15 +78,17 @@ from-size-spec =
     returns
     shared-slice-read-wide
     wide-requires
-    returns-2
-    following-requires
-    sub-if3
-    returns-3
-    add-end
-    sub-counted
-    part-counted-start
-    part-counted-end
-    counted-requires
     sub-from-count
     from-count-requires
-    returns-4)
+    returns-2
+    sub-from-long
+    part-from-long-start
+    part-from-long-end
+    from-long-requires
+    returns-3
+    sub-from-long-2
+    part-from-long-start-2
+    part-from-long-end-2
+    from-long-requires-2
+    returns-4
+    returns-5)
