@@ -7,7 +7,7 @@ use mathlib.Core.List.{List}
 use lib.Dec.{eqb, ltb}
 use lib.ListN.{length, getD, take, drop}
 use borrow.Author.Tests.{eqb-true, eqb-false, ltb-true, ltb-false, lt-ltb, le-ltb}
-use Rattle.tib_field.specs.Name.{ZeroIn}
+use Rattle.tib_field.specs.Name.{ZeroIn, Far}
 use Rattle.tib_field.proofs.Slices.{tail-part}
 
 -- Whether an octet at a place below n is zero.
@@ -85,11 +85,6 @@ unfolding ZeroIn
 none-here s i n b p h = λ j f g l e. p .found j f (omega arith) l e
 
 -- Sixteen octets at once, from the place 17 on, where the octets before it are told.
-pub record Far (s : List ℕ) (i n : ℕ) : Type 0 where
-  pub from : 17 ≤ i
-  pub inside : i < n
-  pub found : ZeroIn false s 1 i n
-
 pub far-start : (s : List ℕ) (n : ℕ) → 17 < n → ZeroIn false s 1 17 n → Far s 17 n
 far-start s n h p = record { from = omega arith; inside = h; found = p }
 
@@ -128,6 +123,18 @@ module _ (s : List ℕ) (i n : ℕ) (p : Far s i n) where
       go : (j : ℕ) → 1 ≤ j → j < n → j < n → getD s j 0 ≡ 0 → (t : Bool) → ltb j i ≡ t → ⊥
       go j f g l e true k = p .found j f (ltb-true j i k) l e
       go j f g l e false k = let m = ltb-false j i k in q j (omega arith) (omega arith) (omega arith) e
+
+-- Twice sixteen octets.
+module _ (s : List ℕ) (i n : ℕ) (p : Far s i n) (h : 32 < n - i) where
+  pub pair-zero : (t u : Bool) → (t || u) ≡ true → ZeroIn t s i (i + 16) (i + 16) → ZeroIn u s (i + 16) (i + 16 + 16) (i + 16 + 16) → ZeroIn true s 1 n n
+  pair-zero true u e q r = far-zero s i n p (omega arith) true refl q
+  pair-zero false u e q r = far-zero s (i + 16) n (far-none s i n p (omega arith) false refl q) (omega arith) u e r
+
+  pub pair-none : (t u : Bool) → (t || u) ≡ false → ZeroIn t s i (i + 16) (i + 16) → ZeroIn u s (i + 16) (i + 16 + 16) (i + 16 + 16) → Far s (i + 32) n
+  pair-none true u e q r = let z : _≡_ {A = ℕ} 0 1 = cc in absurd (omega arith)
+  pair-none false u e q r =
+      let a : i + 16 + 16 ≡ i + 32 = omega arith in
+      subst (λ (k : ℕ). Far s k n) a (far-none s (i + 16) n (far-none s i n p (omega arith) false refl q) (omega arith) u e r)
 
 -- The octets up to 16, and those after them.
 pub same-size : (t : Bool) (s : List ℕ) (e n : ℕ) → e ≡ n → ZeroIn t s 1 e e → ZeroIn t s 1 n n

@@ -7,7 +7,7 @@ ghost use Prim.Native.Nat.{_+_, _≤_, _<_};
 ghost use lib.Dec.{eqb, ltb};
 ghost use lib.ListN.{length};
 ghost use Rattle.octets.specs.Number.{unsigned};
-ghost use Rattle.tib_field.specs.Name.{ZeroIn, nameFault};
+ghost use Rattle.tib_field.specs.Name.{ZeroIn, Far, nameFault};
 ghost use Rattle.tib_field.specs.Refused.{refusedCheck, noReal, refusedField};
 ghost use Rattle.tib_field.specs.Octets.{orZero, begins as begins-with};
 
@@ -156,14 +156,13 @@ fn zero_of_sixteen(s: &[u8], at: usize) -> bool
     z
 }
 
-// Whether a zero stands from the place 1 to n where none stands before the place 17, sixteen octets at once. The last sixteen end at n,
-// and may have been read in part.
-fn zero_far(s: &[u8], n: usize) -> bool
-    requires { ⌜ (17 < n) × (n ≤ length (now s)) ⌝ }
-    requires { ⌜ ZeroIn false (now s) 1 17 n ⌝ }
+// Whether a zero stands from the place 1 to n where none stands before a place, sixteen octets at once. The last sixteen end at n, and may have
+// been read in part.
+fn zero_from(s: &[u8], from: usize, n: usize) -> bool
+    requires { ⌜ (n ≤ length (now s)) × Far (now s) from n ⌝ }
     ensures { λ r. ⌜ ZeroIn r (now (s .entry)) 1 n n ⌝ }
 {
-    let mut i: usize = 17;
+    let mut i = from;
     while 16 < n - i {
         if zero_of_sixteen(s, i) {
             return true;
@@ -171,6 +170,21 @@ fn zero_far(s: &[u8], n: usize) -> bool
         i += 16;
     }
     zero_of_sixteen(s, n - 16)
+}
+
+// The same from the place 17 on, thirty-two octets at once as far as there are as many.
+fn zero_far(s: &[u8], n: usize) -> bool
+    requires { ⌜ (n ≤ length (now s)) × Far (now s) 17 n ⌝ }
+    ensures { λ r. ⌜ ZeroIn r (now (s .entry)) 1 n n ⌝ }
+{
+    let mut i: usize = 17;
+    while 32 < n - i {
+        if zero_of_sixteen(s, i) | zero_of_sixteen(s, i + 16) {
+            return true;
+        }
+        i += 32;
+    }
+    zero_from(s, i, n)
 }
 
 // Whether a zero stands from the place 1 to n, one octet after the other.

@@ -2,7 +2,8 @@
 use Prim.Native.Nat.{_-_}
 use borrow.Author.Needs.{needs}
 use native.Mathlib.Omega.{arith}
-use Rattle.tib_field.proofs.Zeros.{Far, far-start, far-zero, far-none, far-last}
+use Rattle.tib_field.specs.Name.{Far}
+use Rattle.tib_field.proofs.Zeros.{pair-zero, pair-none}
 use Rattle.tib_field.proofs.zero_far.Statement.{statement}
 use Rattle.tib_field.proofs.zero_far.Tie as tie
 
@@ -13,7 +14,7 @@ abbrev μ-loop : tie.MeasureT-loop
 μ-loop s n i₀ i = n - i
 
 loop-holds : tie.Need-loop-holds Inv-loop μ-loop
-loop-holds c = far-start _ _ (c .before .pre .0 .0) (c .before .pre .1)
+loop-holds c = c .before .pre .1
 
 sub-loop : tie.Need-sub-loop Inv-loop μ-loop
 sub-loop c = search needs
@@ -21,10 +22,17 @@ sub-loop c = search needs
 zero-of-sixteen-requires : tie.Need-zero-of-sixteen-requires Inv-loop μ-loop
 zero-of-sixteen-requires c κs = search needs
 
+add-zero-of-sixteen : tie.Need-add-zero-of-sixteen Inv-loop μ-loop
+add-zero-of-sixteen c = search needs
+
+zero-of-sixteen-requires-2 : tie.Need-zero-of-sixteen-requires-2 Inv-loop μ-loop
+zero-of-sixteen-requires-2 c κs = search needs
+
 returns : tie.Need-returns Inv-loop μ-loop
 returns c =
-    let b = c .before .before .before in
-    far-zero _ _ _ (b .loop .inv) (c .before .before .loop-test .taken) _ (c .if1 .taken) (c .before .zero-of-sixteen .ensures)
+    let u = c .before in
+    let l = u .before .before in
+    pair-zero _ _ _ (l .before .loop .inv) (l .loop-test .taken) _ _ (c .if1 .taken) (u .before .zero-of-sixteen .ensures) (u .zero-of-sixteen2 .ensures)
 
 add-i : tie.Need-add-i Inv-loop μ-loop
 add-i c = search needs
@@ -34,17 +42,15 @@ loop-less c = omega arith
 
 loop-again : tie.Need-loop-again Inv-loop μ-loop
 loop-again c =
-    let b = c .before .before .before in
-    far-none _ _ _ (b .loop .inv) (c .before .before .loop-test .taken) _ (c .if1 .left) (c .before .zero-of-sixteen .ensures)
+    let u = c .before in
+    let l = u .before .before in
+    pair-none _ _ _ (l .before .loop .inv) (l .loop-test .taken) _ _ (c .if1 .left) (u .before .zero-of-sixteen .ensures) (u .zero-of-sixteen2 .ensures)
 
-sub-zero-of-sixteen : tie.Need-sub-zero-of-sixteen Inv-loop μ-loop
-sub-zero-of-sixteen c = search needs
-
-zero-of-sixteen-requires-2 : tie.Need-zero-of-sixteen-requires-2 Inv-loop μ-loop
-zero-of-sixteen-requires-2 c κs = search needs
+zero-from-requires : tie.Need-zero-from-requires Inv-loop μ-loop
+zero-from-requires c κs = (c .before .before .before .pre .0, c .before .loop .inv)
 
 returns-2 : tie.Need-returns-2 Inv-loop μ-loop
-returns-2 c = far-last _ _ _ (c .before .before .loop .inv) (c .before .loop-test .left) _ (c .zero-of-sixteen2 .ensures)
+returns-2 c = c .zero-from .ensures
 
 pub zero-far-spec : {M : Type 1} → statement M
 zero-far-spec =
@@ -55,10 +61,11 @@ zero-far-spec =
     loop-holds
     sub-loop
     zero-of-sixteen-requires
+    add-zero-of-sixteen
+    zero-of-sixteen-requires-2
     returns
     add-i
     loop-less
     loop-again
-    sub-zero-of-sixteen
-    zero-of-sixteen-requires-2
+    zero-from-requires
     returns-2)

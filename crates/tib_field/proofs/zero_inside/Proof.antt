@@ -1,7 +1,7 @@
 -- `tib_field::zero_inside` meets its contract.
 use borrow.Author.Needs.{needs}
 use native.Mathlib.Omega.{arith}
-use Rattle.tib_field.proofs.Zeros.{same-size, near-zero, near-none, near-all}
+use Rattle.tib_field.proofs.Zeros.{same-size, near-zero, near-none, near-all, far-start}
 use Rattle.tib_field.proofs.zero_inside.Statement.{statement}
 use Rattle.tib_field.proofs.zero_inside.Tie as tie
 
@@ -30,7 +30,7 @@ zero-far-requires : tie.Need-zero-far-requires
 zero-far-requires c κs =
     let b = c .before .before in
     let e = b .before .before .wide .ensures in
-    ((c .if3 .left, search needs), near-none _ _ _ _ (c .before .if2 .left) (b .zero-near .ensures) e)
+    (search needs, far-start _ _ (c .if3 .left) (near-none _ _ _ _ (c .before .if2 .left) (b .zero-near .ensures) e))
 
 returns-4 : tie.Need-returns-4
 returns-4 c = same-size _ _ _ _ (c .before .before .before .before .before .wide .ensures) (c .zero-far .ensures)
