@@ -1,4 +1,5 @@
 pub mod Numbers
 pub mod Signs
 pub mod Groups
+pub mod Lasts
 pub mod Leads

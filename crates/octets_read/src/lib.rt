@@ -4,16 +4,17 @@ use octets::Control;
 use octets::Signed;
 use octets::Unsigned;
 ghost use mathlib.Core.Path.{_≡_};
-ghost use mathlib.Core.Bool.{cond};
-ghost use Prim.Native.Nat.{_<_, _≤_, _^_};
+ghost use mathlib.Core.Bool.{cond, false};
+ghost use mathlib.Core.List.{List, _∷_};
+ghost use Prim.Native.Nat.{ℕ, _<_, _≤_, _^_};
 ghost use lib.Dec.{ltb};
 ghost use lib.ListN.{length, drop};
 ghost use lib.IntN.{pos, negℤ};
 ghost use Rattle.octets.specs.Number.{number, unsigned};
 ghost use Rattle.octets.specs.Signed.{signed, lowest};
-ghost use Rattle.octets.specs.Text.{text as text-of, textAfter, followers};
+ghost use Rattle.octets.specs.Text.{text as text-of, textAfter};
 ghost use Rattle.octets.specs.Control.{control as control-of, controlOf, following, tagCode, lengthCode};
-ghost use Rattle.octets_read.specs.Lead.{orFour};
+ghost use Rattle.octets_read.specs.Last.{toCome};
 
 // An octet as a number. As a function it spares each caller the proof that the octet fits.
 fn wide(x: u8) -> u64
@@ -89,28 +90,6 @@ pub fn int(s: &[u8]) -> Signed
     }
 }
 
-// How many octets follow a lead octet of text, 4 where an octet is no lead.
-fn lead(x: u8) -> u8
-    ensures { λ r. ⌜ r ≡ orFour (followers x) ⌝ }
-{
-    if x < 0x80 {
-        return 0;
-    }
-    if x < 0xc0 {
-        return 4;
-    }
-    if x < 0xe0 {
-        return 1;
-    }
-    if x < 0xf0 {
-        return 2;
-    }
-    if x < 0xf8 {
-        return 3;
-    }
-    4
-}
-
 // A number of octets at the front that all stand alone, eight at once. In most texts every octet does, and one by one takes longer.
 fn plain_front(s: &[u8]) -> usize
     ensures { λ r. ⌜ r ≤ length (now (s .entry)) ⌝ }
@@ -128,37 +107,55 @@ fn plain_front(s: &[u8]) -> usize
     i
 }
 
-// Whether octets are text. `left` octets of the group that was begun are still to come.
+// All octets at the front that stand alone. A short text mostly ends here.
+fn plain_run(s: &[u8]) -> usize
+    ensures { λ r. ⌜ r ≤ length (now (s .entry)) ⌝ }
+    ensures { λ r. ⌜ text-of (now (s .entry)) ≡ textAfter 0 (drop r (now (s .entry))) ⌝ }
+{
+    let mut i = plain_front(s);
+    while i < s.len() {
+        if 0x80 <= s[i] {
+            return i;
+        }
+        i += 1;
+    }
+    i
+}
+
+// Whether the last three octets, of which c is the last, want more octets: one of them leads a group that reaches past c.
+fn wanting(a: u8, b: u8, c: u8) -> bool
+    ensures { λ r. ⌜ r ≡ ltb 0 (toCome a b c) ⌝ }
+{
+    (0xc0 <= c) | (0xe0 <= b) | (0xf0 <= a)
+}
+
+// Whether x cannot stand after these three octets.
+fn wrong(a: u8, b: u8, c: u8, x: u8) -> bool
+    ensures { λ r. ⌜ ((s : List ℕ) → textAfter (toCome a b c) (x ∷ s) ≡ cond r false (textAfter (toCome b c x) s)) ⌝ }
+{
+    let follows = (0x80 <= x) & (x < 0xc0);
+    (wanting(a, b, c) ^ follows) | (0xf8 <= x)
+}
+
+// Whether octets are text. Each octet is judged by the three before it alone, and no turn leaves the loop, so that the machine can
+// take many octets at once.
 pub fn text(s: &[u8]) -> bool
     ensures { λ r. ⌜ r ≡ text-of (now (s .entry)) ⌝ }
 {
-    let mut left: u8 = 0;
-    let mut i = plain_front(s);
+    let mut i = plain_run(s);
+    let mut a: u8 = 0;
+    let mut b: u8 = 0;
+    let mut c: u8 = 0;
+    let mut bad = false;
     while i < s.len() {
         let x = s[i];
-        if left == 0 {
-            if x < 0x80 {
-                i += 1;
-            } else {
-                let n = lead(x);
-                if n == 4 {
-                    return false;
-                }
-                left = n;
-                i += 1;
-            }
-        } else {
-            if x < 0x80 {
-                return false;
-            }
-            if 0xc0 <= x {
-                return false;
-            }
-            left -= 1;
-            i += 1;
-        }
+        bad = bad | wrong(a, b, c, x);
+        a = b;
+        b = c;
+        c = x;
+        i += 1;
     }
-    left == 0
+    !(bad | wanting(a, b, c))
 }
 
 // How many octets of a tag follow its lead.

@@ -8,7 +8,7 @@ use Rattle.octets_read.proofs.plain_front.Statement.{statement}
 use Rattle.octets_read.proofs.plain_front.Tie as tie
 
 abbrev Inv-loop : tie.InvT-loop
-Inv-loop s i₀ i = Here s 0 i
+Inv-loop s i₀ i = Here s i
 
 abbrev μ-loop : tie.MeasureT-loop
 μ-loop s i₀ i = length s - i
