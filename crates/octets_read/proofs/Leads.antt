@@ -3,9 +3,7 @@ use Prim.Native.Nat.{ℕ, _+_, _-_, _/_, _%_, _≤_, _<_}
 use native.Mathlib.Nat.{add-assoc}
 use native.Mathlib.Omega.{arith}
 use mathlib.Core.Path.{_≡_, refl, sym, ap, _∙_}
-use mathlib.Core.Bool.{cond}
 use mathlib.Core.List.{List, [], _∷_}
-use lib.Dec.{ltb}
 use lib.Bits.{bitAnd, and-mask, mask-lt}
 use lib.ListN.{length, getD, take, drop, length-drop}
 use lib.Seq.{take-all}
@@ -51,9 +49,9 @@ module _ (t l n m : ℕ) (s : List ℕ) (e : n ≡ following tagCode t) (f : m �
   unfolding controlOf
   partial h = rw (← e, ← f, lt-ltb (length s) (n + m) h)
 
-  pub whole : (a b : ℕ) → n + m ≤ length s → a ≡ cond (ltb t 14) t (number (take (n - 0) (drop 0 s)))
-      → b ≡ cond (ltb l 12) l (number (take (n + m - n) (drop n s))) → Whole a b (1 + (n + m)) ≡ controlOf t l s
-  unfolding controlOf coded
+  pub whole : (a b : ℕ) → n + m ≤ length s → a ≡ coded tagCode t (take (n - 0) (drop 0 s))
+      → b ≡ coded lengthCode l (take (n + m - n) (drop n s)) → Whole a b (1 + (n + m)) ≡ controlOf t l s
+  unfolding controlOf
   whole a b h p q =
       let y : n - 0 ≡ n = omega arith in
       let z : n + m - n ≡ m = omega arith in

@@ -3,3 +3,4 @@ pub mod Signs
 pub mod Groups
 pub mod Lasts
 pub mod Leads
+pub mod Coded

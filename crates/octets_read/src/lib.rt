@@ -6,14 +6,14 @@ use octets::Unsigned;
 ghost use mathlib.Core.Path.{_≡_};
 ghost use mathlib.Core.Bool.{cond, false};
 ghost use mathlib.Core.List.{List, _∷_};
-ghost use Prim.Native.Nat.{ℕ, _<_, _≤_, _^_};
+ghost use Prim.Native.Nat.{ℕ, _+_, _<_, _≤_, _^_};
 ghost use lib.Dec.{ltb};
-ghost use lib.ListN.{length, drop};
+ghost use lib.ListN.{length, take, drop};
 ghost use lib.IntN.{pos, negℤ};
 ghost use Rattle.octets.specs.Number.{number, unsigned};
 ghost use Rattle.octets.specs.Signed.{signed, lowest};
 ghost use Rattle.octets.specs.Text.{text as text-of, textAfter};
-ghost use Rattle.octets.specs.Control.{control as control-of, controlOf, following, tagCode, lengthCode};
+ghost use Rattle.octets.specs.Control.{control as control-of, controlOf, following, coded, tagCode, lengthCode};
 ghost use Rattle.octets_read.specs.Last.{toCome};
 
 // An octet as a number. As a function it spares each caller the proof that the octet fits.
@@ -23,7 +23,17 @@ fn wide(x: u8) -> u64
     x as u64
 }
 
-// The number that a few octets hold. More than eight could hold one too large for the result.
+// The number that the octet at i and those before it hold, where v is what those before it hold. More than eight octets could hold one
+// too large for the result.
+fn one_more(s: &[u8], i: usize, v: u64) -> u64
+    requires { ⌜ (i < length (now s)) × (length (now s) ≤ 8) ⌝ }
+    requires { ⌜ v ≡ number (take i (now s)) ⌝ }
+    ensures { λ r. ⌜ r ≡ number (take (i + 1) (now (s .entry))) ⌝ }
+{
+    v * 256 + wide(s[i])
+}
+
+// The number that a few octets hold.
 fn big_endian(s: &[u8]) -> u64
     requires { ⌜ length (now s) ≤ 8 ⌝ }
     ensures { λ r. ⌜ r ≡ number (now (s .entry)) ⌝ }
@@ -31,7 +41,7 @@ fn big_endian(s: &[u8]) -> u64
     let mut v: u64 = 0;
     let mut i = 0;
     while i < s.len() {
-        v = v * 256 + wide(s[i]);
+        v = one_more(s, i, v);
         i += 1;
     }
     v
@@ -158,7 +168,7 @@ pub fn text(s: &[u8]) -> bool
     !(bad | wanting(a, b, c))
 }
 
-// How many octets of a tag follow its lead.
+// How many octets of a tag follow its lead: one after 14, two after 15.
 fn tag_width(t: u64) -> usize
     requires { ⌜ t < 16 ⌝ }
     ensures { λ r. ⌜ r ≡ following tagCode t ⌝ }
@@ -167,13 +177,10 @@ fn tag_width(t: u64) -> usize
     if t < 14 {
         return 0;
     }
-    if t == 14 {
-        return 1;
-    }
-    2
+    (t - 13) as usize
 }
 
-// How many octets of a length follow its lead.
+// How many octets of a length follow its lead: one after 12, and twice as many after each next lead.
 fn length_width(l: u64) -> usize
     requires { ⌜ l < 16 ⌝ }
     ensures { λ r. ⌜ r ≡ following lengthCode l ⌝ }
@@ -182,24 +189,58 @@ fn length_width(l: u64) -> usize
     if l < 12 {
         return 0;
     }
-    if l == 12 {
-        return 1;
-    }
-    if l == 13 {
-        return 2;
-    }
-    if l == 14 {
-        return 4;
-    }
-    8
+    1usize << (l - 12)
 }
 
-// The number that a lead and the octets after it stand for.
-fn value(lead: u64, direct: u64, s: &[u8]) -> u64
-    requires { ⌜ length (now s) ≤ 8 ⌝ }
-    ensures { λ r. ⌜ r ≡ cond (ltb lead direct) lead (number (now (s .entry))) ⌝ }
+// The tag that a lead and the octets after it stand for. With no loop few octets take fewer steps.
+fn tag_value(t: u64, s: &[u8]) -> u64
+    requires { ⌜ (t < 16) × (length (now s) ≡ following tagCode t) ⌝ }
+    ensures { λ r. ⌜ r ≡ coded tagCode t (now (s .entry)) ⌝ }
 {
-    if lead < direct { lead } else { big_endian(s) }
+    if t < 14 {
+        return t;
+    }
+    let a = one_more(s, 0, 0);
+    if t == 14 {
+        return a;
+    }
+    one_more(s, 1, a)
+}
+
+// The number that eight octets hold, where v is what the first four hold.
+fn four_more(s: &[u8], v: u64) -> u64
+    requires { ⌜ length (now s) ≡ 8 ⌝ }
+    requires { ⌜ v ≡ number (take 4 (now s)) ⌝ }
+    ensures { λ r. ⌜ r ≡ number (now (s .entry)) ⌝ }
+{
+    let a = one_more(s, 4, v);
+    let b = one_more(s, 5, a);
+    let c = one_more(s, 6, b);
+    one_more(s, 7, c)
+}
+
+// The length that a lead and the octets after it stand for.
+fn length_value(l: u64, s: &[u8]) -> u64
+    requires { ⌜ (l < 16) × (length (now s) ≡ following lengthCode l) ⌝ }
+    ensures { λ r. ⌜ r ≡ coded lengthCode l (now (s .entry)) ⌝ }
+{
+    if l < 12 {
+        return l;
+    }
+    let a = one_more(s, 0, 0);
+    if l == 12 {
+        return a;
+    }
+    let b = one_more(s, 1, a);
+    if l == 13 {
+        return b;
+    }
+    let c = one_more(s, 2, b);
+    let d = one_more(s, 3, c);
+    if l == 14 {
+        return d;
+    }
+    four_more(s, d)
 }
 
 // A control part of which the octets after the first are given.
@@ -213,8 +254,8 @@ fn after_leads(t: u64, l: u64, s: &[u8]) -> Control
         return Control::Partial;
     }
     Control::Whole {
-        tag: value(t, 14, &s[0..n]),
-        length: value(l, 12, &s[n..e]),
+        tag: tag_value(t, &s[0..n]),
+        length: length_value(l, &s[n..e]),
         size: 1 + (e as u64),
     }
 }

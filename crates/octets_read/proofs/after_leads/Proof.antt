@@ -19,29 +19,29 @@ returns c =
     partial (b .args .t) (b .args .l) (c .before .before .tag-width .result) (c .before .length-width .result) (b .args .s .now)
     (c .before .before .tag-width .ensures .0) (c .before .length-width .ensures .0) (c .if1 .taken)
 
-sub-value : tie.Need-sub-value
-sub-value c = search needs
+sub-tag-value : tie.Need-sub-tag-value
+sub-tag-value c = search needs
 
-part-value-start : tie.Need-part-value-start
-part-value-start c = search needs
+part-tag-value-start : tie.Need-part-tag-value-start
+part-tag-value-start c = search needs
 
-part-value-end : tie.Need-part-value-end
-part-value-end c = search needs
+part-tag-value-end : tie.Need-part-tag-value-end
+part-tag-value-end c = search needs
 
-value-requires : tie.Need-value-requires
-value-requires c κs = search needs
+tag-value-requires : tie.Need-tag-value-requires
+tag-value-requires c κs = search needs
 
-sub-value-2 : tie.Need-sub-value-2
-sub-value-2 c = search needs
+sub-length-value : tie.Need-sub-length-value
+sub-length-value c = search needs
 
-part-value-start-2 : tie.Need-part-value-start-2
-part-value-start-2 c = search needs
+part-length-value-start : tie.Need-part-length-value-start
+part-length-value-start c = search needs
 
-part-value-end-2 : tie.Need-part-value-end-2
-part-value-end-2 c = search needs
+part-length-value-end : tie.Need-part-length-value-end
+part-length-value-end c = search needs
 
-value-requires-2 : tie.Need-value-requires-2
-value-requires-2 c κs = search needs
+length-value-requires : tie.Need-length-value-requires
+length-value-requires c κs = search needs
 
 add-t18 : tie.Need-add-t18
 add-t18 c = search needs
@@ -52,8 +52,8 @@ returns-2 c =
     let b = w .before .before .before in
     whole (b .args .t) (b .args .l) (w .before .tag-width .result) (w .length-width .result) (b .args .s .now)
     (w .before .tag-width .ensures .0) (w .length-width .ensures .0)
-    (c .before .before .value .result) (c .value2 .result) (c .before .before .before .before .if1 .left)
-    (c .before .before .value .ensures) (c .value2 .ensures)
+    (c .before .before .tag-value .result) (c .length-value .result) (c .before .before .before .before .if1 .left)
+    (c .before .before .tag-value .ensures) (c .length-value .ensures)
 
 pub after-leads-spec : {M : Type 1} → statement M
 after-leads-spec =
@@ -63,13 +63,13 @@ after-leads-spec =
     length-width-requires
     add-e
     returns
-    sub-value
-    part-value-start
-    part-value-end
-    value-requires
-    sub-value-2
-    part-value-start-2
-    part-value-end-2
-    value-requires-2
+    sub-tag-value
+    part-tag-value-start
+    part-tag-value-end
+    tag-value-requires
+    sub-length-value
+    part-length-value-start
+    part-length-value-end
+    length-value-requires
     add-t18
     returns-2)

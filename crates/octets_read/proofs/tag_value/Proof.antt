@@ -1,0 +1,37 @@
+-- `octets_read::tag_value` meets its contract.
+use Rattle.octets.specs.Control.{tagCode}
+use Rattle.octets_read.proofs.Numbers.{none-held}
+use Rattle.octets_read.proofs.Coded.{coded-direct, tag-one, tag-two, tag-of-one, tag-of-two}
+use Rattle.octets_read.proofs.tag_value.Statement.{statement}
+use Rattle.octets_read.proofs.tag_value.Tie as tie
+
+returns : tie.Need-returns
+returns c = let b = c .before .before in coded-direct tagCode (b .args .t) (b .args .s .now) (c .if1 .taken)
+
+one-more-requires : tie.Need-one-more-requires
+one-more-requires c κs =
+    let b = c .before .before in
+    (tag-one (b .args .t) (b .args .s .now) (b .pre .0) (b .pre .1) (c .if1 .left), none-held (b .args .s .now))
+
+returns-2 : tie.Need-returns-2
+returns-2 c =
+    let k = c .before .before in
+    let b = k .before .before in
+    tag-of-one (b .args .t) (b .args .s .now) (b .pre .0) (b .pre .1) (k .if1 .left) (c .before .one-more .result) (c .if2 .taken)
+    (c .before .one-more .ensures)
+
+one-more-requires-2 : tie.Need-one-more-requires-2
+one-more-requires-2 c κs =
+    let k = c .before .before in
+    let b = k .before .before in
+    (tag-two (b .args .t) (b .args .s .now) (b .pre .0) (b .pre .1) (k .if1 .left) (c .if2 .left), c .before .one-more .ensures)
+
+returns-3 : tie.Need-returns-3
+returns-3 c =
+    let k = c .before .before .before in
+    let b = k .before .before in
+    tag-of-two (b .args .t) (b .args .s .now) (b .pre .0) (b .pre .1) (k .if1 .left) (c .one-more2 .result) (c .one-more2 .ensures)
+
+pub tag-value-spec : {M : Type 1} → statement M
+tag-value-spec =
+    tie.close (tie.spec returns one-more-requires returns-2 one-more-requires-2 returns-3)
