@@ -110,7 +110,7 @@ none-below x e = go (leb 0x80 x) refl (ltb x 0xc0) refl e
     go true e false f g = absurd (false≢true g)
     go false e u f g = absurd (false≢true g)
 
-none-above : (x : ℕ) → 0xf8 ≤ x → followers x ≡ none
+pub none-above : (x : ℕ) → 0xf8 ≤ x → followers x ≡ none
 unfolding followers
 none-above x h =
     rw (
@@ -136,11 +136,11 @@ lead-wants x e h = go (leb 0x80 x) refl (ltb x 0xc0) refl e
     go false e u f g = let k = leb-false 0x80 x e in rw (lt-ltb x 0x80 k, lt-ltb x 0xc0 (omega arith))
 
 -- An octet that is read as a lead.
-no-lead : (x : ℕ) (s : List ℕ) → followers x ≡ none → textAfter 0 (x ∷ s) ≡ false
+pub no-lead : (x : ℕ) (s : List ℕ) → followers x ≡ none → textAfter 0 (x ∷ s) ≡ false
 unfolding textAfter
 no-lead x s e = rw (textAfter, e)
 
-lead-of : (x n : ℕ) (s : List ℕ) → followers x ≡ some n → textAfter 0 (x ∷ s) ≡ textAfter n s
+pub lead-of : (x n : ℕ) (s : List ℕ) → followers x ≡ some n → textAfter 0 (x ∷ s) ≡ textAfter n s
 unfolding textAfter
 lead-of x n s e = rw (textAfter, e)
 

@@ -4,3 +4,4 @@ pub mod Groups
 pub mod Lasts
 pub mod Leads
 pub mod Coded
+pub mod Sizes

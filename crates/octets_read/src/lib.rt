@@ -15,6 +15,7 @@ ghost use Rattle.octets.specs.Signed.{signed, lowest};
 ghost use Rattle.octets.specs.Text.{text as text-of, textAfter};
 ghost use Rattle.octets.specs.Control.{control as control-of, controlOf, following, coded, tagCode, lengthCode};
 ghost use Rattle.octets_read.specs.Last.{toCome};
+ghost use Rattle.octets_read.specs.Group.{follow, groupSize};
 
 // An octet as a number. As a function it spares each caller the proof that the octet fits.
 fn wide(x: u8) -> u64
@@ -147,12 +148,14 @@ fn wrong(a: u8, b: u8, c: u8, x: u8) -> bool
     (wanting(a, b, c) ^ follows) | (0xf8 <= x)
 }
 
-// Whether octets are text. Each octet is judged by the three before it alone, and no turn leaves the loop, so that the machine can
-// take many octets at once.
-pub fn text(s: &[u8]) -> bool
+// Whether octets are text, of which those before `from` are whole groups. Each octet is judged by the three before it alone, and no
+// turn leaves the loop, so that the machine can take many octets at once.
+fn long_text(s: &[u8], from: usize) -> bool
+    requires { ⌜ from ≤ length (now s) ⌝ }
+    requires { ⌜ text-of (now s) ≡ textAfter 0 (drop from (now s)) ⌝ }
     ensures { λ r. ⌜ r ≡ text-of (now (s .entry)) ⌝ }
 {
-    let mut i = plain_run(s);
+    let mut i = from;
     let mut a: u8 = 0;
     let mut b: u8 = 0;
     let mut c: u8 = 0;
@@ -166,6 +169,101 @@ pub fn text(s: &[u8]) -> bool
         i += 1;
     }
     !(bad | wanting(a, b, c))
+}
+
+// Whether an octet that follows a lead stands at i.
+fn one_follows(s: &[u8], i: usize) -> bool
+    ensures { λ r. ⌜ r ≡ follow 1 (drop i (now (s .entry))) ⌝ }
+{
+    if s.len() <= i {
+        return false;
+    }
+    let x = s[i];
+    (0x80 <= x) & (x < 0xc0)
+}
+
+// Whether two such octets stand at i and after it.
+fn two_follow(s: &[u8], i: usize) -> bool
+    ensures { λ r. ⌜ r ≡ follow 2 (drop i (now (s .entry))) ⌝ }
+{
+    if one_follows(s, i) {
+        return one_follows(s, i + 1);
+    }
+    false
+}
+
+// Whether three such octets stand at i and after it.
+fn three_follow(s: &[u8], i: usize) -> bool
+    ensures { λ r. ⌜ r ≡ follow 3 (drop i (now (s .entry))) ⌝ }
+{
+    if one_follows(s, i) {
+        return two_follow(s, i + 1);
+    }
+    false
+}
+
+// How many octets the group at i has, 0 where none stands there.
+fn group(s: &[u8], i: usize) -> usize
+    requires { ⌜ i < length (now s) ⌝ }
+    ensures { λ r. ⌜ r ≡ groupSize (drop i (now (s .entry))) ⌝ }
+{
+    let x = s[i];
+    if x < 0x80 {
+        return 1;
+    }
+    if x < 0xc0 {
+        return 0;
+    }
+    if x < 0xe0 {
+        if one_follows(s, i + 1) {
+            return 2;
+        }
+        return 0;
+    }
+    if x < 0xf0 {
+        if two_follow(s, i + 1) {
+            return 3;
+        }
+        return 0;
+    }
+    if 0xf8 <= x {
+        return 0;
+    }
+    if three_follow(s, i + 1) {
+        return 4;
+    }
+    0
+}
+
+// The same as `long_text`, group by group, which takes fewer steps where few octets are left.
+fn short_text(s: &[u8], from: usize) -> bool
+    requires { ⌜ from ≤ length (now s) ⌝ }
+    requires { ⌜ text-of (now s) ≡ textAfter 0 (drop from (now s)) ⌝ }
+    ensures { λ r. ⌜ r ≡ text-of (now (s .entry)) ⌝ }
+{
+    let mut i = from;
+    while i < s.len() {
+        let n = group(s, i);
+        if n == 0 {
+            return false;
+        }
+        i += n;
+    }
+    true
+}
+
+// Whether octets are text. Where each octet stands alone, nothing is left to read after the first run.
+pub fn text(s: &[u8]) -> bool
+    ensures { λ r. ⌜ r ≡ text-of (now (s .entry)) ⌝ }
+{
+    let i = plain_run(s);
+    if i == s.len() {
+        return true;
+    }
+    if s.len() - i < 64 {
+        return short_text(s, i);
+    }
+    long_text(s, i)
 }
 
 // How many octets of a tag follow its lead: one after 14, two after 15.

@@ -1,65 +1,42 @@
--- `octets_read::text` meets its contract: at each turn the last three octets tell how many are to come in the open group.
-use Prim.Native.Nat.{_-_}
-use borrow.Author.Needs.{needs}
+-- `octets_read::text` meets its contract.
 use native.Mathlib.Omega.{arith}
-use lib.ListN.{length}
-use Rattle.octets_read.proofs.Lasts.{Turn, begin, turn, finish}
+use borrow.Author.Needs.{needs}
+use Rattle.octets_read.proofs.Sizes.{at-end}
 use Rattle.octets_read.proofs.text.Statement.{statement}
 use Rattle.octets_read.proofs.text.Tie as tie
 
-abbrev Inv-loop : tie.InvT-loop
-Inv-loop s i₀ a₀ b₀ c₀ bad₀ i a b c bad = Turn s bad a b c i
-
-abbrev μ-loop : tie.MeasureT-loop
-μ-loop s i₀ a₀ b₀ c₀ bad₀ i a b c bad = length s - i
-
-plain-run-requires : tie.Need-plain-run-requires Inv-loop μ-loop
+plain-run-requires : tie.Need-plain-run-requires
 plain-run-requires c κs = search needs
 
-loop-holds : tie.Need-loop-holds Inv-loop μ-loop
-loop-holds c =
-    begin (c .before .before .args .s .now) (c .plain-run .result)
-    (record { inside = c .plain-run .ensures .0; same = c .plain-run .ensures .1 })
-
-shared-slice-read-x : tie.Need-shared-slice-read-x Inv-loop μ-loop
-shared-slice-read-x c = search needs
-
-wrong-requires : tie.Need-wrong-requires Inv-loop μ-loop
-wrong-requires c κs = search needs
-
-add-i : tie.Need-add-i Inv-loop μ-loop
-add-i c = search needs
-
-loop-less : tie.Need-loop-less Inv-loop μ-loop
-loop-less c = omega arith
-
-loop-again : tie.Need-loop-again Inv-loop μ-loop
-loop-again c =
-    let k = c .before .before .before in
-    turn (k .before .before .before .args .s .now) (k .loop .bad) (k .loop .a) (k .loop .b) (k .loop .c) (k .loop .i) (c .wrong .result)
-    (k .loop .inv) (c .before .before .loop-test .taken) (c .wrong .ensures)
-
-wanting-requires : tie.Need-wanting-requires Inv-loop μ-loop
-wanting-requires c κs = search needs
-
-returns : tie.Need-returns Inv-loop μ-loop
+returns : tie.Need-returns
 returns c =
-    let k = c .before .before in
-    finish (k .before .before .before .args .s .now) (k .loop .bad) (k .loop .a) (k .loop .b) (k .loop .c) (k .loop .i) (c .wanting .result)
-    (k .loop .inv) (c .before .loop-test .left) (c .wanting .ensures)
+    let k = c .before in
+    at-end (k .before .before .args .s .now) (k .plain-run .result)
+    (record { inside = k .plain-run .ensures .0; same = k .plain-run .ensures .1 }) (omega (arith, c .if1 .taken))
+
+sub-if2 : tie.Need-sub-if2
+sub-if2 c = search needs
+
+short-text-requires : tie.Need-short-text-requires
+short-text-requires c κs = search needs
+
+returns-2 : tie.Need-returns-2
+returns-2 c = search needs
+
+long-text-requires : tie.Need-long-text-requires
+long-text-requires c κs = search needs
+
+returns-3 : tie.Need-returns-3
+returns-3 c = search needs
 
 pub text-spec : {M : Type 1} → statement M
 text-spec =
     tie.close
     (tie.spec
-    Inv-loop
-    μ-loop
     plain-run-requires
-    loop-holds
-    shared-slice-read-x
-    wrong-requires
-    add-i
-    loop-less
-    loop-again
-    wanting-requires
-    returns)
+    returns
+    sub-if2
+    short-text-requires
+    returns-2
+    long-text-requires
+    returns-3)
