@@ -85,33 +85,39 @@ number-ended d at n v out rest k h p =
 pub number-too-long : (d : List ℕ) (at n v : ℕ) → length d < at + n → d ≡ stored d at (octetsOf n v)
 number-too-long d at n v h = let l = length-octetsOf n v in sym (stored-too-long d at (octetsOf n v) (omega arith))
 
--- The first i octets of s are stored.
-pub record CopiedUp (d : List ℕ) (at : ℕ) (s out : List ℕ) (i : ℕ) : Type 0 where
-  pub inside : i ≤ length s
-  pub room : at + length s ≤ length d
+-- Of the first n octets of s the first i are stored.
+pub record CopiedUp (d : List ℕ) (at : ℕ) (s : List ℕ) (n : ℕ) (out : List ℕ) (i : ℕ) : Type 0 where
+  pub inside : i ≤ n
+  pub there : n ≤ length s
+  pub room : at + n ≤ length d
   pub long : length out ≡ length d
   pub written : Written d at (take i s) out
 
-pub copy-begun : (d : List ℕ) (at : ℕ) (s : List ℕ) → at + length s ≤ length d → CopiedUp d at s d 0
-copy-begun d at s h = record { inside = omega arith; room = h; long = refl; written = none-written d at (omega arith) }
+pub copy-begun : (d : List ℕ) (at : ℕ) (s : List ℕ) (n : ℕ) → at + n ≤ length d → n ≤ length s → CopiedUp d at s n d 0
+copy-begun d at s n h b = record { inside = omega arith; there = b; room = h; long = refl; written = none-written d at (omega arith) }
 
-pub copy-turn : (d : List ℕ) (at : ℕ) (s out : List ℕ) (i : ℕ) → i < length s → CopiedUp d at s out i
-    → CopiedUp d at s (set out (at + i) (getD s i 0)) (i + 1)
-copy-turn d at s out i h p =
+pub copy-turn : (d : List ℕ) (at : ℕ) (s : List ℕ) (n : ℕ) (out : List ℕ) (i : ℕ) → i < n → CopiedUp d at s n out i
+    → CopiedUp d at s n (set out (at + i) (getD s i 0)) (i + 1)
+copy-turn d at s n out i h p =
     let r = p .room in
+    let b = p .there in
     let l = length-take-le i s (omega arith) in
     let w : Written d at (take (i + 1) s) (set out (at + i) (getD s i 0)) =
-    rw (add-one i, take-suc s i 0 h) (one-after d at (at + i) (getD s i 0) (take i s) out (rw l) (omega arith) (p .written)) in
+    rw (add-one i, take-suc s i 0 (omega arith)) (one-after d at (at + i) (getD s i 0) (take i s) out (rw l) (omega arith) (p .written)) in
     record {
       inside = omega arith;
+      there = b;
       room = r;
       long = written-length d at (take (i + 1) s) (set out (at + i) (getD s i 0)) w;
       written = w;
     }
 
-pub copy-ended : (d : List ℕ) (at : ℕ) (s out : List ℕ) (i : ℕ) → length s ≤ i → CopiedUp d at s out i → out ≡ stored d at s
-copy-ended d at s out i h p =
-    written-stored d at (take i s) out (p .written) ∙ rw (take-all i s h)
+pub copy-ended : (d : List ℕ) (at : ℕ) (s : List ℕ) (n : ℕ) (out : List ℕ) (i : ℕ) → n ≤ i → CopiedUp d at s n out i
+    → out ≡ stored d at (take n s)
+copy-ended d at s n out i h p =
+    let a = p .inside in
+    let e : i ≡ n = omega arith in
+    written-stored d at (take i s) out (p .written) ∙ rw e
 
 -- The last k of n octets from `at` on are stored again, `by` places further up.
 pub record MovedDown (d : List ℕ) (at n by : ℕ) (out : List ℕ) (k : ℕ) : Type 0 where

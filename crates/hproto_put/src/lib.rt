@@ -1,9 +1,9 @@
 // Storing octets, numbers and control parts into a lent buffer. What does not fit is not stored, so that no call reaches beyond the
 // buffer whatever it is given.
 ghost use mathlib.Core.Path.{_≡_};
-ghost use Prim.Native.Nat.{_+_};
+ghost use Prim.Native.Nat.{_+_, _≤_};
 ghost use lib.Dec.{leb};
-ghost use lib.ListN.{length as length-of};
+ghost use lib.ListN.{length as length-of, take};
 ghost use Rattle.octets.specs.Number.{octetsOf};
 ghost use Rattle.octets.specs.Control.{leastControl};
 ghost use Rattle.hproto_put.specs.Store.{stored, moved};
@@ -57,32 +57,63 @@ pub fn put_control(out: &mut [u8], at: usize, tag: u16, length: u64)
     }
 }
 
-// Stores octets as they are.
+// Stores the first n octets of s.
+fn copy(out: &mut [u8], at: usize, s: &[u8], n: usize)
+    requires { ⌜ at + n ≤ length-of (now out) ⌝ }
+    requires { ⌜ n ≤ length-of (now s) ⌝ }
+    ensures { λ _. ⌜ now (out .exit) ≡ stored (now (out .entry)) at (take n (now (s .entry))) ⌝ }
+{
+    let mut i = 0;
+    while i < n {
+        out[at + i] = s[i];
+        i += 1;
+    }
+}
+
+// Stores octets as they are. An array between the two buffers shows the compiler that they do not share octets: both copies together
+// become one call of memmove, and the array is left out.
 pub fn put_octets(out: &mut [u8], at: usize, s: &[u8])
     ensures { λ _. ⌜ now (out .exit) ≡ stored (now (out .entry)) at (now (s .entry)) ⌝ }
 {
-    if has_room(out.len(), at, s.len()) {
-        let mut i = 0;
-        while i < s.len() {
-            out[at + i] = s[i];
-            i += 1;
+    let n = s.len();
+    if has_room(out.len(), at, n) {
+        if n <= 65536 {
+            let mut kept = [0u8; 65536];
+            copy(&mut kept, 0, s, n);
+            copy(out, at, &kept, n);
+        } else {
+            copy(out, at, s, n);
         }
     }
 }
 
 // Stores n octets of the buffer again, further up. The last one moves first, so that each is read before another takes its place; k
 // of them are moved.
+fn move_back(out: &mut [u8], at: usize, n: usize, by: usize)
+    requires { ⌜ at + n + by ≤ length-of (now out) ⌝ }
+    ensures { λ _. ⌜ now (out .exit) ≡ moved (now (out .entry)) at n by ⌝ }
+{
+    let to = at + by;
+    let mut k = 0;
+    while k < n {
+        k += 1;
+        let i = n - k;
+        out[to + i] = out[at + i];
+    }
+}
+
+// Stores n octets of the buffer again, further up, by an array between as above.
 pub fn move_up(out: &mut [u8], at: usize, n: usize, by: usize)
     ensures { λ _. ⌜ now (out .exit) ≡ moved (now (out .entry)) at n by ⌝ }
 {
     if has_room(out.len(), at, n) {
         if has_room(out.len(), at + n, by) {
-            let to = at + by;
-            let mut k = 0;
-            while k < n {
-                k += 1;
-                let i = n - k;
-                out[to + i] = out[at + i];
+            if n <= 65536 {
+                let mut kept = [0u8; 65536];
+                copy(&mut kept, 0, &out[at..at + n], n);
+                copy(out, at + by, &kept, n);
+            } else {
+                move_back(out, at, n, by);
             }
         }
     }

@@ -1,61 +1,67 @@
--- `hproto_put::put_octets` meets its contract: at each turn the first octets are stored.
-use Prim.Native.Nat.{_-_}
-use borrow.Author.Needs.{needs}
+-- `hproto_put::put_octets` meets its contract.
+use Prim.Native.Nat.{_+_, _≤_}
 use native.Mathlib.Omega.{arith}
-use mathlib.Core.Path.{sym}
+use mathlib.Core.Path.{refl, sym, ap, _∙_}
 use lib.ListN.{length}
+use lib.Seq.{take-all}
+use Rattle.hproto_put.specs.Store.{stored}
 use Rattle.hproto_put.proofs.Room.{room, no-room}
 use Rattle.hproto_put.proofs.Stores.{stored-too-long}
-use Rattle.hproto_put.proofs.Turns.{CopiedUp, copy-begun, copy-turn, copy-ended}
+use Rattle.hproto_put.proofs.Kept.{kept-stored}
+use borrow.Author.Needs.{needs}
 use Rattle.hproto_put.proofs.put_octets.Statement.{statement}
 use Rattle.hproto_put.proofs.put_octets.Tie as tie
 
-abbrev Inv-loop : tie.InvT-loop
-Inv-loop out₀ at s i₀ out i = CopiedUp out₀ at s out i
+-- the octets fit
+fits : (c : tie.Then1)
+    → c .before .before .before .before .args .at + length (c .before .before .before .before .args .s .now)
+    ≤ length (c .before .before .before .before .args .out .now)
+fits c = room _ _ _ _ (c .before .has-room .ensures) (c .if1 .taken)
 
-abbrev μ-loop : tie.MeasureT-loop
-μ-loop out₀ at s i₀ out i = length s - i
-
-has-room-requires : tie.Need-has-room-requires Inv-loop μ-loop
+has-room-requires : tie.Need-has-room-requires
 has-room-requires c κs = search needs
 
-loop-holds : tie.Need-loop-holds Inv-loop μ-loop
-loop-holds c =
-    let a = c .before .before .before .before .args in
-    copy-begun (a .out .now) (a .at) (a .s .now) (room _ _ _ _ (c .before .has-room .ensures) (c .if1 .taken))
+slice-aggregate-copy : tie.Need-slice-aggregate-copy
+slice-aggregate-copy c = search needs
 
-shared-slice-read-out : tie.Need-shared-slice-read-out Inv-loop μ-loop
-shared-slice-read-out c = search needs
+copy-requires : tie.Need-copy-requires
+copy-requires c κs = search needs
 
-add-out : tie.Need-add-out Inv-loop μ-loop
-add-out c = omega arith
+slice-aggregate-copy-2 : tie.Need-slice-aggregate-copy-2
+slice-aggregate-copy-2 c = search needs
 
-slice-write-out : tie.Need-slice-write-out Inv-loop μ-loop
-slice-write-out c = omega arith
+copy-requires-2 : tie.Need-copy-requires-2
+copy-requires-2 c κs =
+    let k = c .before .before .before in
+    let l = k .copy .kept .0 in
+    let h = copy-requires (k .before) κs .0 in
+    (fits (k .before .before .before), omega arith)
 
-add-i : tie.Need-add-i Inv-loop μ-loop
-add-i c = omega arith
+copy-requires-3 : tie.Need-copy-requires-3
+copy-requires-3 c κs = (fits (c .before .before), omega arith)
 
-loop-less : tie.Need-loop-less Inv-loop μ-loop
-loop-less c = omega arith
+same-length : tie.Need-same-length
+same-length c = search needs
 
-loop-again : tie.Need-loop-again Inv-loop μ-loop
-loop-again c =
-    let a = c .before .before .before .before .before .before .before .args in
-    let l = c .before .before .loop in
-    copy-turn (a .out .now) (a .at) (a .s .now) (l .out) (l .i) (c .before .loop-test .taken) (l .inv)
-
-same-length : tie.Need-same-length Inv-loop μ-loop
-same-length c = c .before .loop .inv .long
-
-returns : tie.Need-returns Inv-loop μ-loop
+returns : tie.Need-returns
 returns c =
-    let a = c .before .before .before .before .before .before .args in
-    let l = c .before .loop in
-    copy-ended (a .out .now) (a .at) (a .s .now) (l .out) (l .i) (c .loop-test .left) (l .inv)
+    let k = c .before .before .before .before .before .before in
+    let b = k .before .before .before .before .before .before .before in
+    let h = copy-requires (k .before) (b .κs) .0 in
+    let s = b .args .s .now in
+    c .before .before .copy2 .ensures
+    ∙ kept-stored _ s (k .copy .last .0) (b .args .out .now) (b .args .at) (length s) (omega arith) refl (k .copy .ensures)
 
-returns-2 : tie.Need-returns-2 Inv-loop μ-loop
+same-length-2 : tie.Need-same-length-2
+same-length-2 c = search needs
+
+returns-2 : tie.Need-returns-2
 returns-2 c =
+    let a = c .before .before .before .before .before .before .before .before .before .args in
+    c .before .before .copy3 .ensures ∙ ap (stored (a .out .now) (a .at)) (take-all (length (a .s .now)) (a .s .now) (omega arith))
+
+returns-3 : tie.Need-returns-3
+returns-3 c =
     let a = c .before .before .before .before .args in
     sym (stored-too-long (a .out .now) (a .at) (a .s .now) (no-room _ _ _ _ (c .before .has-room .ensures) (c .if1 .left)))
 
@@ -63,16 +69,14 @@ pub put-octets-spec : {M : Type 1} → statement M
 put-octets-spec =
     tie.close
     (tie.spec
-    Inv-loop
-    μ-loop
     has-room-requires
-    loop-holds
-    shared-slice-read-out
-    add-out
-    slice-write-out
-    add-i
-    loop-less
-    loop-again
+    slice-aggregate-copy
+    copy-requires
+    slice-aggregate-copy-2
+    copy-requires-2
+    copy-requires-3
     same-length
     returns
-    returns-2)
+    same-length-2
+    returns-2
+    returns-3)
