@@ -4,4 +4,5 @@ pub mod Stores
 pub mod Moves
 pub mod Kept
 pub mod Turns
+pub mod Digits
 pub mod Least

@@ -18,19 +18,43 @@ fn has_room(len: usize, at: usize, n: usize) -> bool
     n <= len - at
 }
 
-// Stores the last `width` octets of v, the most significant first. The loop goes from the last one back; k of them are stored. Above
-// its eight octets a number has zeros.
+// Stores the last n octets of v, the most significant first. None waits for another.
+fn put_few(out: &mut [u8], at: usize, n: usize, v: u64)
+    requires { ⌜ at + n ≤ length-of (now out) ⌝ }
+    requires { ⌜ n ≤ 8 ⌝ }
+    ensures { λ _. ⌜ now (out .exit) ≡ stored (now (out .entry)) at (octetsOf n v) ⌝ }
+{
+    let mut k = 0;
+    while k < n {
+        out[at + k] = ((v >> (8 * (n - 1 - k))) % 256) as u8;
+        k += 1;
+    }
+}
+
+// The same of any count: above its eight octets a number has zeros. The loop goes from the last one back; k of them are stored.
+fn put_many(out: &mut [u8], at: usize, n: usize, v: u64)
+    requires { ⌜ at + n ≤ length-of (now out) ⌝ }
+    ensures { λ _. ⌜ now (out .exit) ≡ stored (now (out .entry)) at (octetsOf n v) ⌝ }
+{
+    let mut rest = v;
+    let mut k = 0;
+    while k < n {
+        k += 1;
+        out[at + (n - k)] = (rest % 256) as u8;
+        rest = rest / 256;
+    }
+}
+
+// Stores the last `width` octets of v, the most significant first.
 pub fn put_number(out: &mut [u8], at: usize, width: u64, v: u64)
     ensures { λ _. ⌜ now (out .exit) ≡ stored (now (out .entry)) at (octetsOf width v) ⌝ }
 {
     let n = width as usize;
     if has_room(out.len(), at, n) {
-        let mut rest = v;
-        let mut k = 0;
-        while k < n {
-            k += 1;
-            out[at + (n - k)] = (rest % 256) as u8;
-            rest = rest / 256;
+        if n <= 8 {
+            put_few(out, at, n, v);
+        } else {
+            put_many(out, at, n, v);
         }
     }
 }

@@ -22,7 +22,7 @@ pub width-some : (v : ℕ) → 0 < v → v < 2 ^ 64 → 0 < width v
 width-some v h fits = power-above 0 (width v) (lt-of-le-of-lt h (width-holds v fits))
 
 -- An octet is eight binary digits.
-power-digits : (n : ℕ) → 256 ^ n ≡ 2 ^ (8 * n)
+pub power-digits : (n : ℕ) → 256 ^ n ≡ 2 ^ (8 * n)
 power-digits zero = refl
 power-digits (suc n) =
     let e : 8 * suc n ≡ 8 * n + 8 = omega arith in

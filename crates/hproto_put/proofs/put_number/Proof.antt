@@ -1,61 +1,40 @@
--- `hproto_put::put_number` meets its contract: at each turn the last octets of the number are stored.
-use Prim.Native.Nat.{_-_}
-use borrow.Author.Needs.{needs}
-use native.Mathlib.Omega.{arith}
+-- `hproto_put::put_number` meets its contract.
+use Prim.Native.Nat.{_+_, _≤_}
+use lib.ListN.{length}
 use Rattle.hproto_put.proofs.Room.{room, no-room}
-use Rattle.hproto_put.proofs.Turns.{NumberDown, number-begun, number-turn, number-ended, number-too-long}
+use Rattle.hproto_put.proofs.Turns.{number-too-long}
+use borrow.Author.Needs.{needs}
 use Rattle.hproto_put.proofs.put_number.Statement.{statement}
 use Rattle.hproto_put.proofs.put_number.Tie as tie
 
-abbrev Inv-loop : tie.InvT-loop
-Inv-loop out₀ at width v n rest₀ k₀ out rest k = NumberDown out₀ at width v out rest k
+-- the octets fit
+fits : (c : tie.Then1)
+    → c .before .before .before .args .at + c .before .before .before .args .width ≤ length (c .before .before .before .args .out .now)
+fits c = room _ _ _ _ (c .before .has-room .ensures) (c .if1 .taken)
 
-abbrev μ-loop : tie.MeasureT-loop
-μ-loop out₀ at width v n rest₀ k₀ out rest k = width - k
-
-has-room-requires : tie.Need-has-room-requires Inv-loop μ-loop
+has-room-requires : tie.Need-has-room-requires
 has-room-requires c κs = search needs
 
-loop-holds : tie.Need-loop-holds Inv-loop μ-loop
-loop-holds c =
-    let a = c .before .before .before .args in
-    number-begun (a .out .now) (a .at) (a .width) (a .v) (room _ _ _ _ (c .before .has-room .ensures) (c .if1 .taken))
+put-few-requires : tie.Need-put-few-requires
+put-few-requires c κs = (fits (c .before .before), c .before .if2 .taken)
 
-add-k : tie.Need-add-k Inv-loop μ-loop
-add-k c = omega arith
+put-many-requires : tie.Need-put-many-requires
+put-many-requires c κs = fits (c .before .before)
 
-cast-out : tie.Need-cast-out Inv-loop μ-loop
-cast-out c = omega arith
+same-length : tie.Need-same-length
+same-length c = search needs
 
-sub-out : tie.Need-sub-out Inv-loop μ-loop
-sub-out c = omega arith
+returns : tie.Need-returns
+returns c = search needs
 
-add-out : tie.Need-add-out Inv-loop μ-loop
-add-out c = omega arith
+same-length-2 : tie.Need-same-length-2
+same-length-2 c = search needs
 
-slice-write-out : tie.Need-slice-write-out Inv-loop μ-loop
-slice-write-out c = omega arith
+returns-2 : tie.Need-returns-2
+returns-2 c = search needs
 
-loop-less : tie.Need-loop-less Inv-loop μ-loop
-loop-less c = omega arith
-
-loop-again : tie.Need-loop-again Inv-loop μ-loop
-loop-again c =
-    let a = c .before .before .before .before .before .args in
-    let l = c .before .loop in
-    number-turn (a .out .now) (a .at) (a .width) (a .v) (l .out) (l .rest) (l .k) (c .loop-test .taken) (l .inv)
-
-same-length : tie.Need-same-length Inv-loop μ-loop
-same-length c = c .before .loop .inv .long
-
-returns : tie.Need-returns Inv-loop μ-loop
-returns c =
-    let a = c .before .before .before .before .before .args in
-    let l = c .before .loop in
-    number-ended (a .out .now) (a .at) (a .width) (a .v) (l .out) (l .rest) (l .k) (c .loop-test .left) (l .inv)
-
-returns-2 : tie.Need-returns-2 Inv-loop μ-loop
-returns-2 c =
+returns-3 : tie.Need-returns-3
+returns-3 c =
     let a = c .before .before .before .args in
     number-too-long (a .out .now) (a .at) (a .width) (a .v) (no-room _ _ _ _ (c .before .has-room .ensures) (c .if1 .left))
 
@@ -63,17 +42,11 @@ pub put-number-spec : {M : Type 1} → statement M
 put-number-spec =
     tie.close
     (tie.spec
-    Inv-loop
-    μ-loop
     has-room-requires
-    loop-holds
-    add-k
-    cast-out
-    sub-out
-    add-out
-    slice-write-out
-    loop-less
-    loop-again
+    put-few-requires
+    put-many-requires
     same-length
     returns
-    returns-2)
+    same-length-2
+    returns-2
+    returns-3)
