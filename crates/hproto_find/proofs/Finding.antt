@@ -45,17 +45,17 @@ module _ (w : ℕ) where
 
 -- ---- whether a word is for a number and a tag
 
-unfoldable fits : ℕ → ℕ → ℕ → Bool
+unfoldable pub fits : ℕ → ℕ → ℕ → Bool
 fits number tag w = eqb (entry w .number) number && eqb (entry w .tag) tag
 
-fits-key : (number tag w : ℕ) → tag < 65536 → w / 65536 ≡ number * 65536 + tag → fits number tag w ≡ true
+pub fits-key : (number tag w : ℕ) → tag < 65536 → w / 65536 ≡ number * 65536 + tag → fits number tag w ≡ true
 unfolding fits entry
 fits-key number tag w h e =
     let a : w / 4294967296 ≡ number = omega arith in
     let b : w / 65536 % 65536 ≡ tag = omega arith in
     rw (eq-eqb (w / 4294967296) number a, eq-eqb (w / 65536 % 65536) tag b) refl
 
-fits-not : (number tag w : ℕ) → (w / 65536 ≡ number * 65536 + tag → ⊥) → fits number tag w ≡ false
+pub fits-not : (number tag w : ℕ) → (w / 65536 ≡ number * 65536 + tag → ⊥) → fits number tag w ≡ false
 unfolding fits entry
 fits-not number tag w d = go (eqb (w / 4294967296) number) refl (eqb (w / 65536 % 65536) tag) refl
   where
@@ -78,15 +78,15 @@ fits-number number tag w h l = rw (ne-eqb (w / 4294967296) number (λ e. omega a
 
 -- ---- finding, word by word
 
-find-here : (number tag w : ℕ) (ws : List ℕ) → fits number tag w ≡ true → find (map entry (w ∷ ws)) number tag ≡ meaning (entry w)
+pub find-here : (number tag w : ℕ) (ws : List ℕ) → fits number tag w ≡ true → find (map entry (w ∷ ws)) number tag ≡ meaning (entry w)
 unfolding find fits
 find-here number tag w ws e = rw e refl
 
-find-past : (number tag w : ℕ) (ws : List ℕ) → fits number tag w ≡ false → find (map entry (w ∷ ws)) number tag ≡ find (map entry ws) number tag
+pub find-past : (number tag w : ℕ) (ws : List ℕ) → fits number tag w ≡ false → find (map entry (w ∷ ws)) number tag ≡ find (map entry ws) number tag
 unfolding find fits
 find-past number tag w ws e = rw e refl
 
-find-none : (number tag : ℕ) (ws : List ℕ) → ((i : ℕ) → i < length ws → fits number tag (getD ws i 0) ≡ false) → find (map entry ws) number tag ≡ Raw
+pub find-none : (number tag : ℕ) (ws : List ℕ) → ((i : ℕ) → i < length ws → fits number tag (getD ws i 0) ≡ false) → find (map entry ws) number tag ≡ Raw
 unfolding find
 find-none number tag [] h = refl
 find-none number tag (w ∷ ws) h = find-past number tag w ws (h 0 (omega arith)) ∙ find-none number tag ws (λ i l. h (suc i) (omega arith))

@@ -7,7 +7,7 @@ ghost use lib.ListN.{length, take};
 ghost use Rattle.hproto_table.specs.Entry.{entry, find as find-of, kindNumber, meaning as meaning-of};
 
 // What the entry in a word means.
-fn meaning(w: u64) -> Meaning
+pub fn meaning(w: u64) -> Meaning
     ensures { λ r. ⌜ r ≡ meaning-of (entry w) ⌝ }
 {
     let kind = w / 256 % 256;

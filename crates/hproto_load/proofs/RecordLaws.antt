@@ -119,11 +119,11 @@ unfolding wordsBefore
 taken-none s = record { few = omega arith; formed = λ j h. absurd (omega arith); filled = refl }
 
 -- The octets of the record n, by the place that the function counts.
-place-is : (s : List ℕ) (n : ℕ) → take 8 (drop (n * 8) s) ≡ recordAt s n
+pub place-is : (s : List ℕ) (n : ℕ) → take 8 (drop (n * 8) s) ≡ recordAt s n
 unfolding recordAt
 place-is s n = rw (mul-comm n 8) refl
 
-recordOf-word : (r : List ℕ) (w : ℕ) → Word w ≡ recordOf r → (sound r ≡ true) × (w ≡ number (drop 3 r))
+pub recordOf-word : (r : List ℕ) (w : ℕ) → Word w ≡ recordOf r → (sound r ≡ true) × (w ≡ number (drop 3 r))
 unfolding recordOf
 recordOf-word r w e = go (sound r) e
   where
@@ -131,7 +131,7 @@ recordOf-word r w e = go (sound r) e
     go true q = (refl, cc)
     go false q = let z : _≡_ {A = ℕ} 0 1 = cc in absurd (omega arith)
 
-recordOf-wrong : (r : List ℕ) → Wrong ≡ recordOf r → sound r ≡ false
+pub recordOf-wrong : (r : List ℕ) → Wrong ≡ recordOf r → sound r ≡ false
 unfolding recordOf
 recordOf-wrong r e = go (sound r) e
   where

@@ -12,7 +12,7 @@ ghost use Rattle.hproto_table.specs.Repeat.{firstRepeat, rising};
 ghost use Rattle.hproto_load.specs.Pass.{recordOf, Passed};
 
 // A record's word, or that the record is not of the right form.
-enum Record {
+pub enum Record {
     Word(u64),
     Wrong,
 }
@@ -57,7 +57,7 @@ fn five(s: &[u8], at: usize) -> u64
 }
 
 // The record at a place.
-fn record_at(s: &[u8], at: usize) -> Record
+pub fn record_at(s: &[u8], at: usize) -> Record
     ensures { λ r. ⌜ r ≡ recordOf (take 8 (drop at (now (s .entry)))) ⌝ }
 {
     if s.len() < 8 {

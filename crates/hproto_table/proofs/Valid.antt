@@ -24,7 +24,7 @@ use Rattle.hproto_table.proofs.Load.{length-words, load-whole}
 
 -- ---- a table that is loaded is valid
 
-range-snoc : (ws : List ℕ) (w : ℕ) → allInRange ws ≡ true → inRange (entry w) ≡ true → allInRange (ws ++ (w ∷ [])) ≡ true
+pub range-snoc : (ws : List ℕ) (w : ℕ) → allInRange ws ≡ true → inRange (entry w) ≡ true → allInRange (ws ++ (w ∷ [])) ≡ true
 unfolding allInRange
 range-snoc [] w e h = and-both (inRange (entry w)) true h refl
 range-snoc (x ∷ ws) w e h =
@@ -32,7 +32,7 @@ range-snoc (x ∷ ws) w e h =
     let b = allInRange ws in
     and-both a (allInRange (ws ++ (w ∷ []))) (and-left a b e) (range-snoc ws w (and-right a b e) h)
 
-distinct-snoc : (ws : List ℕ) (w : ℕ) → distinct ws ≡ true → seen (pair w) ws ≡ false → distinct (ws ++ (w ∷ [])) ≡ true
+pub distinct-snoc : (ws : List ℕ) (w : ℕ) → distinct ws ≡ true → seen (pair w) ws ≡ false → distinct (ws ++ (w ∷ [])) ≡ true
 unfolding distinct seen
 distinct-snoc [] w e h = refl
 distinct-snoc (x ∷ ws) w e h =

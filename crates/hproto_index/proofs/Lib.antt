@@ -1,0 +1,4 @@
+pub mod Noting
+pub mod Finding
+pub mod Showing
+pub mod Loaded

@@ -1,0 +1,214 @@
+-- An index has the entries of the table that it was made from.
+use Prim.Native.Nat.{ℕ, zero, suc, _+_, _*_, _-_, _/_, _%_, _≤_, _<_, min}
+use native.Mathlib.Numerals.{add-one}
+use native.Mathlib.Omega.{arith}
+use mathlib.Core.Path.{_≡_, refl, sym, ap, _∙_}
+use mathlib.Core.Bool.{Bool, true, false, cond, _&&_}
+use mathlib.Core.List.{List, [], _∷_, _++_, map}
+use lib.ListN.{length, take, drop, getD, replicate, length-take}
+use lib.Seq.{getD-take}
+use lib.Dec.{eqb, leb, ltb}
+use borrow.Author.Tests.{ltb-true, lt-ltb, eqb-true, eqb-false}
+use Rattle.octets.specs.Number.{number}
+use Rattle.hproto_table.specs.Entry.{Entry, entry, entries, find, meaning}
+use Rattle.hproto_table.specs.Load.{inRange, recordAt, wordAt, sound, wordsBefore, pair, seen, accepted, tableOf, load}
+use Rattle.hproto_table.specs.Repeat.{distinct, firstRepeat}
+use Rattle.hproto_table.specs.Valid.{allInRange, allZero, valid}
+use Rattle.hproto_table.specs.declared.Table.{Table}
+use Rattle.hproto_table.specs.declared.Meaning.the-variants.{Raw}
+use Rattle.hproto_table.proofs.Bools.{and-left, and-right}
+use Rattle.hproto_table.proofs.Lists.{take-more, take-min}
+use Rattle.hproto_table.proofs.Load.{length-words, load-whole}
+use Rattle.hproto_table.proofs.Repeat.{distinct-is}
+use Rattle.hproto_table.proofs.Records.{loaded-entries}
+use Rattle.hproto_table.proofs.Valid.{distinct-snoc}
+use Rattle.hproto_table.proofs.SameFinds.{SameFinds}
+use Rattle.hproto_find.proofs.Finding.{fits, fits-not, find-none}
+use Rattle.hproto_index.specs.Slots.{hasSlot, small, slotOf, free, noted, notedBefore, taken, takenFrom, listed}
+use Rattle.hproto_index.proofs.Finding.{listed-slot, listed-rest}
+use Rattle.hproto_index.proofs.Showing.{code, code-finds, wordsOf, shown, Shows, shows, free-unseen}
+
+not-both : (a : Bool) → a ≡ false → a ≡ true → ⊥
+not-both a p q = let z : _≡_ {A = ℕ} 0 1 = cc in absurd (omega arith)
+
+-- ---- by the slots, and by the words for what has no slot
+
+module _ (slots ws rest : List ℕ) (shown : Shows slots ws) where
+  by-slot : (n t : ℕ) → n < 16 → t < 16 → find (listed slots rest) n t ≡ find (map entry ws) n t
+  unfolding Shows
+  by-slot n t h l = listed-slot slots rest n t h l ∙ rw (shown n t h l) (code-finds ws n t (omega arith))
+
+  same-where : ((n t : ℕ) → (n < 16 → t < 16 → ⊥) → find (map entry rest) n t ≡ find (map entry ws) n t) → SameFinds (listed slots rest) (map entry ws)
+  unfolding SameFinds
+  same-where others n t = go (ltb n 16) refl (ltb t 16) refl
+    where
+      beyond : (n < 16 → t < 16 → ⊥) → find (listed slots rest) n t ≡ find (map entry ws) n t
+      beyond d = listed-rest slots rest n t d ∙ others n t d
+
+      go : (a : Bool) → ltb n 16 ≡ a → (b : Bool) → ltb t 16 ≡ b → find (listed slots rest) n t ≡ find (map entry ws) n t
+      go true p true q = by-slot n t (ltb-true n 16 p) (ltb-true t 16 q)
+      go true p false q = beyond (λ h l. not-both (ltb t 16) q (lt-ltb t 16 l))
+      go false p b q = beyond (λ h l. not-both (ltb n 16) p (lt-ltb n 16 h))
+
+-- ---- from octets
+
+pub taken-few : (s slots : List ℕ) (left i : ℕ) → takenFrom s slots i left ≤ i + left
+unfolding takenFrom
+taken-few s slots zero i = omega arith
+taken-few s slots (suc left) i = go (taken s slots i) (taken-few s slots left (suc i))
+  where
+    go : (a : Bool) → takenFrom s slots (suc i) left ≤ suc i + left → cond a (takenFrom s slots (suc i) left) i ≤ i + suc left
+    go true h = omega arith
+    go false h = omega arith
+
+taken-each : (s slots : List ℕ) (left i j : ℕ) → i ≤ j → j < takenFrom s slots i left → taken s slots j ≡ true
+unfolding takenFrom
+taken-each s slots zero i j h l = absurd (omega arith)
+taken-each s slots (suc left) i j h l = go (taken s slots i) refl l (eqb i j) refl (λ a b. taken-each s slots left (suc i) j a b)
+  where
+    go : (a : Bool) → taken s slots i ≡ a → j < cond a (takenFrom s slots (suc i) left) i → (b : Bool) → eqb i j ≡ b
+        → (suc i ≤ j → j < takenFrom s slots (suc i) left → taken s slots j ≡ true) → taken s slots j ≡ true
+    go false e m b q rest = absurd (omega arith)
+    go true e m true q rest = rw (← eqb-true i j q) e
+    go true e m false q rest = rest (omega (arith, eqb-false i j q)) m
+
+sound-range : (s : List ℕ) (j : ℕ) → sound (recordAt s j) ≡ true → inRange (entry (wordAt s j)) ≡ true
+unfolding sound wordAt
+sound-range s j e =
+    let r = recordAt s j in
+    and-right (eqb (length r) 8 && eqb (getD r 0 0) 1 && eqb (number (take 2 (drop 1 r))) 5) (inRange (entry (number (drop 3 r)))) e
+
+words-are : (s : List ℕ) (k : ℕ) → wordsOf (wordAt s) k ≡ wordsBefore s k
+unfolding wordsOf wordsBefore
+words-are s zero = refl
+words-are s (suc k) = rw (words-are s k) refl
+
+-- A word with a slot is not for a number or a tag that has none.
+small-unfit : (w n t : ℕ) → small w ≡ true → (n < 16 → t < 16 → ⊥) → fits n t w ≡ false
+unfolding fits entry small hasSlot
+small-unfit w n t e d = go (eqb (w / 4294967296) n) refl (eqb (w / 65536 % 65536) t) refl
+  where
+    go : (a : Bool) → eqb (w / 4294967296) n ≡ a → (b : Bool) → eqb (w / 65536 % 65536) t ≡ b → a && b ≡ false
+    go true p true q =
+        let a = ltb (w / 4294967296) 16 in
+        let b = ltb (w / 65536 % 65536) 16 in
+        let h : w / 4294967296 < 16 = ltb-true (w / 4294967296) 16 (and-left a b e) in
+        let l : w / 65536 % 65536 < 16 = ltb-true (w / 65536 % 65536) 16 (and-right a b e) in
+        absurd (d (omega (arith, eqb-true (w / 4294967296) n p)) (omega (arith, eqb-true (w / 65536 % 65536) t q)))
+    go true p false q = refl
+    go false p b q = refl
+
+unfit-snoc : (ws : List ℕ) (w n t : ℕ) → find (map entry ws) n t ≡ Raw → fits n t w ≡ false → find (map entry (ws ++ (w ∷ []))) n t ≡ Raw
+unfolding find fits
+unfit-snoc [] w n t e h = rw h refl
+unfit-snoc (x ∷ ws) w n t e h = go (eqb (entry x .number) n && eqb (entry x .tag) t) e (λ q. unfit-snoc ws w n t q h)
+  where
+    go : (a : Bool) → cond a (meaning (entry x)) (find (map entry ws) n t) ≡ Raw
+        → (find (map entry ws) n t ≡ Raw → find (map entry (ws ++ (w ∷ []))) n t ≡ Raw)
+        → cond a (meaning (entry x)) (find (map entry (ws ++ (w ∷ []))) n t) ≡ Raw
+    go true q rest = q
+    go false q rest = rest q
+
+none-small : (word : ℕ → ℕ) (k n t : ℕ) → ((j : ℕ) → j < k → small (word j) ≡ true) → (n < 16 → t < 16 → ⊥)
+    → find (map entry (wordsOf word k)) n t ≡ Raw
+unfolding wordsOf find
+none-small word zero n t h d = refl
+none-small word (suc k) n t h d =
+    unfit-snoc (wordsOf word k) (word k) n t (none-small word k n t (λ j l. h j (omega arith)) d) (small-unfit (word k) n t (h k (omega arith)) d)
+
+-- The octets of a table whose records were all taken.
+module _ (s : List ℕ) (n : ℕ) (count : n ≡ takenFrom s (replicate 256 0) 0 64) (all : length s ≤ 8 * n) where
+  each : (j : ℕ) → j < n → taken s (replicate 256 0) j ≡ true
+  each j l = taken-each s (replicate 256 0) 64 0 j (omega arith) (omega arith)
+
+  formed : (j : ℕ) → j < n → sound (recordAt s j) ≡ true
+  unfolding taken
+  formed j l = and-left (sound (recordAt s j)) (free (wordAt s j) (shown (wordAt s) j)) (each j l)
+
+  freed : (j : ℕ) → j < n → free (wordAt s j) (shown (wordAt s) j) ≡ true
+  unfolding taken
+  freed j l = and-right (sound (recordAt s j)) (free (wordAt s j) (shown (wordAt s) j)) (each j l)
+
+  ranges : (j : ℕ) → j < n → inRange (entry (wordAt s j)) ≡ true
+  ranges j l = sound-range s j (formed j l)
+
+  small-each : (j : ℕ) → j < n → small (wordAt s j) ≡ true
+  unfolding free
+  small-each j l = and-left (small (wordAt s j)) (eqb (getD (shown (wordAt s) j) (slotOf (wordAt s j)) 0) 0) (freed j l)
+
+  apart : (k : ℕ) → k ≤ n → distinct (wordsBefore s k) ≡ true
+  unfolding wordsBefore distinct
+  apart zero h = refl
+  apart (suc k) h =
+      distinct-snoc (wordsBefore s k) (wordAt s k) (apart k (omega arith))
+      (rw (← words-are s k) (free-unseen (wordAt s) k (λ j l. ranges j (omega arith)) (freed k (omega arith))))
+
+  no-repeat : firstRepeat (wordsBefore s n) ≡ n
+  no-repeat =
+      eqb-true (firstRepeat (wordsBefore s n)) (length (wordsBefore s n)) (sym (distinct-is (wordsBefore s n)) ∙ apart n (omega arith)) ∙ length-words s n
+
+  few : n ≤ 64
+  few = omega (arith, taken-few s (replicate 256 0) 64 0)
+
+  pub octets-load : load s ≡ accepted (wordsBefore s n)
+  octets-load = load-whole s n few formed no-repeat all
+
+  -- The slots alone have the entries of the table.
+  pub octets-same : SameFinds (listed (shown (wordAt s) n) []) (map entry (wordsBefore s n))
+  unfolding find
+  octets-same =
+      same-where (shown (wordAt s) n) (wordsBefore s n) [] (rw (← words-are s n) (shows (wordAt s) n ranges))
+      (λ m t d. sym (rw (← words-are s n) (none-small (wordAt s) n m t small-each d)))
+
+  pub octets-accepted : load s .refusal ≡ 0
+  unfolding accepted
+  octets-accepted = rw octets-load refl
+
+  pub octets-entries : (slots ws : List ℕ) → slots ≡ notedBefore (wordAt s) (replicate 256 0) n → ws ≡ []
+      → SameFinds (listed slots ws) (entries (load s .table))
+  unfolding accepted
+  octets-entries slots ws e f = rw (e, f, octets-load, loaded-entries (wordsBefore s n)) octets-same
+
+-- ---- from words
+
+words-taken : (words : List ℕ) (k : ℕ) → k ≤ length words → wordsOf (λ i. getD words i 0) k ≡ take k words
+unfolding wordsOf
+words-taken words zero h = refl
+words-taken words (suc k) h = rw (words-taken words k (omega arith), ← add-one k) (sym (take-more words k (omega arith)))
+
+range-at : (ws : List ℕ) (j : ℕ) → allInRange ws ≡ true → j < length ws → inRange (entry (getD ws j 0)) ≡ true
+unfolding allInRange
+range-at [] j e l = absurd (omega arith)
+range-at (w ∷ ws) zero e l = and-left (inRange (entry w)) (allInRange ws) e
+range-at (w ∷ ws) (suc j) e l = range-at ws j (and-right (inRange (entry w)) (allInRange ws) e) (omega arith)
+
+-- The first words of a table, all in range: the slots, and the words themselves for what has no slot.
+module _ (words : List ℕ) (count : ℕ) (in-range : allInRange (take count words) ≡ true) where
+  abbrev used : ℕ
+  used = min count (length words)
+
+  word-range : (j : ℕ) → j < used → inRange (entry (getD words j 0)) ≡ true
+  word-range j l =
+      let h : length (take count words) ≡ min count (length words) = length-take count words in
+      rw (← getD-take count words j 0 (omega arith)) (range-at (take count words) j in-range (omega arith))
+
+  pub words-same : SameFinds (listed (shown (λ i. getD words i 0) (min count (length words))) (take count words)) (map entry (take count words))
+  words-same =
+      same-where (shown (λ i. getD words i 0) used) (take count words) (take count words)
+      (rw (← take-min count words, ← words-taken words used (omega arith)) (shows (λ i. getD words i 0) used word-range))
+      (λ n t d. refl)
+
+-- A table value that the loader can give.
+valid-range : (t : Table) → valid t ≡ true → allInRange (take (t .count) (t .words)) ≡ true
+unfolding valid
+valid-range t e =
+    let used = take (t .count) (t .words) in
+    let a = leb (t .count) 64 in
+    let b = allInRange used in
+    let c = distinct used in
+    and-right a b (and-left (a && b) c (and-left (a && b && c) (allZero (drop (t .count) (t .words))) e))
+
+pub table-same : (t : Table) → valid t ≡ true
+    → SameFinds (listed (shown (λ i. getD (t .words) i 0) (min (t .count) (length (t .words)))) (take (t .count) (t .words))) (entries t)
+unfolding entries
+table-same t e = words-same (t .words) (t .count) (valid-range t e)
