@@ -1,17 +1,28 @@
 -- A call by the octets of a table, case by case.
-use Prim.Native.Nat.{ℕ, _^_, _≤_, _<_}
-use mathlib.Core.Path.{_≡_, refl, sym}
-use mathlib.Core.List.{List}
-use lib.ListN.{length}
+use Prim.Native.Nat.{ℕ, _*_, _^_, _≤_, _<_}
+use native.Mathlib.Omega.{arith}
+use mathlib.Core.Path.{_≡_, refl, sym, _∙_}
+use mathlib.Core.Bool.{true}
+use mathlib.Core.List.{List, []}
+use lib.ListN.{length, replicate}
 use borrow.Author.Tests.{le-ltb, lt-ltb, eq-eqb, ne-eqb}
-use Rattle.hproto_table.specs.Load.{load}
+use Rattle.octets.specs.Number.{Octets}
+use Rattle.hproto_table.specs.Entry.{entries}
+use Rattle.hproto_table.specs.Load.{wordAt, load}
+use Rattle.hproto_table.specs.Valid.{valid}
 use Rattle.hproto_table.specs.declared.Table.{Table}
 use Rattle.hproto_table.specs.declared.Loaded.{Loaded}
+use Rattle.hproto_table.proofs.SameFinds.{SameFinds}
+use Rattle.hproto_table.proofs.Placed.{loaded-valid}
+use Rattle.hproto_index.specs.Slots.{notedBefore, takenFrom, listed}
+use Rattle.hproto_index.proofs.Loaded.{taken-few, octets-accepted, octets-entries}
+use Rattle.hproto_check.proofs.SameFinds.{indexed-check}
+use Rattle.hproto_shorten.proofs.SameFinds.{indexed-answer, indexed-buffer}
 use Rattle.hproto_calls.specs.Calls.{withTable, checkOctets, shortenOctets, shortenBuffer}
 use Rattle.hproto_check.specs.Check as checks
-use Rattle.hproto_check.specs.Check.{check}
+use Rattle.hproto_check.specs.Check.{checkUnder, check}
 use Rattle.hproto_shorten.specs.Shorten as shortens
-use Rattle.hproto_shorten.specs.Shorten.{answer, buffer}
+use Rattle.hproto_shorten.specs.Shorten.{answerUnder, bufferUnder, answer, buffer}
 
 module _ {A : Type 0} (octets s : List ℕ) (under : Table → A) (refuse : ℕ → ℕ → A) where
   pub message-too-long : 65536 < length s → refuse 1 0 ≡ withTable octets s under refuse
@@ -26,6 +37,43 @@ module _ {A : Type 0} (octets s : List ℕ) (under : Table → A) (refuse : ℕ 
     pub table-loaded : l .refusal ≡ 0 → under (l .table) ≡ withTable octets s under refuse
     unfolding withTable
     table-loaded z = rw (le-ltb (2 ^ 16) (length s) h, ← e, eq-eqb (l .refusal) 0 z)
+
+-- An index that has all records of a table's octets: the table loads, and the calls answer under the index as under the table.
+module _ (octets s : List ℕ) (o : Octets octets) (h : length s ≤ 65536) (n : ℕ) (slots ws : List ℕ) (counted : n ≡ takenFrom octets (replicate 256 0) 0 64)
+    (all : length octets ≤ n * 8) (noted : slots ≡ notedBefore (wordAt octets) (replicate 256 0) n) (none : ws ≡ []) (m : ℕ) where
+  whole : length octets ≤ 8 * n
+  whole = omega arith
+
+  loads : load octets .refusal ≡ 0
+  loads = octets-accepted octets n counted whole
+
+  same : SameFinds (listed slots ws) (entries (load octets .table))
+  same = octets-entries octets n counted whole slots ws noted none
+
+  good : valid (load octets .table) ≡ true
+  good = loaded-valid octets (load octets) o refl loads
+
+  pub check-by-index : checkUnder (listed slots ws) m s ≡ checkOctets octets m s
+  unfolding checkOctets
+  check-by-index =
+      indexed-check (load octets .table) m s slots ws h good same
+      ∙ table-loaded octets s (λ (t : Table). check t m s) checks.refusal h (load octets) refl loads
+
+  pub shorten-by-index : (out : List ℕ) → answerUnder (listed slots ws) m s out ≡ shortenOctets octets m s out
+  unfolding shortenOctets
+  shorten-by-index out =
+      indexed-answer (load octets .table) (listed slots ws) same m s out h good
+      ∙ table-loaded octets s (λ (t : Table). answer t m s out) shortens.refusal h (load octets) refl loads
+
+  pub buffer-by-index : (out : List ℕ) → bufferUnder (listed slots ws) m s out ≡ shortenBuffer octets m s out
+  unfolding shortenBuffer
+  buffer-by-index out =
+      indexed-buffer (load octets .table) (listed slots ws) same m s out h good
+      ∙ table-loaded octets s (λ (t : Table). buffer t m s out) (λ (number place : ℕ). out) h (load octets) refl loads
+
+-- An index has at most 64 records.
+pub counted-few : (octets slots : List ℕ) (n : ℕ) → n ≡ takenFrom octets slots 0 64 → n ≤ 64
+counted-few octets slots n e = omega (arith, taken-few octets slots 64 0)
 
 -- Where a table loads and a message is within the limit, the calls that take the table's octets answer as those that take the table: what
 -- demand 3 says of check and shortener holds of them.

@@ -1,9 +1,12 @@
 // The calls that take a field table as its octets. A message that is too long is refused before the table is loaded, a faulty table
-// before the message number is looked at. Check and shortener do not test the table again that was just loaded; a lookup does.
+// before the message number is looked at. Of most tables an index has every entry: then check and shortener make nothing else of the
+// table. Else, and for a lookup, the table is loaded.
 use hproto_check::Checked;
 use hproto_lookup::Found;
 use hproto_shorten::Shortened;
 ghost use mathlib.Core.Path.{_≡_};
+ghost use Prim.Native.Nat.{_≤_};
+ghost use lib.ListN.{length};
 ghost use Rattle.hproto_calls.specs.Calls.{checkOctets, shortenOctets, shortenBuffer, lookupOctets, lookupLastOctets};
 ghost use Rattle.hproto_check.specs.Check.{refusal as check-refusal};
 ghost use Rattle.hproto_shorten.specs.Shorten.{refusal as shorten-refusal};
@@ -20,18 +23,32 @@ fn unchecked(number: u64, place: u64) -> Checked
     }
 }
 
-// The check of a message.
+// The check of a message that is not too long, by loading the whole table.
+fn check_loaded(table: &[u8], number: u64, message: &[u8]) -> Checked
+    requires { ⌜ length (now message) ≤ 65536 ⌝ }
+    ensures { λ r. ⌜ r ≡ checkOctets (now (table .entry)) number (now (message .entry)) ⌝ }
+{
+    let l = hproto_load::load(table);
+    if l.refusal != 0 {
+        return unchecked(l.refusal, l.place);
+    }
+    hproto_check::check(l.table, number, message)
+}
+
+// The check of a message. Of most tables the index has every entry; then it is all that is made of the table.
 pub fn check(table: &[u8], number: u64, message: &[u8]) -> Checked
     ensures { λ r. ⌜ r ≡ checkOctets (now (table .entry)) number (now (message .entry)) ⌝ }
 {
     if 65536 < message.len() {
         return unchecked(1, 0);
     }
-    let l = hproto_load::load(table);
-    if l.refusal != 0 {
-        return unchecked(l.refusal, l.place);
+    let mut slots = [0u16; 256];
+    let n = hproto_index::index(table, &mut slots);
+    if n * 8 < table.len() {
+        return check_loaded(table, number, message);
     }
-    hproto_check::check_under(&l.table.words, l.table.count, number, message)
+    let none = [0u64; 1];
+    hproto_check::check_under(&slots, hproto_index::first(&none, 0), number, message)
 }
 
 fn unshortened(number: u64, place: u64) -> Shortened
@@ -44,6 +61,19 @@ fn unshortened(number: u64, place: u64) -> Shortened
     }
 }
 
+// The shortener of a message that is not too long, by loading the whole table.
+fn shorten_loaded(table: &[u8], number: u64, message: &[u8], out: &mut [u8]) -> Shortened
+    requires { ⌜ length (now message) ≤ 65536 ⌝ }
+    ensures { λ r. ⌜ r ≡ shortenOctets (now (table .entry)) number (now (message .entry)) (now (out .entry)) ⌝ }
+    ensures { λ r. ⌜ now (out .exit) ≡ shortenBuffer (now (table .entry)) number (now (message .entry)) (now (out .entry)) ⌝ }
+{
+    let l = hproto_load::load(table);
+    if l.refusal != 0 {
+        return unshortened(l.refusal, l.place);
+    }
+    hproto_shorten::shorten(l.table, number, message, out)
+}
+
 // The shortener.
 pub fn shorten(table: &[u8], number: u64, message: &[u8], out: &mut [u8]) -> Shortened
     ensures { λ r. ⌜ r ≡ shortenOctets (now (table .entry)) number (now (message .entry)) (now (out .entry)) ⌝ }
@@ -52,11 +82,13 @@ pub fn shorten(table: &[u8], number: u64, message: &[u8], out: &mut [u8]) -> Sho
     if 65536 < message.len() {
         return unshortened(1, 0);
     }
-    let l = hproto_load::load(table);
-    if l.refusal != 0 {
-        return unshortened(l.refusal, l.place);
+    let mut slots = [0u16; 256];
+    let n = hproto_index::index(table, &mut slots);
+    if n * 8 < table.len() {
+        return shorten_loaded(table, number, message, out);
     }
-    hproto_shorten::shorten_under(&l.table.words, l.table.count, number, message, out)
+    let none = [0u64; 1];
+    hproto_shorten::shorten_under(&slots, hproto_index::first(&none, 0), number, message, out)
 }
 
 fn unfound(number: u64, place: u64) -> Found

@@ -3,10 +3,9 @@
 use hproto_message::Step;
 use hproto_table::Table;
 ghost use mathlib.Core.Path.{_≡_};
-ghost use mathlib.Core.List.{map};
 ghost use Prim.Native.Nat.{_+_, _≤_, max};
-ghost use lib.ListN.{length, take};
-ghost use Rattle.hproto_table.specs.Entry.{entry};
+ghost use lib.ListN.{length};
+ghost use Rattle.hproto_index.specs.Slots.{listed};
 ghost use Rattle.hproto_message.specs.Reading.{messageFrom};
 ghost use Rattle.hproto_check.specs.Check.{check as check-of, checkUnder, refusal};
 ghost use Rattle.hproto_check.specs.Walks.{walk as walk-of};
@@ -35,9 +34,9 @@ fn larger(a: u64, b: u64) -> u64
 // A message of a number whose octets start at a place, in a field at another place. `levels` is how many messages deep it may be, itself
 // counted; a nested message has one less.
 fn nested(
+    slots: &[u16; 256],
     words: &[u64],
-    count: usize,
-    number: u64,
+    n: u64,
     levels: u64,
     field: u64,
     at: u64,
@@ -45,7 +44,7 @@ fn nested(
 ) -> Walk
     requires { ⌜ at + length (now s) ≤ 65536 ⌝ }
     requires { ⌜ levels ≤ 8 ⌝ }
-    ensures { λ r. ⌜ r ≡ walk-of (messageFrom (map entry (take count (now (words .entry)))) levels number field at (now (s .entry))) ⌝ }
+    ensures { λ r. ⌜ r ≡ walk-of (messageFrom (listed (now (slots .entry)) (now (words .entry))) levels n field at (now (s .entry))) ⌝ }
 {
     if levels == 0 {
         return Walk::Refused(5, field);
@@ -54,13 +53,9 @@ fn nested(
     let mut fields: u64 = 0;
     let mut depth: u64 = 1;
     loop {
-        match hproto_field::step(words, count, number, &s[i..]) {
-            Step::Done => {
-                return Walk::Accepted(fields, depth);
-            }
-            Step::Fault(n) => {
-                return Walk::Refused(n, at + (i as u64));
-            }
+        match hproto_field::step(slots, words, n, &s[i..]) {
+            Step::Done => return Walk::Accepted(fields, depth),
+            Step::Fault(k) => return Walk::Refused(k, at + (i as u64)),
             Step::Over(control, contents) => {
                 i = i + control + contents;
                 fields = fields + 1;
@@ -70,15 +65,13 @@ fn nested(
                 let e = a + contents;
                 let here = at + (i as u64);
                 let inside = at + (a as u64);
-                match nested(words, count, m, levels - 1, here, inside, &s[a..e]) {
+                match nested(slots, words, m, levels - 1, here, inside, &s[a..e]) {
                     Walk::Accepted(f, d) => {
                         i = e;
                         fields = fields + (1 + f);
                         depth = larger(depth, d + 1);
                     }
-                    Walk::Refused(n, p) => {
-                        return Walk::Refused(n, p);
-                    }
+                    Walk::Refused(k, p) => return Walk::Refused(k, p),
                 }
             }
         }
@@ -96,10 +89,10 @@ fn refused(number: u64, place: u64) -> Checked
     }
 }
 
-// The check under the first words of a table, whatever they are: no entry, since an entry refuses words that no loader gives with 2. A
-// caller that has just loaded the table, or tested it, need not have it tested again.
-pub fn check_under(words: &[u64], count: usize, number: u64, message: &[u8]) -> Checked
-    ensures { λ r. ⌜ r ≡ checkUnder (map entry (take count (now (words .entry)))) number (now (message .entry)) ⌝ }
+// The check under an index and words, whatever they are. It is no entry: an entry refuses with 2 words that no loader gives. A caller that
+// has just loaded the table, or tested it, need not have it tested again.
+pub fn check_under(slots: &[u16; 256], words: &[u64], number: u64, message: &[u8]) -> Checked
+    ensures { λ r. ⌜ r ≡ checkUnder (listed (now (slots .entry)) (now (words .entry))) number (now (message .entry)) ⌝ }
 {
     if 65536 < message.len() {
         return refused(1, 0);
@@ -107,7 +100,7 @@ pub fn check_under(words: &[u64], count: usize, number: u64, message: &[u8]) -> 
     if 15 < number {
         return refused(2, 0);
     }
-    match nested(words, count, number, 8, 0, 0, message) {
+    match nested(slots, words, number, 8, 0, 0, message) {
         Walk::Accepted(fields, depth) => Checked {
             refusal: 0,
             place: 0,
@@ -129,5 +122,8 @@ pub fn check(t: Table, number: u64, message: &[u8]) -> Checked
     if !hproto_valid::valid(t) {
         return refused(2, 0);
     }
-    check_under(&t.words, t.count, number, message)
+    let mut slots = [0u16; 256];
+    hproto_index::index_words(&t.words, t.count, &mut slots);
+    let words = hproto_index::first(&t.words, t.count);
+    check_under(&slots, words, number, message)
 }

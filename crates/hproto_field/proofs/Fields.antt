@@ -10,7 +10,9 @@ use Rattle.octets.specs.declared.Control.{Control}
 use Rattle.octets.specs.declared.Control.the-variants.{Absent, Partial, Whole}
 use Rattle.octets.proofs.ControlPart.{control-size}
 use Rattle.hproto_table.specs.Entry.{Entry, find}
-use Rattle.hproto_field.specs.Fronts.{nothing, frontFrom, front}
+use Rattle.hproto_table.specs.declared.Meaning.{Meaning}
+use Rattle.hproto_field.specs.Fronts.{nothing, partFrom, part, fieldOf, front}
+use Rattle.hproto_field.specs.declared.Extent.the-variants.{None, Found}
 use Rattle.hproto_message.specs.Reading.{step, stepFrom, stepByKind}
 use Rattle.hproto_message.specs.declared.Step.{Step}
 use Rattle.hproto_message.specs.declared.Step.the-variants.{Done, Fault}
@@ -23,14 +25,6 @@ module _ (es : List Entry) (n : ℕ) (s : List ℕ) where
   pub in-control : control s ≡ Partial → Fault 3 ≡ step es n s
   unfolding step stepFrom
   in-control e = rw e
-
-  pub none-at-end : control s ≡ Absent → nothing ≡ front es n s
-  unfolding front frontFrom
-  none-at-end e = rw e
-
-  pub none-in-control : control s ≡ Partial → nothing ≡ front es n s
-  unfolding front frontFrom
-  none-in-control e = rw e
 
   module _ (tag len size : ℕ) (e : control s ≡ Whole tag len size) where
     pub size-inside : size ≤ length s
@@ -46,10 +40,38 @@ module _ (es : List Entry) (n : ℕ) (s : List ℕ) where
         let k : size + len - size ≡ len = omega arith in
         rw (e, le-leb len (length s - size) h, k)
 
-    pub none-past-end : length s - size < len → nothing ≡ front es n s
-    unfolding front frontFrom
-    none-past-end h = rw (e, lt-leb len (length s - size) h)
-
     pub front-whole : len ≤ length s - size → front es n s ≡ record { tag = tag; kind = find es n tag; control = size; contents = len }
-    unfolding front frontFrom
+    unfolding front fieldOf part partFrom
     front-whole h = rw (e, le-leb len (length s - size) h)
+
+-- ---- the tag and the sizes
+
+module _ (s : List ℕ) where
+  pub no-part-at-end : control s ≡ Absent → None ≡ part s
+  unfolding part partFrom
+  no-part-at-end e = rw e
+
+  pub no-part-in-control : control s ≡ Partial → None ≡ part s
+  unfolding part partFrom
+  no-part-in-control e = rw e
+
+  module _ (tag len size : ℕ) (e : control s ≡ Whole tag len size) where
+    pub no-part-past-end : length s - size < len → None ≡ part s
+    unfolding part partFrom
+    no-part-past-end h = rw (e, lt-leb len (length s - size) h)
+
+    pub part-whole : len ≤ length s - size → Found tag size len ≡ part s
+    unfolding part partFrom
+    part-whole h = rw (e, le-leb len (length s - size) h)
+
+-- ---- the field by what its tag means
+
+module _ (es : List Entry) (n : ℕ) (s : List ℕ) where
+  pub front-none : None ≡ part s → nothing ≡ front es n s
+  unfolding front fieldOf
+  front-none e = rw (← e)
+
+  pub front-found : (tag size len : ℕ) (kind : Meaning) → Found tag size len ≡ part s → kind ≡ find es n tag
+      → record { tag = tag; kind = kind; control = size; contents = len } ≡ front es n s
+  unfolding front fieldOf
+  front-found tag size len kind e k = rw (← e, k)

@@ -1,4 +1,5 @@
--- The tag, the kind and the sizes of the field at the front of octets.
+-- What `field_at` and `field_in`, which the shortener and the print share, answer: the tag, the kind and the sizes of the field at the
+-- front of octets.
 use Prim.Native.Nat.{ℕ, _-_}
 use mathlib.Core.Bool.{cond}
 use mathlib.Core.List.{List}
@@ -11,16 +12,26 @@ use Rattle.hproto_table.specs.Entry.{Entry, find}
 use Rattle.hproto_table.specs.declared.Meaning.{Meaning}
 use Rattle.hproto_table.specs.declared.Meaning.the-variants.{Raw}
 use Rattle.hproto_field.specs.declared.Field.{Field}
+use Rattle.hproto_field.specs.declared.Extent.{Extent}
+use Rattle.hproto_field.specs.declared.Extent.the-variants.{None, Found}
 
 -- No whole field.
 unfoldable pub nothing : Field
 nothing = record { tag = 0; kind = Raw; control = 0; contents = 0 }
 
-unfoldable pub frontFrom : List Entry → ℕ → List ℕ → Control → Field
-frontFrom es n s Absent = nothing
-frontFrom es n s Partial = nothing
-frontFrom es n s (Whole tag len size) =
-    cond (leb len (length s - size)) (record { tag = tag; kind = find es n tag; control = size; contents = len }) nothing
+-- The tag and the sizes of the whole field at the front of octets, by its control part.
+unfoldable pub partFrom : List ℕ → Control → Extent
+partFrom s Absent = None
+partFrom s Partial = None
+partFrom s (Whole tag len size) = cond (leb len (length s - size)) (Found tag size len) None
+
+unfoldable pub part : List ℕ → Extent
+part s = partFrom s (control s)
+
+-- The field by what its tag means.
+unfoldable pub fieldOf : (ℕ → Meaning) → Extent → Field
+fieldOf kind None = nothing
+fieldOf kind (Found tag size len) = record { tag = tag; kind = kind tag; control = size; contents = len }
 
 unfoldable pub front : List Entry → ℕ → List ℕ → Field
-front es n s = frontFrom es n s (control s)
+front es n s = fieldOf (find es n) (part s)

@@ -10,7 +10,8 @@ ghost use lib.ListN.{length, take};
 ghost use Rattle.octets.specs.Text.{text};
 ghost use Rattle.hproto_table.specs.Entry.{entry};
 ghost use Rattle.hproto_message.specs.Reading.{step as step-of, stepByKind};
-ghost use Rattle.hproto_field.specs.Fronts.{front as front-of, nothing as nothing-of};
+ghost use Rattle.hproto_field.specs.Fronts.{front as front-of, part as part-of, nothing as nothing-of};
+ghost use Rattle.hproto_index.specs.Slots.{listed};
 
 // The tag, the kind and the sizes of the control part and of the contents of a whole field; raw and zeros where there is none.
 pub struct Field {
@@ -18,6 +19,12 @@ pub struct Field {
     pub kind: Meaning,
     pub control: usize,
     pub contents: usize,
+}
+
+// The tag of a whole field and the sizes of its control part and of its contents, or that there is none.
+enum Extent {
+    None,
+    Found(u64, usize, usize),
 }
 
 // A field of kind uint or int, by the sizes of its control part and of its contents.
@@ -57,10 +64,10 @@ fn by_kind(kind: Meaning, size: usize, contents: &[u8]) -> Step
     }
 }
 
-// The field at the front of octets in a message of a number, under the first words of a table. The announced length is compared with
-// what is left after the control part.
-pub fn step(words: &[u64], count: usize, number: u64, s: &[u8]) -> Step
-    ensures { λ r. ⌜ r ≡ step-of (map entry (take count (now (words .entry)))) number (now (s .entry)) ⌝ }
+// The field at the front of octets in a message of a number, under an index and words of a table. The announced length is
+// compared with what is left after the control part.
+pub fn step(slots: &[u16; 256], words: &[u64], number: u64, s: &[u8]) -> Step
+    ensures { λ r. ⌜ r ≡ step-of (listed (now (slots .entry)) (now (words .entry))) number (now (s .entry)) ⌝ }
 {
     match octets_read::control(s) {
         Control::Absent => Step::Done,
@@ -73,10 +80,28 @@ pub fn step(words: &[u64], count: usize, number: u64, s: &[u8]) -> Step
             }
             let end = start + (length as usize);
             by_kind(
-                hproto_find::find(words, count, number, tag),
+                hproto_index::find(slots, words, number, tag),
                 start,
                 &s[start..end],
             )
+        }
+    }
+}
+
+// The tag of the whole field at the front of octets and the sizes of its control part and of its contents, if there is one.
+fn part(s: &[u8]) -> Extent
+    ensures { λ r. ⌜ r ≡ part-of (now (s .entry)) ⌝ }
+{
+    match octets_read::control(s) {
+        Control::Absent => Extent::None,
+        Control::Partial => Extent::None,
+        Control::Whole { tag, length, size } => {
+            let start = size as usize;
+            let rest = (s.len() - start) as u64;
+            if rest < length {
+                return Extent::None;
+            }
+            Extent::Found(tag, start, length as usize)
         }
     }
 }
@@ -92,25 +117,37 @@ fn nothing() -> Field
     }
 }
 
-// The field at the front of octets, its contents unread.
+// The field at the front of octets, its contents unread, under the first words of a table.
 pub fn field_at(words: &[u64], count: usize, number: u64, s: &[u8]) -> Field
     ensures { λ r. ⌜ r ≡ front-of (map entry (take count (now (words .entry)))) number (now (s .entry)) ⌝ }
 {
-    match octets_read::control(s) {
-        Control::Absent => nothing(),
-        Control::Partial => nothing(),
-        Control::Whole { tag, length, size } => {
-            let start = size as usize;
-            let rest = (s.len() - start) as u64;
-            if rest < length {
-                return nothing();
-            }
+    match part(s) {
+        Extent::None => nothing(),
+        Extent::Found(tag, control, contents) => {
             let kind = hproto_find::find(words, count, number, tag);
             Field {
                 tag,
                 kind,
-                control: start,
-                contents: length as usize,
+                control,
+                contents,
+            }
+        }
+    }
+}
+
+// The same under an index too.
+pub fn field_in(slots: &[u16; 256], words: &[u64], number: u64, s: &[u8]) -> Field
+    ensures { λ r. ⌜ r ≡ front-of (listed (now (slots .entry)) (now (words .entry))) number (now (s .entry)) ⌝ }
+{
+    match part(s) {
+        Extent::None => nothing(),
+        Extent::Found(tag, control, contents) => {
+            let kind = hproto_index::find(slots, words, number, tag);
+            Field {
+                tag,
+                kind,
+                control,
+                contents,
             }
         }
     }

@@ -6,3 +6,4 @@ pub mod Writing
 pub mod Measuring
 pub mod Answers
 pub mod Demand3
+pub mod SameFinds

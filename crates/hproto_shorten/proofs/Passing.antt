@@ -22,7 +22,7 @@ use Rattle.hproto_message.specs.Reading.{Reading, accepted, messageFrom}
 use Rattle.hproto_message.specs.Shortest.{leastContents, field, shortest}
 use Rattle.hproto_message.proofs.Accepted.{accepted-good, good-accepted, depth-positive}
 use Rattle.hproto_message.proofs.Next.{NextLeaf, NextNested, Plain, next-leaf, next-nested, Fronted, fronted, nothing-left}
-use Rattle.hproto_field.specs.Fronts.{front, frontFrom}
+use Rattle.hproto_field.specs.Fronts.{front}
 use Rattle.hproto_field.proofs.Fields.{front-whole}
 use Rattle.hproto_field.specs.declared.Field.{Field}
 use Rattle.hproto_shorten.specs.Written.{shortestOf, short, Accepts, heldIn}

@@ -6,14 +6,13 @@ use octets::Least;
 use octets::Signed;
 use octets::Unsigned;
 ghost use mathlib.Core.Path.{_≡_};
-ghost use mathlib.Core.List.{map};
-ghost use Prim.Native.Nat.{_+_, _-_, _≤_};
-ghost use lib.ListN.{length, take, drop};
+ghost use Prim.Native.Nat.{_+_, _*_, _-_, _≤_, _<_};
+ghost use lib.ListN.{length};
 ghost use Rattle.octets.specs.Number.{Octets, number as number-of, octetsOf, leastUint};
 ghost use Rattle.octets.specs.Signed.{integer, leastInt};
 ghost use Rattle.octets.specs.Control.{leastControl};
 ghost use Rattle.hproto_put.specs.Store.{stored, moved};
-ghost use Rattle.hproto_table.specs.Entry.{entry};
+ghost use Rattle.hproto_index.specs.Slots.{listed};
 ghost use Rattle.hproto_field.specs.Fronts.{front as front-of};
 ghost use Rattle.hproto_message.specs.Cut.{Contents};
 ghost use Rattle.hproto_message.specs.Tree.{value};
@@ -61,13 +60,21 @@ fn put_digits(out: &mut [u8], at: usize, w: u64, v: u64) -> usize
     at + (w as usize)
 }
 
+// The control part of a small tag and a small length.
+fn one_octet(tag: u16, n: usize) -> u8
+    requires { ⌜ (tag < 14) × (n < 12) ⌝ }
+    ensures { λ r. ⌜ r ≡ tag * 16 + n ⌝ }
+{
+    ((tag as u8) << 4) + (n as u8)
+}
+
 // The least control part where there is room for it. Most take one octet.
 fn put_front(tag: u16, n: usize, out: &mut [u8], to: usize) -> usize
     requires { ⌜ to + length (leastControl tag n) ≤ length (now out) ⌝ }
     ensures { λ r. ⌜ Put (now (out .entry)) to (leastControl tag n) r (now (out .exit)) ⌝ }
 {
     if tag < 14 && n < 12 {
-        out[to] = ((tag as usize) * 16 + n) as u8;
+        out[to] = one_octet(tag, n);
         return to + 1;
     }
     hproto_put::put_control(out, to, tag, n as u64);
@@ -142,7 +149,7 @@ fn wrap(tag: u16, out: &mut [u8], to: usize, n: usize) -> usize
     ensures { λ r. ⌜ now (out .exit) ≡ stored (moved (now (out .entry)) (to + 1) n (length (leastControl tag n) - 1)) to (leastControl tag n) ⌝ }
 {
     if tag < 14 && n < 12 {
-        out[to] = ((tag as usize) * 16 + n) as u8;
+        out[to] = one_octet(tag, n);
         return to + 1 + n;
     }
     let size = hproto_put::control_size(tag, n as u64);
@@ -152,8 +159,8 @@ fn wrap(tag: u16, out: &mut [u8], to: usize, n: usize) -> usize
 }
 
 // The field at the front of octets, its contents unread. Most control parts are one octet, so that case is tested first.
-fn next_field(words: &[u64], count: usize, number: u64, s: &[u8]) -> Field
-    ensures { λ r. ⌜ r ≡ front-of (map entry (take count (now (words .entry)))) number (now (s .entry)) ⌝ }
+fn next_field(slots: &[u16; 256], words: &[u64], number: u64, s: &[u8]) -> Field
+    ensures { λ r. ⌜ r ≡ front-of (listed (now (slots .entry)) (now (words .entry))) number (now (s .entry)) ⌝ }
 {
     if 0 < s.len() {
         let c = s[0];
@@ -162,20 +169,20 @@ fn next_field(words: &[u64], count: usize, number: u64, s: &[u8]) -> Field
         if tag < 14 && n < 12 && n < s.len() {
             return Field {
                 tag,
-                kind: hproto_find::find(words, count, number, tag),
+                kind: hproto_index::find(slots, words, number, tag),
                 control: 1,
                 contents: n,
             };
         }
     }
-    hproto_field::field_at(words, count, number, s)
+    hproto_field::field_in(slots, words, number, s)
 }
 
 // Writes the shortest form of an accepted message at `to` and answers the place after it. A nested message is written first, so that
 // its control part is chosen when its length is final.
 fn write(
+    slots: &[u16; 256],
     words: &[u64],
-    count: usize,
     number: u64,
     levels: u64,
     s: &[u8],
@@ -183,14 +190,14 @@ fn write(
     to: usize,
 ) -> usize
     requires { ⌜ Octets (now s) ⌝ }
-    requires { ⌜ Accepts (map entry (take count (now words))) levels number (now s) ⌝ }
-    requires { ⌜ to + length (short (map entry (take count (now words))) levels number (now s)) ≤ length (now out) ⌝ }
-    ensures { λ r. ⌜ Put (now (out .entry)) to (short (map entry (take count (now (words .entry)))) levels number (now (s .entry))) r (now (out .exit)) ⌝ }
+    requires { ⌜ Accepts (listed (now slots) (now words)) levels number (now s) ⌝ }
+    requires { ⌜ to + length (short (listed (now slots) (now words)) levels number (now s)) ≤ length (now out) ⌝ }
+    ensures { λ r. ⌜ Put (now (out .entry)) to (short (listed (now (slots .entry)) (now (words .entry))) levels number (now (s .entry))) r (now (out .exit)) ⌝ }
 {
     let mut i: usize = 0;
     let mut end = to;
     while i < s.len() {
-        let f = next_field(words, count, number, &s[i..]);
+        let f = next_field(slots, words, number, &s[i..]);
         let kind = f.kind;
         let a = i + f.control;
         let e = a + f.contents;
@@ -202,7 +209,7 @@ fn write(
                 i = e;
             }
             Inner::Number(m) => {
-                let after = write(words, count, m, levels - 1, &s[a..e], out, end + 1);
+                let after = write(slots, words, m, levels - 1, &s[a..e], out, end + 1);
                 end = wrap(tag, out, end, after - (end + 1));
                 i = e;
             }
@@ -257,16 +264,16 @@ fn value_size(kind: Meaning, tag: u16, s: &[u8]) -> usize
 }
 
 // How many octets the shortest form of an accepted message takes.
-fn measure(words: &[u64], count: usize, number: u64, levels: u64, s: &[u8]) -> usize
+fn measure(slots: &[u16; 256], words: &[u64], number: u64, levels: u64, s: &[u8]) -> usize
     requires { ⌜ length (now s) ≤ 65536 ⌝ }
     requires { ⌜ Octets (now s) ⌝ }
-    requires { ⌜ Accepts (map entry (take count (now words))) levels number (now s) ⌝ }
-    ensures { λ r. ⌜ r ≡ length (short (map entry (take count (now (words .entry)))) levels number (now (s .entry))) ⌝ }
+    requires { ⌜ Accepts (listed (now slots) (now words)) levels number (now s) ⌝ }
+    ensures { λ r. ⌜ r ≡ length (short (listed (now (slots .entry)) (now (words .entry))) levels number (now (s .entry))) ⌝ }
 {
     let mut i: usize = 0;
     let mut size: usize = 0;
     while i < s.len() {
-        let f = hproto_field::field_at(words, count, number, &s[i..]);
+        let f = hproto_field::field_in(slots, words, number, &s[i..]);
         let kind = f.kind;
         let a = i + f.control;
         let e = a + f.contents;
@@ -277,7 +284,7 @@ fn measure(words: &[u64], count: usize, number: u64, levels: u64, s: &[u8]) -> u
                 i = e;
             }
             Inner::Number(m) => {
-                let n = measure(words, count, m, levels - 1, &s[a..e]);
+                let n = measure(slots, words, m, levels - 1, &s[a..e]);
                 size = size + (hproto_put::control_size(tag, n as u64) + n);
                 i = e;
             }
@@ -288,16 +295,16 @@ fn measure(words: &[u64], count: usize, number: u64, levels: u64, s: &[u8]) -> u
 
 // Whether the shortest form of an accepted message takes at most `len` octets. It is no longer than the message, so only a smaller
 // buffer needs it measured.
-fn has_room(words: &[u64], count: usize, number: u64, message: &[u8], len: usize) -> bool
+fn has_room(slots: &[u16; 256], words: &[u64], number: u64, message: &[u8], len: usize) -> bool
     requires { ⌜ length (now message) ≤ 65536 ⌝ }
     requires { ⌜ Octets (now message) ⌝ }
-    requires { ⌜ Accepts (map entry (take count (now words))) 8 number (now message) ⌝ }
-    ensures { λ r. ⌜ r ≡ leb (length (short (map entry (take count (now (words .entry)))) 8 number (now (message .entry)))) len ⌝ }
+    requires { ⌜ Accepts (listed (now slots) (now words)) 8 number (now message) ⌝ }
+    ensures { λ r. ⌜ r ≡ leb (length (short (listed (now (slots .entry)) (now (words .entry))) 8 number (now (message .entry)))) len ⌝ }
 {
     if message.len() <= len {
         return true;
     }
-    measure(words, count, number, 8, message) <= len
+    measure(slots, words, number, 8, message) <= len
 }
 
 fn refused(number: u64, place: u64) -> Shortened
@@ -310,27 +317,27 @@ fn refused(number: u64, place: u64) -> Shortened
     }
 }
 
-// Writes the shortest octets that read the same as a message at the front of a second buffer and answers their length, under the first
-// words of a table, whatever they are: no entry, since an entry refuses words that no loader gives with 2. A caller that has just loaded
-// the table, or tested it, need not have it tested again.
+// Writes the shortest octets that read the same as a message at the front of a second buffer and answers their length, under an index
+// and words, whatever they are. It is no entry: an entry refuses with 2 words that no loader gives. A caller that has just loaded the
+// table, or tested it, need not have it tested again.
 pub fn shorten_under(
+    slots: &[u16; 256],
     words: &[u64],
-    count: usize,
     number: u64,
     message: &[u8],
     out: &mut [u8],
 ) -> Shortened
-    ensures { λ r. ⌜ r ≡ answerUnder (map entry (take count (now (words .entry)))) number (now (message .entry)) (now (out .entry)) ⌝ }
-    ensures { λ r. ⌜ now (out .exit) ≡ bufferUnder (map entry (take count (now (words .entry)))) number (now (message .entry)) (now (out .entry)) ⌝ }
+    ensures { λ r. ⌜ r ≡ answerUnder (listed (now (slots .entry)) (now (words .entry))) number (now (message .entry)) (now (out .entry)) ⌝ }
+    ensures { λ r. ⌜ now (out .exit) ≡ bufferUnder (listed (now (slots .entry)) (now (words .entry))) number (now (message .entry)) (now (out .entry)) ⌝ }
 {
-    let c = hproto_check::check_under(words, count, number, message);
+    let c = hproto_check::check_under(slots, words, number, message);
     if c.refusal != 0 {
         return refused(c.refusal, c.place);
     }
-    if !has_room(words, count, number, message, out.len()) {
+    if !has_room(slots, words, number, message, out.len()) {
         return refused(9, 0);
     }
-    let end = write(words, count, number, 8, message, out, 0);
+    let end = write(slots, words, number, 8, message, out, 0);
     Shortened {
         refusal: 0,
         place: 0,
@@ -349,5 +356,8 @@ pub fn shorten(t: Table, number: u64, message: &[u8], out: &mut [u8]) -> Shorten
     if !hproto_valid::valid(t) {
         return refused(2, 0);
     }
-    shorten_under(&t.words, t.count, number, message, out)
+    let mut slots = [0u16; 256];
+    hproto_index::index_words(&t.words, t.count, &mut slots);
+    let words = hproto_index::first(&t.words, t.count);
+    shorten_under(&slots, words, number, message, out)
 }

@@ -2,11 +2,12 @@ use borrow.Author.Needs.{needs}
 use Prim.Native.Nat.{ℕ, suc, _+_, _-_, _≤_, _<_}
 use native.Mathlib.Omega.{arith}
 use mathlib.Core.Path.{_≡_, refl, sym, ap, _∙_, subst}
-use mathlib.Core.List.{List, map}
+use mathlib.Core.List.{List}
 use lib.ListN.{length, take, drop, length-take, length-drop}
 use lib.Seq.{take-all}
 use denote.Ref.{now}
-use Rattle.hproto_table.specs.Entry.{Entry, entry}
+use Rattle.hproto_table.specs.Entry.{Entry}
+use Rattle.hproto_index.specs.Slots.{listed}
 use Rattle.hproto_message.specs.Reading.{messageFrom, fieldsFrom, step}
 use Rattle.hproto_check.specs.Walks as walks
 use Rattle.hproto_check.proofs.Turns.{State, start, at-end, at-fault, over-leaf, leaf-ends, nested-ends, nested-turn, nested-refusal, nested-small, room-open}
@@ -20,21 +21,21 @@ use Rattle.hproto_field.proofs.step.Reads as step-reads
 use Rattle.hproto_check.proofs.+nested.{statement}
 use Rattle.hproto_check.proofs.+nested.Tie.{close}
 
-abbrev μ-nested : Measures 2 nested-kinds.ps ℕ
+abbrev μ-nested : Measures 3 nested-kinds.ps ℕ
 μ-nested κs a = a .1 .1 .1 .0
 
-abbrev nested-at : ℕ → In 2 nested-kinds.ps
-nested-at t = and 2 nested-kinds.ps (is 2 nested-kinds.ps μ-nested t) nested.Pre
+abbrev nested-at : ℕ → In 3 nested-kinds.ps
+nested-at t = and 3 nested-kinds.ps (is 3 nested-kinds.ps μ-nested t) nested.Pre
 
-abbrev nested-below : ℕ → In 2 nested-kinds.ps
-nested-below t = and 2 nested-kinds.ps (falls 2 nested-kinds.ps _<_ μ-nested t) nested.Pre
+abbrev nested-below : ℕ → In 3 nested-kinds.ps
+nested-below t = and 3 nested-kinds.ps (falls 3 nested-kinds.ps _<_ μ-nested t) nested.Pre
 
 abbrev nested-Inv-loop : nested-lts.InvT-loop
-nested-Inv-loop words count number levels field at s i₀ fields₀ depth₀ i fields depth =
-    (1 ≤ levels) × State (map entry (take count words)) (messageFrom (map entry (take count words)) (levels - 1)) number at s i fields depth
+nested-Inv-loop slots words number levels field at s i₀ fields₀ depth₀ i fields depth =
+    (1 ≤ levels) × State (listed slots words) (messageFrom (listed slots words) (levels - 1)) number at s i fields depth
 
 abbrev nested-μ-loop : nested-lts.MeasureT-loop
-nested-μ-loop words count number levels field at s i₀ fields₀ depth₀ i fields depth = length s - i
+nested-μ-loop slots words number levels field at s i₀ fields₀ depth₀ i fields depth = length s - i
 
 -- The places in the code that the facts below speak of.
 abbrev After-step : ℕ → Type 0
@@ -54,7 +55,7 @@ module _ (t : ℕ) (c : After-step t) where
   args = c .before .before .before .before .before .before .args
 
   abbrev es : List Entry
-  es = map entry (take (args .count) (now (args .words)))
+  es = listed (now (args .slots)) (now (args .words))
 
   abbrev octets : List ℕ
   octets = now (args .s)
@@ -62,7 +63,7 @@ module _ (t : ℕ) (c : After-step t) where
   abbrev i : ℕ
   i = c .before .before .loop .i
 
-  abbrev state : State es (messageFrom es (args .levels - 1)) (args .number) (args .at) octets i (c .before .before .loop .fields) (c .before .before .loop .depth)
+  abbrev state : State es (messageFrom es (args .levels - 1)) (args .n) (args .at) octets i (c .before .before .loop .fields) (c .before .before .loop .depth)
   state = c .before .before .loop .inv .1
 
   abbrev room-left : 1 ≤ args .levels
@@ -72,13 +73,13 @@ module _ (t : ℕ) (c : After-step t) where
   bounds = c .before .before .before .before .before .before .pre .1
 
   -- What the step found at the octets that are left.
-  step-found : c .step .result ≡ step es (args .number) (drop i octets)
+  step-found : c .step .result ≡ step es (args .n) (drop i octets)
   step-found = let h = state .inside in c .step .ensures ∙ rw (take-all (length octets - i) (drop i octets) (simp length-drop (omega arith)))
 
   -- What the whole message comes to, in terms of its fields.
-  opened : walks.walk (messageFrom es (args .levels) (args .number) (args .field) (args .at) octets)
-      ≡ walks.walk (fieldsFrom es (messageFrom es (args .levels - 1)) (args .number) (suc (length octets)) (args .at) octets)
-  opened = ap walks.walk (room-open es (args .levels) (args .number) (args .field) (args .at) octets room-left)
+  opened : walks.walk (messageFrom es (args .levels) (args .n) (args .field) (args .at) octets)
+      ≡ walks.walk (fieldsFrom es (messageFrom es (args .levels - 1)) (args .n) (suc (length octets)) (args .at) octets)
+  opened = ap walks.walk (room-open es (args .levels) (args .n) (args .field) (args .at) octets room-left)
 
 -- The field that the loop goes over ends within the octets.
 over-ends : (t : ℕ) (c : Over-field t) → let b = c .before .before .before in let v = c .before .control .given .0 in
@@ -86,7 +87,7 @@ over-ends : (t : ℕ) (c : Over-field t) → let b = c .before .before .before i
 over-ends t c =
     let b = c .before .before .before in
     let v = c .before .control .given in
-    leaf-ends (es t b) (messageFrom (es t b) (args t b .levels - 1)) (args t b .number) (args t b .at) (octets t b) (i t b)
+    leaf-ends (es t b) (messageFrom (es t b) (args t b .levels - 1)) (args t b .n) (args t b .at) (octets t b) (i t b)
     (b .before .before .loop .fields) (b .before .before .loop .depth) (state t b) (v .0 .0) (v .0 .1 .0) (sym (step-found t b) ∙ v .1)
 
 -- The field that holds a nested message ends within the octets.
@@ -95,7 +96,7 @@ in-ends : (t : ℕ) (c : In-field t) → let b = c .before .before .before in le
 in-ends t c =
     let b = c .before .before .before in
     let v = c .before .m .given in
-    nested-ends (es t b) (messageFrom (es t b) (args t b .levels - 1)) (args t b .number) (args t b .at) (octets t b) (i t b)
+    nested-ends (es t b) (messageFrom (es t b) (args t b .levels - 1)) (args t b .n) (args t b .at) (octets t b) (i t b)
     (b .before .before .loop .fields) (b .before .before .loop .depth) (state t b) (v .0 .0) (v .0 .1 .0) (v .0 .1 .1 .0) (sym (step-found t b) ∙ v .1)
 
 -- The nested message's counts are small.
@@ -118,9 +119,9 @@ nested-returns t c = rw (c .if1 .taken)
 nested-loop-holds : (t : ℕ) → nested-lts.Need-loop-holds (step-reads.Asked, step-reads.Learnt, nested-below t, nested.Post, larger-reads.Asked, larger-reads.Learnt) (nested-at t) nested.Post nested-Inv-loop nested-μ-loop
 nested-loop-holds t c =
     let a = c .before .before .before .args in
-    let e = map entry (take (a .count) (now (a .words))) in
+    let e = listed (now (a .slots)) (now (a .words)) in
     let h = c .if1 .left in
-    (omega arith, start e (messageFrom e (a .levels - 1)) (a .number) (a .at) (now (a .s)))
+    (omega arith, start e (messageFrom e (a .levels - 1)) (a .n) (a .at) (now (a .s)))
 
 -- src/lib.rt:49:56
 nested-sub-step : (t : ℕ) → nested-lts.Need-sub-step (step-reads.Asked, step-reads.Learnt, nested-below t, nested.Post, larger-reads.Asked, larger-reads.Learnt) (nested-at t) nested.Post nested-Inv-loop nested-μ-loop
@@ -146,11 +147,11 @@ nested-enum-told t c = search needs
 nested-returns-2 : (t : ℕ) → nested-lts.Need-returns-2 (step-reads.Asked, step-reads.Learnt, nested-below t, nested.Post, larger-reads.Asked, larger-reads.Learnt) (nested-at t) nested.Post nested-Inv-loop nested-μ-loop
 nested-returns-2 t c =
     let b = c .before .before in
-    sym (opened t b ∙ at-end (es t b) (messageFrom (es t b) (args t b .levels - 1)) (args t b .number) (args t b .at) (octets t b) (i t b) (b .before .before .loop .fields) (b .before .before .loop .depth) (state t b) (sym (step-found t b) ∙ c .enum-told .given .1))
+    sym (opened t b ∙ at-end (es t b) (messageFrom (es t b) (args t b .levels - 1)) (args t b .n) (args t b .at) (octets t b) (i t b) (b .before .before .loop .fields) (b .before .before .loop .depth) (state t b) (sym (step-found t b) ∙ c .enum-told .given .1))
 
 -- src/lib.rt:53:25
-nested-enum-known-n : (t : ℕ) → nested-lts.Need-enum-known-n (step-reads.Asked, step-reads.Learnt, nested-below t, nested.Post, larger-reads.Asked, larger-reads.Learnt) (nested-at t) nested.Post nested-Inv-loop nested-μ-loop
-nested-enum-known-n t c = search needs
+nested-enum-known-k : (t : ℕ) → nested-lts.Need-enum-known-k (step-reads.Asked, step-reads.Learnt, nested-below t, nested.Post, larger-reads.Asked, larger-reads.Learnt) (nested-at t) nested.Post nested-Inv-loop nested-μ-loop
+nested-enum-known-k t c = search needs
 
 -- src/lib.rt:54:58
 nested-add-t32 : (t : ℕ) → nested-lts.Need-add-t32 (step-reads.Asked, step-reads.Learnt, nested-below t, nested.Post, larger-reads.Asked, larger-reads.Learnt) (nested-at t) nested.Post nested-Inv-loop nested-μ-loop
@@ -160,8 +161,8 @@ nested-add-t32 t c = let b = c .before .before .before in let h = state t b .ins
 nested-returns-3 : (t : ℕ) → nested-lts.Need-returns-3 (step-reads.Asked, step-reads.Learnt, nested-below t, nested.Post, larger-reads.Asked, larger-reads.Learnt) (nested-at t) nested.Post nested-Inv-loop nested-μ-loop
 nested-returns-3 t c =
     let b = c .before .before .before in
-    let v = c .before .n .given in
-    sym (opened t b ∙ at-fault (es t b) (messageFrom (es t b) (args t b .levels - 1)) (args t b .number) (args t b .at) (octets t b) (i t b) (b .before .before .loop .fields) (b .before .before .loop .depth) (state t b) (v .0 .0) (sym (step-found t b) ∙ v .1))
+    let v = c .before .k .given in
+    sym (opened t b ∙ at-fault (es t b) (messageFrom (es t b) (args t b .levels - 1)) (args t b .n) (args t b .at) (octets t b) (i t b) (b .before .before .loop .fields) (b .before .before .loop .depth) (state t b) (v .0 .0) (sym (step-found t b) ∙ v .1))
 
 -- src/lib.rt:56:26
 nested-enum-known-control : (t : ℕ) → nested-lts.Need-enum-known-control (step-reads.Asked, step-reads.Learnt, nested-below t, nested.Post, larger-reads.Asked, larger-reads.Learnt) (nested-at t) nested.Post nested-Inv-loop nested-μ-loop
@@ -188,7 +189,7 @@ nested-loop-again : (t : ℕ) → nested-lts.Need-loop-again (step-reads.Asked, 
 nested-loop-again t c =
     let b = c .before .before .before in
     let v = c .before .control .given in
-    (room-left t b, over-leaf (es t b) (messageFrom (es t b) (args t b .levels - 1)) (args t b .number) (args t b .at) (octets t b) (i t b) (b .before .before .loop .fields) (b .before .before .loop .depth) (state t b) (v .0 .0) (v .0 .1 .0) (sym (step-found t b) ∙ v .1))
+    (room-left t b, over-leaf (es t b) (messageFrom (es t b) (args t b .levels - 1)) (args t b .n) (args t b .at) (octets t b) (i t b) (b .before .before .loop .fields) (b .before .before .loop .depth) (state t b) (v .0 .0) (v .0 .1 .0) (sym (step-found t b) ∙ v .1))
 
 -- src/lib.rt:60:34
 nested-enum-known-m : (t : ℕ) → nested-lts.Need-enum-known-m (step-reads.Asked, step-reads.Learnt, nested-below t, nested.Post, larger-reads.Asked, larger-reads.Learnt) (nested-at t) nested.Post nested-Inv-loop nested-μ-loop
@@ -300,13 +301,13 @@ nested-loop-again-2 t c =
     let v = d .before .m .given in
     let w = n .before .f .given in (
       room-left t b,
-      nested-turn (es t b) (messageFrom (es t b) (args t b .levels - 1)) (args t b .number) (args t b .at) (octets t b) (i t b) (b .before .before .loop .fields) (b .before .before .loop .depth) (state t b) (v .0 .0) (v .0 .1 .0) (v .0 .1 .1 .0) (w .0 .0) (w .0 .1 .0) (c .larger .result) (n .before .before .before .nested .result)
+      nested-turn (es t b) (messageFrom (es t b) (args t b .levels - 1)) (args t b .n) (args t b .at) (octets t b) (i t b) (b .before .before .loop .fields) (b .before .before .loop .depth) (state t b) (v .0 .0) (v .0 .1 .0) (v .0 .1 .1 .0) (w .0 .0) (w .0 .1 .0) (c .larger .result) (n .before .before .before .nested .result)
           (sym (step-found t b) ∙ v .1) (n .before .before .before .nested .ensures) (w .1) (inner-small t n .0) (c .larger .ensures),
     )
 
 -- src/lib.rt:69:45
-nested-enum-known-n-2 : (t : ℕ) → nested-lts.Need-enum-known-n-2 (step-reads.Asked, step-reads.Learnt, nested-below t, nested.Post, larger-reads.Asked, larger-reads.Learnt) (nested-at t) nested.Post nested-Inv-loop nested-μ-loop
-nested-enum-known-n-2 t c = search needs
+nested-enum-known-k-2 : (t : ℕ) → nested-lts.Need-enum-known-k-2 (step-reads.Asked, step-reads.Learnt, nested-below t, nested.Post, larger-reads.Asked, larger-reads.Learnt) (nested-at t) nested.Post nested-Inv-loop nested-μ-loop
+nested-enum-known-k-2 t c = search needs
 
 -- src/lib.rt:70:25
 nested-returns-4 : (t : ℕ) → nested-lts.Need-returns-4 (step-reads.Asked, step-reads.Learnt, nested-below t, nested.Post, larger-reads.Asked, larger-reads.Learnt) (nested-at t) nested.Post nested-Inv-loop nested-μ-loop
@@ -314,8 +315,8 @@ nested-returns-4 t c =
     let d = c .before .before .before .before .before in
     let b = d .before .before .before in
     let v = d .before .m .given in
-    let w = c .before .n2 .given in
-    sym (opened t b ∙ nested-refusal (es t b) (messageFrom (es t b) (args t b .levels - 1)) (args t b .number) (args t b .at) (octets t b) (i t b) (b .before .before .loop .fields) (b .before .before .loop .depth) (state t b) (v .0 .0) (v .0 .1 .0) (v .0 .1 .1 .0) (w .0 .0) (w .0 .1 .0) (c .before .before .before .nested .result)
+    let w = c .before .k2 .given in
+    sym (opened t b ∙ nested-refusal (es t b) (messageFrom (es t b) (args t b .levels - 1)) (args t b .n) (args t b .at) (octets t b) (i t b) (b .before .before .loop .fields) (b .before .before .loop .depth) (state t b) (v .0 .0) (v .0 .1 .0) (v .0 .1 .1 .0) (w .0 .0) (w .0 .1 .0) (c .before .before .before .nested .result)
     (sym (step-found t b) ∙ v .1) (c .before .before .before .nested .ensures) (w .1))
 
 pub +nested-spec : {M : Type 1} → statement M
@@ -332,7 +333,7 @@ pub +nested-spec : {M : Type 1} → statement M
     (nested-step-requires t)
     (nested-enum-told t)
     (nested-returns-2 t)
-    (nested-enum-known-n t)
+    (nested-enum-known-k t)
     (nested-add-t32 t)
     (nested-returns-3 t)
     (nested-enum-known-control t)
@@ -358,5 +359,5 @@ pub +nested-spec : {M : Type 1} → statement M
     (nested-larger-requires t)
     (nested-loop-less-2 t)
     (nested-loop-again-2 t)
-    (nested-enum-known-n-2 t)
+    (nested-enum-known-k-2 t)
     (nested-returns-4 t)

@@ -1,9 +1,7 @@
 use borrow.Author.Needs.{needs}
 use mathlib.Core.Path.{_∙_}
-use mathlib.Core.List.{map}
 use denote.Ref.{now}
-use lib.ListN.{take}
-use Rattle.hproto_table.specs.Entry.{entry}
+use Rattle.hproto_index.specs.Slots.{listed}
 use Rattle.hproto_check.proofs.Counts.{too-long-under, bad-number, all-accepted, one-refused}
 use Rattle.hproto_check.proofs.check_under.Statement.{statement}
 use Rattle.hproto_check.proofs.check_under.Tie as tie
@@ -20,7 +18,7 @@ refused-requires c κs = search needs
 returns : tie.Need-returns
 returns c =
     let a = c .before .before .before .before .args in
-    c .refused .ensures ∙ too-long-under (map entry (take (a .count) (now (a .words)))) (a .number) (now (a .message)) (c .before .if1 .taken)
+    c .refused .ensures ∙ too-long-under (listed (now (a .slots)) (now (a .words))) (a .number) (now (a .message)) (c .before .if1 .taken)
 
 -- src/lib.rt:108:9
 refused-requires-2 : tie.Need-refused-requires-2
@@ -31,7 +29,7 @@ returns-2 : tie.Need-returns-2
 returns-2 c =
     let a = c .before .before .before .before .before .args in
     c .refused2 .ensures
-    ∙ bad-number (map entry (take (a .count) (now (a .words)))) (a .number) (now (a .message)) (c .before .before .if1 .left) (c .before .if2 .taken)
+    ∙ bad-number (listed (now (a .slots)) (now (a .words))) (a .number) (now (a .message)) (c .before .before .if1 .left) (c .before .if2 .taken)
 
 -- src/lib.rt:110:11
 nested-requires : tie.Need-nested-requires
@@ -55,7 +53,7 @@ returns-3 c =
     let a = c .before .before .before .before .before .before .before .before .args in
     let w = c .before .fields .given in
     let n = c .before .before .before .nested in
-    all-accepted (map entry (take (a .count) (now (a .words)))) (a .number) (now (a .message)) (c .before .before .before .before .before .if1 .left) (c .before .before .before .before .if2 .left)
+    all-accepted (listed (now (a .slots)) (now (a .words))) (a .number) (now (a .message)) (c .before .before .before .before .before .if1 .left) (c .before .before .before .before .if2 .left)
     (w .0 .0) (w .0 .1 .0) (n .result) (n .ensures) (w .1)
 
 -- src/lib.rt:101:1
@@ -65,7 +63,7 @@ returns-4 c =
     let w = c .before .before .n .given in
     let n = c .before .before .before .before .nested in
     c .refused3 .ensures
-    ∙ one-refused (map entry (take (a .count) (now (a .words)))) (a .number) (now (a .message)) (c .before .before .before .before .before .before .if1 .left) (c .before .before .before .before .before .if2 .left)
+    ∙ one-refused (listed (now (a .slots)) (now (a .words))) (a .number) (now (a .message)) (c .before .before .before .before .before .before .if1 .left) (c .before .before .before .before .before .if2 .left)
     (w .0 .0) (w .0 .1 .0) (n .result) (n .ensures) (w .1)
 
 pub check-under-spec : {M : Type 1} → statement M

@@ -1,17 +1,16 @@
 use borrow.Author.Needs.{needs}
 use native.Mathlib.Omega.{arith}
 use mathlib.Core.Path.{sym, _∙_}
-use mathlib.Core.List.{[], map}
+use mathlib.Core.List.{[]}
 use denote.Ref.{now}
-use lib.ListN.{take}
-use Rattle.hproto_table.specs.Entry.{entry}
+use Rattle.hproto_index.specs.Slots.{listed}
 use Rattle.hproto_field.proofs.Fields.{at-end, in-control, size-inside, past-end, whole-field}
 use Rattle.hproto_field.proofs.step.Statement.{statement}
 use Rattle.hproto_field.proofs.step.Tie as tie
 use Rattle.hproto_field.proofs.step.Reads as reads
 use Rattle.hproto_field.proofs.step.Lts as lts
 use Rattle.hproto_field.proofs.by_kind.Reads as by-kind-reads
-use Rattle.hproto_find.proofs.find.Reads as find-reads
+use Rattle.hproto_index.proofs.find.Reads as find-reads
 use Rattle.octets_read.proofs.control.Reads as control-reads
 
 -- src/lib.rt:56:11
@@ -42,7 +41,7 @@ returns : tie.Need-returns
 returns c =
     let a = c .before .before .before .before .before .before .before .args in
     let v = c .before .before .tag .given in
-    past-end (map entry (take (a .count) (now (a .words)))) (a .number) (now (a .s)) (v .0 .0) (v .0 .1 .0) (v .0 .1 .1 .0)
+    past-end (listed (now (a .slots)) (now (a .words))) (a .number) (now (a .s)) (v .0 .0) (v .0 .1 .0) (v .0 .1 .1 .0)
     (sym (c .before .before .before .before .control .ensures) ∙ v .1) (c .if1 .taken)
 
 -- src/lib.rt:65:23
@@ -77,13 +76,13 @@ by-kind-requires c κs = search needs
 returns-2 : tie.Need-returns-2
 returns-2 c =
     let a = c .before .before .before .before .before .args in
-    at-end (map entry (take (a .count) (now (a .words)))) (a .number) (now (a .s)) (sym (c .before .before .control .ensures) ∙ c .enum-told .given .1)
+    at-end (listed (now (a .slots)) (now (a .words))) (a .number) (now (a .s)) (sym (c .before .before .control .ensures) ∙ c .enum-told .given .1)
 
 -- src/lib.rt:53:1
 returns-3 : tie.Need-returns-3
 returns-3 c =
     let a = c .before .before .before .before .before .args in
-    in-control (map entry (take (a .count) (now (a .words)))) (a .number) (now (a .s)) (sym (c .before .before .control .ensures) ∙ c .enum-told2 .given .1)
+    in-control (listed (now (a .slots)) (now (a .words))) (a .number) (now (a .s)) (sym (c .before .before .control .ensures) ∙ c .enum-told2 .given .1)
 
 -- src/lib.rt:53:1
 returns-4 : tie.Need-returns-4
@@ -91,7 +90,7 @@ returns-4 c =
     let a = c .before .before .before .before .before .before .before .before .before .before .args in
     let v = c .before .before .before .before .before .tag .given in
     c .by-kind .ensures ∙ rw (c .before .before .find .ensures)
-    (whole-field (map entry (take (a .count) (now (a .words)))) (a .number) (now (a .s)) (v .0 .0) (v .0 .1 .0) (v .0 .1 .1 .0)
+    (whole-field (listed (now (a .slots)) (now (a .words))) (a .number) (now (a .s)) (v .0 .0) (v .0 .1 .0) (v .0 .1 .1 .0)
     (sym (c .before .before .before .before .before .before .before .control .ensures) ∙ v .1) (c .before .before .before .if1 .left))
 
 pub step-spec : {M : Type 1} → statement M

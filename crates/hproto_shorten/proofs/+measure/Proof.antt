@@ -2,12 +2,13 @@ use Prim.Native.Nat.{ℕ, suc, _+_, _-_, _%_, _≤_, _<_}
 use native.Mathlib.Omega.{arith}
 use borrow.Author.Needs.{needs}
 use mathlib.Core.Path.{_≡_, refl, sym, ap, _∙_, subst}
-use mathlib.Core.List.{List, map}
+use mathlib.Core.List.{List}
 use denote.Ref.{now}
 use lib.ListN.{length, take, drop, length-drop, length-take}
 use lib.Seq.{take-all}
 use Rattle.octets.specs.Number.{Octets}
-use Rattle.hproto_table.specs.Entry.{Entry, entry}
+use Rattle.hproto_table.specs.Entry.{Entry}
+use Rattle.hproto_index.specs.Slots.{listed}
 use Rattle.hproto_field.specs.Fronts.{front}
 use Rattle.hproto_shorten.specs.Written.{short, Accepts}
 use Rattle.hproto_shorten.proofs.Passing.{plain-of, message-of, octets-part, leaf-contents}
@@ -18,38 +19,38 @@ use borrow.Fn.PlainCycle.{Measures, is, falls, and}
 use Rattle.hproto_shorten.proofs.measure.Reads as measure
 use Rattle.hproto_shorten.proofs.measure.Kinds as measure-kinds
 use Rattle.hproto_shorten.proofs.+measure.Lts-measure as measure-lts
-use Rattle.hproto_field.proofs.field_at.Reads as field-at-reads
+use Rattle.hproto_field.proofs.field_in.Reads as field-in-reads
 use Rattle.hproto_put.proofs.control_size.Reads as control-size-reads
 use Rattle.hproto_shorten.proofs.held.Reads as held-reads
 use Rattle.hproto_shorten.proofs.value_size.Reads as value-size-reads
 use Rattle.hproto_shorten.proofs.+measure.{statement}
 use Rattle.hproto_shorten.proofs.+measure.Tie.{close}
 
-abbrev μ-measure : Measures 2 measure-kinds.ps ℕ
+abbrev μ-measure : Measures 3 measure-kinds.ps ℕ
 μ-measure κs a = a .1 .1 .1 .0
 
-abbrev measure-at : ℕ → In 2 measure-kinds.ps
-measure-at t = and 2 measure-kinds.ps (is 2 measure-kinds.ps μ-measure t) measure.Pre
+abbrev measure-at : ℕ → In 3 measure-kinds.ps
+measure-at t = and 3 measure-kinds.ps (is 3 measure-kinds.ps μ-measure t) measure.Pre
 
-abbrev measure-below : ℕ → In 2 measure-kinds.ps
-measure-below t = and 2 measure-kinds.ps (falls 2 measure-kinds.ps _<_ μ-measure t) measure.Pre
+abbrev measure-below : ℕ → In 3 measure-kinds.ps
+measure-below t = and 3 measure-kinds.ps (falls 3 measure-kinds.ps _<_ μ-measure t) measure.Pre
 
 abbrev measure-Inv-loop : measure-lts.InvT-loop
-measure-Inv-loop words count number levels s i₀ size₀ i size = Counted (map entry (take count words)) (levels - 1) number s i size
+measure-Inv-loop slots words number levels s i₀ size₀ i size = Counted (listed slots words) (levels - 1) number s i size
 
 abbrev measure-μ-loop : measure-lts.MeasureT-loop
-measure-μ-loop words count number levels s i₀ size₀ i size = length s - i
+measure-μ-loop slots words number levels s i₀ size₀ i size = length s - i
 
 -- The place after the field at the front of the octets that are left was found.
 abbrev Found : ℕ → Type 0
-Found t = measure-lts.After-field-at (field-at-reads.Asked, field-at-reads.Learnt, held-reads.Asked, held-reads.Learnt, value-size-reads.Asked, value-size-reads.Learnt, measure-below t, measure.Post, control-size-reads.Asked, control-size-reads.Learnt) (measure-at t) measure.Post measure-Inv-loop measure-μ-loop
+Found t = measure-lts.After-field-in (field-in-reads.Asked, field-in-reads.Learnt, held-reads.Asked, held-reads.Learnt, value-size-reads.Asked, value-size-reads.Learnt, measure-below t, measure.Post, control-size-reads.Asked, control-size-reads.Learnt) (measure-at t) measure.Post measure-Inv-loop measure-μ-loop
 
 abbrev At-start : ℕ → Type 0
-At-start t = measure-lts.Start (field-at-reads.Asked, field-at-reads.Learnt, held-reads.Asked, held-reads.Learnt, value-size-reads.Asked, value-size-reads.Learnt, measure-below t, measure.Post, control-size-reads.Asked, control-size-reads.Learnt) (measure-at t) measure.Post measure-Inv-loop measure-μ-loop
+At-start t = measure-lts.Start (field-in-reads.Asked, field-in-reads.Learnt, held-reads.Asked, held-reads.Learnt, value-size-reads.Asked, value-size-reads.Learnt, measure-below t, measure.Post, control-size-reads.Asked, control-size-reads.Learnt) (measure-at t) measure.Post measure-Inv-loop measure-μ-loop
 
 module _ (t : ℕ) (b : At-start t) where
   abbrev es : List Entry
-  es = map entry (take (b .args .count) (now (b .args .words)))
+  es = listed (now (b .args .slots)) (now (b .args .words))
 
   abbrev few : length (now (b .args .s)) ≤ 65536
   few = b .pre .1 .0
@@ -83,178 +84,178 @@ module _ (t : ℕ) (c : Found t) where
   abbrev more : i < length (now (b .args .s))
   more = c .before .before .loop-test .taken
 
-  found : c .field-at .result ≡ front (es t b) (b .args .number) (drop i (now (b .args .s)))
-  found = let h = more in c .field-at .ensures ∙ rw (take-all (length (now (b .args .s)) - i) (drop i (now (b .args .s))) (simp length-drop (omega arith)))
+  found : c .field-in .result ≡ front (es t b) (b .args .number) (drop i (now (b .args .s)))
+  found = let h = more in c .field-in .ensures ∙ rw (take-all (length (now (b .args .s)) - i) (drop i (now (b .args .s))) (simp length-drop (omega arith)))
 
   -- The field's contents are few octets.
   part-few : (j n : ℕ) → length (take n (drop j (now (b .args .s)))) ≤ 65536
   part-few j n = let h = few t b in simp (length-take, length-drop) (omega arith)
 
 -- src/lib.rt:215:5
-measure-loop-holds : (t : ℕ) → measure-lts.Need-loop-holds (field-at-reads.Asked, field-at-reads.Learnt, held-reads.Asked, held-reads.Learnt, value-size-reads.Asked, value-size-reads.Learnt, measure-below t, measure.Post, control-size-reads.Asked, control-size-reads.Learnt) (measure-at t) measure.Post measure-Inv-loop measure-μ-loop
+measure-loop-holds : (t : ℕ) → measure-lts.Need-loop-holds (field-in-reads.Asked, field-in-reads.Learnt, held-reads.Asked, held-reads.Learnt, value-size-reads.Asked, value-size-reads.Learnt, measure-below t, measure.Post, control-size-reads.Asked, control-size-reads.Learnt) (measure-at t) measure.Post measure-Inv-loop measure-μ-loop
 measure-loop-holds t c =
     let s = c .before .before in
     counted-none (es t s) (s .args .levels - 1) (s .args .number) (now (s .args .s)) (accepts t s)
 
 -- src/lib.rt:216:62
-measure-sub-field-at : (t : ℕ) → measure-lts.Need-sub-field-at (field-at-reads.Asked, field-at-reads.Learnt, held-reads.Asked, held-reads.Learnt, value-size-reads.Asked, value-size-reads.Learnt, measure-below t, measure.Post, control-size-reads.Asked, control-size-reads.Learnt) (measure-at t) measure.Post measure-Inv-loop measure-μ-loop
-measure-sub-field-at t c = search needs
+measure-sub-field-in : (t : ℕ) → measure-lts.Need-sub-field-in (field-in-reads.Asked, field-in-reads.Learnt, held-reads.Asked, held-reads.Learnt, value-size-reads.Asked, value-size-reads.Learnt, measure-below t, measure.Post, control-size-reads.Asked, control-size-reads.Learnt) (measure-at t) measure.Post measure-Inv-loop measure-μ-loop
+measure-sub-field-in t c = search needs
 
 -- src/lib.rt:216:62
-measure-part-field-at-start : (t : ℕ) → measure-lts.Need-part-field-at-start (field-at-reads.Asked, field-at-reads.Learnt, held-reads.Asked, held-reads.Learnt, value-size-reads.Asked, value-size-reads.Learnt, measure-below t, measure.Post, control-size-reads.Asked, control-size-reads.Learnt) (measure-at t) measure.Post measure-Inv-loop measure-μ-loop
-measure-part-field-at-start t c = search needs
+measure-part-field-in-start : (t : ℕ) → measure-lts.Need-part-field-in-start (field-in-reads.Asked, field-in-reads.Learnt, held-reads.Asked, held-reads.Learnt, value-size-reads.Asked, value-size-reads.Learnt, measure-below t, measure.Post, control-size-reads.Asked, control-size-reads.Learnt) (measure-at t) measure.Post measure-Inv-loop measure-μ-loop
+measure-part-field-in-start t c = search needs
 
 -- src/lib.rt:216:62
-measure-part-field-at-end : (t : ℕ) → measure-lts.Need-part-field-at-end (field-at-reads.Asked, field-at-reads.Learnt, held-reads.Asked, held-reads.Learnt, value-size-reads.Asked, value-size-reads.Learnt, measure-below t, measure.Post, control-size-reads.Asked, control-size-reads.Learnt) (measure-at t) measure.Post measure-Inv-loop measure-μ-loop
-measure-part-field-at-end t c = search needs
+measure-part-field-in-end : (t : ℕ) → measure-lts.Need-part-field-in-end (field-in-reads.Asked, field-in-reads.Learnt, held-reads.Asked, held-reads.Learnt, value-size-reads.Asked, value-size-reads.Learnt, measure-below t, measure.Post, control-size-reads.Asked, control-size-reads.Learnt) (measure-at t) measure.Post measure-Inv-loop measure-μ-loop
+measure-part-field-in-end t c = search needs
 
 -- src/lib.rt:216:13
-measure-field-at-requires : (t : ℕ) → measure-lts.Need-field-at-requires (field-at-reads.Asked, field-at-reads.Learnt, held-reads.Asked, held-reads.Learnt, value-size-reads.Asked, value-size-reads.Learnt, measure-below t, measure.Post, control-size-reads.Asked, control-size-reads.Learnt) (measure-at t) measure.Post measure-Inv-loop measure-μ-loop
-measure-field-at-requires t c κs = search needs
+measure-field-in-requires : (t : ℕ) → measure-lts.Need-field-in-requires (field-in-reads.Asked, field-in-reads.Learnt, held-reads.Asked, held-reads.Learnt, value-size-reads.Asked, value-size-reads.Learnt, measure-below t, measure.Post, control-size-reads.Asked, control-size-reads.Learnt) (measure-at t) measure.Post measure-Inv-loop measure-μ-loop
+measure-field-in-requires t c κs = search needs
 
 -- src/lib.rt:218:17
-measure-add-a : (t : ℕ) → measure-lts.Need-add-a (field-at-reads.Asked, field-at-reads.Learnt, held-reads.Asked, held-reads.Learnt, value-size-reads.Asked, value-size-reads.Learnt, measure-below t, measure.Post, control-size-reads.Asked, control-size-reads.Learnt) (measure-at t) measure.Post measure-Inv-loop measure-μ-loop
-measure-add-a t c = let f = c .before in let h = next-onward (es t (b t f)) (b t f .args .levels - 1) (b t f .args .number) (now (b t f .args .s)) (i t f) (f .before .before .before .loop .size) (state t f) (more t f) (octets t (b t f)) (f .field-at .result) (found t f) .1 in let g = b t f .good in omega arith
+measure-add-a : (t : ℕ) → measure-lts.Need-add-a (field-in-reads.Asked, field-in-reads.Learnt, held-reads.Asked, held-reads.Learnt, value-size-reads.Asked, value-size-reads.Learnt, measure-below t, measure.Post, control-size-reads.Asked, control-size-reads.Learnt) (measure-at t) measure.Post measure-Inv-loop measure-μ-loop
+measure-add-a t c = let f = c .before in let h = next-onward (es t (b t f)) (b t f .args .levels - 1) (b t f .args .number) (now (b t f .args .s)) (i t f) (f .before .before .before .loop .size) (state t f) (more t f) (octets t (b t f)) (f .field-in .result) (found t f) .1 in let g = b t f .good in omega arith
 
 -- src/lib.rt:219:17
-measure-add-e : (t : ℕ) → measure-lts.Need-add-e (field-at-reads.Asked, field-at-reads.Learnt, held-reads.Asked, held-reads.Learnt, value-size-reads.Asked, value-size-reads.Learnt, measure-below t, measure.Post, control-size-reads.Asked, control-size-reads.Learnt) (measure-at t) measure.Post measure-Inv-loop measure-μ-loop
-measure-add-e t c = let f = c .before .before in let h = next-onward (es t (b t f)) (b t f .args .levels - 1) (b t f .args .number) (now (b t f .args .s)) (i t f) (f .before .before .before .loop .size) (state t f) (more t f) (octets t (b t f)) (f .field-at .result) (found t f) .1 in let g = b t f .good in omega arith
+measure-add-e : (t : ℕ) → measure-lts.Need-add-e (field-in-reads.Asked, field-in-reads.Learnt, held-reads.Asked, held-reads.Learnt, value-size-reads.Asked, value-size-reads.Learnt, measure-below t, measure.Post, control-size-reads.Asked, control-size-reads.Learnt) (measure-at t) measure.Post measure-Inv-loop measure-μ-loop
+measure-add-e t c = let f = c .before .before in let h = next-onward (es t (b t f)) (b t f .args .levels - 1) (b t f .args .number) (now (b t f .args .s)) (i t f) (f .before .before .before .loop .size) (state t f) (more t f) (octets t (b t f)) (f .field-in .result) (found t f) .1 in let g = b t f .good in omega arith
 
 -- src/lib.rt:220:19
-measure-cast-tag : (t : ℕ) → measure-lts.Need-cast-tag (field-at-reads.Asked, field-at-reads.Learnt, held-reads.Asked, held-reads.Learnt, value-size-reads.Asked, value-size-reads.Learnt, measure-below t, measure.Post, control-size-reads.Asked, control-size-reads.Learnt) (measure-at t) measure.Post measure-Inv-loop measure-μ-loop
+measure-cast-tag : (t : ℕ) → measure-lts.Need-cast-tag (field-in-reads.Asked, field-in-reads.Learnt, held-reads.Asked, held-reads.Learnt, value-size-reads.Asked, value-size-reads.Learnt, measure-below t, measure.Post, control-size-reads.Asked, control-size-reads.Learnt) (measure-at t) measure.Post measure-Inv-loop measure-μ-loop
 measure-cast-tag t c = search needs
 
 -- src/lib.rt:221:15
-measure-held-requires : (t : ℕ) → measure-lts.Need-held-requires (field-at-reads.Asked, field-at-reads.Learnt, held-reads.Asked, held-reads.Learnt, value-size-reads.Asked, value-size-reads.Learnt, measure-below t, measure.Post, control-size-reads.Asked, control-size-reads.Learnt) (measure-at t) measure.Post measure-Inv-loop measure-μ-loop
+measure-held-requires : (t : ℕ) → measure-lts.Need-held-requires (field-in-reads.Asked, field-in-reads.Learnt, held-reads.Asked, held-reads.Learnt, value-size-reads.Asked, value-size-reads.Learnt, measure-below t, measure.Post, control-size-reads.Asked, control-size-reads.Learnt) (measure-at t) measure.Post measure-Inv-loop measure-μ-loop
 measure-held-requires t c κs = search needs
 
 -- src/lib.rt:223:53
-measure-enum-told : (t : ℕ) → measure-lts.Need-enum-told (field-at-reads.Asked, field-at-reads.Learnt, held-reads.Asked, held-reads.Learnt, value-size-reads.Asked, value-size-reads.Learnt, measure-below t, measure.Post, control-size-reads.Asked, control-size-reads.Learnt) (measure-at t) measure.Post measure-Inv-loop measure-μ-loop
+measure-enum-told : (t : ℕ) → measure-lts.Need-enum-told (field-in-reads.Asked, field-in-reads.Learnt, held-reads.Asked, held-reads.Learnt, value-size-reads.Asked, value-size-reads.Learnt, measure-below t, measure.Post, control-size-reads.Asked, control-size-reads.Learnt) (measure-at t) measure.Post measure-Inv-loop measure-μ-loop
 measure-enum-told t c = search needs
 
 -- src/lib.rt:223:53
-measure-sub-value-size : (t : ℕ) → measure-lts.Need-sub-value-size (field-at-reads.Asked, field-at-reads.Learnt, held-reads.Asked, held-reads.Learnt, value-size-reads.Asked, value-size-reads.Learnt, measure-below t, measure.Post, control-size-reads.Asked, control-size-reads.Learnt) (measure-at t) measure.Post measure-Inv-loop measure-μ-loop
+measure-sub-value-size : (t : ℕ) → measure-lts.Need-sub-value-size (field-in-reads.Asked, field-in-reads.Learnt, held-reads.Asked, held-reads.Learnt, value-size-reads.Asked, value-size-reads.Learnt, measure-below t, measure.Post, control-size-reads.Asked, control-size-reads.Learnt) (measure-at t) measure.Post measure-Inv-loop measure-μ-loop
 measure-sub-value-size t c = search needs
 
 -- src/lib.rt:223:53
-measure-part-value-size-start : (t : ℕ) → measure-lts.Need-part-value-size-start (field-at-reads.Asked, field-at-reads.Learnt, held-reads.Asked, held-reads.Learnt, value-size-reads.Asked, value-size-reads.Learnt, measure-below t, measure.Post, control-size-reads.Asked, control-size-reads.Learnt) (measure-at t) measure.Post measure-Inv-loop measure-μ-loop
+measure-part-value-size-start : (t : ℕ) → measure-lts.Need-part-value-size-start (field-in-reads.Asked, field-in-reads.Learnt, held-reads.Asked, held-reads.Learnt, value-size-reads.Asked, value-size-reads.Learnt, measure-below t, measure.Post, control-size-reads.Asked, control-size-reads.Learnt) (measure-at t) measure.Post measure-Inv-loop measure-μ-loop
 measure-part-value-size-start t c = search needs
 
 -- src/lib.rt:223:53
-measure-part-value-size-end : (t : ℕ) → measure-lts.Need-part-value-size-end (field-at-reads.Asked, field-at-reads.Learnt, held-reads.Asked, held-reads.Learnt, value-size-reads.Asked, value-size-reads.Learnt, measure-below t, measure.Post, control-size-reads.Asked, control-size-reads.Learnt) (measure-at t) measure.Post measure-Inv-loop measure-μ-loop
-measure-part-value-size-end t c = let f = c .before .before .before .before .before .before in let h = next-onward (es t (b t f)) (b t f .args .levels - 1) (b t f .args .number) (now (b t f .args .s)) (i t f) (f .before .before .before .loop .size) (state t f) (more t f) (octets t (b t f)) (f .field-at .result) (found t f) .1 in omega arith
+measure-part-value-size-end : (t : ℕ) → measure-lts.Need-part-value-size-end (field-in-reads.Asked, field-in-reads.Learnt, held-reads.Asked, held-reads.Learnt, value-size-reads.Asked, value-size-reads.Learnt, measure-below t, measure.Post, control-size-reads.Asked, control-size-reads.Learnt) (measure-at t) measure.Post measure-Inv-loop measure-μ-loop
+measure-part-value-size-end t c = let f = c .before .before .before .before .before .before in let h = next-onward (es t (b t f)) (b t f .args .levels - 1) (b t f .args .number) (now (b t f .args .s)) (i t f) (f .before .before .before .loop .size) (state t f) (more t f) (octets t (b t f)) (f .field-in .result) (found t f) .1 in omega arith
 
 -- src/lib.rt:223:31
-measure-value-size-requires : (t : ℕ) → measure-lts.Need-value-size-requires (field-at-reads.Asked, field-at-reads.Learnt, held-reads.Asked, held-reads.Learnt, value-size-reads.Asked, value-size-reads.Learnt, measure-below t, measure.Post, control-size-reads.Asked, control-size-reads.Learnt) (measure-at t) measure.Post measure-Inv-loop measure-μ-loop
+measure-value-size-requires : (t : ℕ) → measure-lts.Need-value-size-requires (field-in-reads.Asked, field-in-reads.Learnt, held-reads.Asked, held-reads.Learnt, value-size-reads.Asked, value-size-reads.Learnt, measure-below t, measure.Post, control-size-reads.Asked, control-size-reads.Learnt) (measure-at t) measure.Post measure-Inv-loop measure-μ-loop
 measure-value-size-requires t c κs =
     let f = c .before .before .before .before .before .before .before in
-    let q = plain-of (f .field-at .result .kind) (sym (c .before .before .before .held .ensures) ∙ c .before .enum-told .given .1) in (
+    let q = plain-of (f .field-in .result .kind) (sym (c .before .before .before .held .ensures) ∙ c .before .enum-told .given .1) in (
       leaf-contents (es t (b t f)) (b t f .args .levels - 1) (b t f .args .number) (now (b t f .args .s)) (i t f) (state t f .written) (state t f .passed) (more t f)
-          (f .field-at .result) (found t f) q,
-      part-few t f (i t f + f .field-at .result .control) (i t f + f .field-at .result .control + f .field-at .result .contents - (i t f + f .field-at .result .control)),
+          (f .field-in .result) (found t f) q,
+      part-few t f (i t f + f .field-in .result .control) (i t f + f .field-in .result .control + f .field-in .result .contents - (i t f + f .field-in .result .control)),
     )
 
 -- src/lib.rt:223:24
-measure-add-size : (t : ℕ) → measure-lts.Need-add-size (field-at-reads.Asked, field-at-reads.Learnt, held-reads.Asked, held-reads.Learnt, value-size-reads.Asked, value-size-reads.Learnt, measure-below t, measure.Post, control-size-reads.Asked, control-size-reads.Learnt) (measure-at t) measure.Post measure-Inv-loop measure-μ-loop
+measure-add-size : (t : ℕ) → measure-lts.Need-add-size (field-in-reads.Asked, field-in-reads.Learnt, held-reads.Asked, held-reads.Learnt, value-size-reads.Asked, value-size-reads.Learnt, measure-below t, measure.Post, control-size-reads.Asked, control-size-reads.Learnt) (measure-at t) measure.Post measure-Inv-loop measure-μ-loop
 measure-add-size t c =
     let f = c .before .before .before .before .before .before .before .before in
-    let x = f .field-at .result in
-    let h = counted-small t (b t f) (i t f + x .control + x .contents) (f .before .before .before .loop .size + c .value-size .result) (leaf-counted (es t (b t f)) (b t f .args .levels - 1) (b t f .args .number) (now (b t f .args .s)) (i t f) (f .before .before .before .loop .size) (state t f) (more t f) (octets t (b t f)) (f .field-at .result) (found t f) (c .value-size .result) (plain-of (f .field-at .result .kind) (sym (c .before .before .before .before .held .ensures) ∙ c .before .before .enum-told .given .1)) (c .value-size .ensures)) in
+    let x = f .field-in .result in
+    let h = counted-small t (b t f) (i t f + x .control + x .contents) (f .before .before .before .loop .size + c .value-size .result) (leaf-counted (es t (b t f)) (b t f .args .levels - 1) (b t f .args .number) (now (b t f .args .s)) (i t f) (f .before .before .before .loop .size) (state t f) (more t f) (octets t (b t f)) (f .field-in .result) (found t f) (c .value-size .result) (plain-of (f .field-in .result .kind) (sym (c .before .before .before .before .held .ensures) ∙ c .before .before .enum-told .given .1)) (c .value-size .ensures)) in
     omega arith
 
 -- src/lib.rt:215:5
-measure-loop-less : (t : ℕ) → measure-lts.Need-loop-less (field-at-reads.Asked, field-at-reads.Learnt, held-reads.Asked, held-reads.Learnt, value-size-reads.Asked, value-size-reads.Learnt, measure-below t, measure.Post, control-size-reads.Asked, control-size-reads.Learnt) (measure-at t) measure.Post measure-Inv-loop measure-μ-loop
-measure-loop-less t c = let f = c .before .before .before .before .before .before .before .before in let h = next-onward (es t (b t f)) (b t f .args .levels - 1) (b t f .args .number) (now (b t f .args .s)) (i t f) (f .before .before .before .loop .size) (state t f) (more t f) (octets t (b t f)) (f .field-at .result) (found t f) in let p = h .0 in let q = h .1 in omega arith
+measure-loop-less : (t : ℕ) → measure-lts.Need-loop-less (field-in-reads.Asked, field-in-reads.Learnt, held-reads.Asked, held-reads.Learnt, value-size-reads.Asked, value-size-reads.Learnt, measure-below t, measure.Post, control-size-reads.Asked, control-size-reads.Learnt) (measure-at t) measure.Post measure-Inv-loop measure-μ-loop
+measure-loop-less t c = let f = c .before .before .before .before .before .before .before .before in let h = next-onward (es t (b t f)) (b t f .args .levels - 1) (b t f .args .number) (now (b t f .args .s)) (i t f) (f .before .before .before .loop .size) (state t f) (more t f) (octets t (b t f)) (f .field-in .result) (found t f) in let p = h .0 in let q = h .1 in omega arith
 
 -- src/lib.rt:215:5
-measure-loop-again : (t : ℕ) → measure-lts.Need-loop-again (field-at-reads.Asked, field-at-reads.Learnt, held-reads.Asked, held-reads.Learnt, value-size-reads.Asked, value-size-reads.Learnt, measure-below t, measure.Post, control-size-reads.Asked, control-size-reads.Learnt) (measure-at t) measure.Post measure-Inv-loop measure-μ-loop
+measure-loop-again : (t : ℕ) → measure-lts.Need-loop-again (field-in-reads.Asked, field-in-reads.Learnt, held-reads.Asked, held-reads.Learnt, value-size-reads.Asked, value-size-reads.Learnt, measure-below t, measure.Post, control-size-reads.Asked, control-size-reads.Learnt) (measure-at t) measure.Post measure-Inv-loop measure-μ-loop
 measure-loop-again t c =
     let f = c .before .before .before .before .before .before .before .before in
-    leaf-counted (es t (b t f)) (b t f .args .levels - 1) (b t f .args .number) (now (b t f .args .s)) (i t f) (f .before .before .before .loop .size) (state t f) (more t f) (octets t (b t f)) (f .field-at .result) (found t f) (c .value-size .result) (plain-of (f .field-at .result .kind) (sym (c .before .before .before .before .held .ensures) ∙ c .before .before .enum-told .given .1)) (c .value-size .ensures)
+    leaf-counted (es t (b t f)) (b t f .args .levels - 1) (b t f .args .number) (now (b t f .args .s)) (i t f) (f .before .before .before .loop .size) (state t f) (more t f) (octets t (b t f)) (f .field-in .result) (found t f) (c .value-size .result) (plain-of (f .field-in .result .kind) (sym (c .before .before .before .before .held .ensures) ∙ c .before .before .enum-told .given .1)) (c .value-size .ensures)
 
 -- src/lib.rt:226:27
-measure-enum-known-m : (t : ℕ) → measure-lts.Need-enum-known-m (field-at-reads.Asked, field-at-reads.Learnt, held-reads.Asked, held-reads.Learnt, value-size-reads.Asked, value-size-reads.Learnt, measure-below t, measure.Post, control-size-reads.Asked, control-size-reads.Learnt) (measure-at t) measure.Post measure-Inv-loop measure-μ-loop
+measure-enum-known-m : (t : ℕ) → measure-lts.Need-enum-known-m (field-in-reads.Asked, field-in-reads.Learnt, held-reads.Asked, held-reads.Learnt, value-size-reads.Asked, value-size-reads.Learnt, measure-below t, measure.Post, control-size-reads.Asked, control-size-reads.Learnt) (measure-at t) measure.Post measure-Inv-loop measure-μ-loop
 measure-enum-known-m t c = search needs
 
 -- src/lib.rt:227:50
-measure-sub-measure : (t : ℕ) → measure-lts.Need-sub-measure (field-at-reads.Asked, field-at-reads.Learnt, held-reads.Asked, held-reads.Learnt, value-size-reads.Asked, value-size-reads.Learnt, measure-below t, measure.Post, control-size-reads.Asked, control-size-reads.Learnt) (measure-at t) measure.Post measure-Inv-loop measure-μ-loop
+measure-sub-measure : (t : ℕ) → measure-lts.Need-sub-measure (field-in-reads.Asked, field-in-reads.Learnt, held-reads.Asked, held-reads.Learnt, value-size-reads.Asked, value-size-reads.Learnt, measure-below t, measure.Post, control-size-reads.Asked, control-size-reads.Learnt) (measure-at t) measure.Post measure-Inv-loop measure-μ-loop
 measure-sub-measure t c =
     let f = c .before .before .before .before .before .before .before in
-    let h = nested-accepts (es t (b t f)) (b t f .args .levels - 1) (b t f .args .number) (now (b t f .args .s)) (i t f) (f .before .before .before .loop .size) (state t f) (more t f) (octets t (b t f)) (f .field-at .result) (found t f) (c .before .m .given .0 .0) (message-of (f .field-at .result .kind) (c .before .m .given .0 .0) (sym (c .before .before .before .held .ensures) ∙ c .before .m .given .1)) .0 in
+    let h = nested-accepts (es t (b t f)) (b t f .args .levels - 1) (b t f .args .number) (now (b t f .args .s)) (i t f) (f .before .before .before .loop .size) (state t f) (more t f) (octets t (b t f)) (f .field-in .result) (found t f) (c .before .m .given .0 .0) (message-of (f .field-in .result .kind) (c .before .m .given .0 .0) (sym (c .before .before .before .held .ensures) ∙ c .before .m .given .1)) .0 in
     omega arith
 
 -- src/lib.rt:227:60
-measure-sub-measure-2 : (t : ℕ) → measure-lts.Need-sub-measure-2 (field-at-reads.Asked, field-at-reads.Learnt, held-reads.Asked, held-reads.Learnt, value-size-reads.Asked, value-size-reads.Learnt, measure-below t, measure.Post, control-size-reads.Asked, control-size-reads.Learnt) (measure-at t) measure.Post measure-Inv-loop measure-μ-loop
+measure-sub-measure-2 : (t : ℕ) → measure-lts.Need-sub-measure-2 (field-in-reads.Asked, field-in-reads.Learnt, held-reads.Asked, held-reads.Learnt, value-size-reads.Asked, value-size-reads.Learnt, measure-below t, measure.Post, control-size-reads.Asked, control-size-reads.Learnt) (measure-at t) measure.Post measure-Inv-loop measure-μ-loop
 measure-sub-measure-2 t c = search needs
 
 -- src/lib.rt:227:60
-measure-part-measure-start : (t : ℕ) → measure-lts.Need-part-measure-start (field-at-reads.Asked, field-at-reads.Learnt, held-reads.Asked, held-reads.Learnt, value-size-reads.Asked, value-size-reads.Learnt, measure-below t, measure.Post, control-size-reads.Asked, control-size-reads.Learnt) (measure-at t) measure.Post measure-Inv-loop measure-μ-loop
+measure-part-measure-start : (t : ℕ) → measure-lts.Need-part-measure-start (field-in-reads.Asked, field-in-reads.Learnt, held-reads.Asked, held-reads.Learnt, value-size-reads.Asked, value-size-reads.Learnt, measure-below t, measure.Post, control-size-reads.Asked, control-size-reads.Learnt) (measure-at t) measure.Post measure-Inv-loop measure-μ-loop
 measure-part-measure-start t c = search needs
 
 -- src/lib.rt:227:60
-measure-part-measure-end : (t : ℕ) → measure-lts.Need-part-measure-end (field-at-reads.Asked, field-at-reads.Learnt, held-reads.Asked, held-reads.Learnt, value-size-reads.Asked, value-size-reads.Learnt, measure-below t, measure.Post, control-size-reads.Asked, control-size-reads.Learnt) (measure-at t) measure.Post measure-Inv-loop measure-μ-loop
-measure-part-measure-end t c = let f = c .before .before .before .before .before .before .before in let h = next-onward (es t (b t f)) (b t f .args .levels - 1) (b t f .args .number) (now (b t f .args .s)) (i t f) (f .before .before .before .loop .size) (state t f) (more t f) (octets t (b t f)) (f .field-at .result) (found t f) .1 in omega arith
+measure-part-measure-end : (t : ℕ) → measure-lts.Need-part-measure-end (field-in-reads.Asked, field-in-reads.Learnt, held-reads.Asked, held-reads.Learnt, value-size-reads.Asked, value-size-reads.Learnt, measure-below t, measure.Post, control-size-reads.Asked, control-size-reads.Learnt) (measure-at t) measure.Post measure-Inv-loop measure-μ-loop
+measure-part-measure-end t c = let f = c .before .before .before .before .before .before .before in let h = next-onward (es t (b t f)) (b t f .args .levels - 1) (b t f .args .number) (now (b t f .args .s)) (i t f) (f .before .before .before .loop .size) (state t f) (more t f) (octets t (b t f)) (f .field-in .result) (found t f) .1 in omega arith
 
 -- src/lib.rt:227:21
-measure-measure-requires : (t : ℕ) → measure-lts.Need-measure-requires (field-at-reads.Asked, field-at-reads.Learnt, held-reads.Asked, held-reads.Learnt, value-size-reads.Asked, value-size-reads.Learnt, measure-below t, measure.Post, control-size-reads.Asked, control-size-reads.Learnt) (measure-at t) measure.Post measure-Inv-loop measure-μ-loop
+measure-measure-requires : (t : ℕ) → measure-lts.Need-measure-requires (field-in-reads.Asked, field-in-reads.Learnt, held-reads.Asked, held-reads.Learnt, value-size-reads.Asked, value-size-reads.Learnt, measure-below t, measure.Post, control-size-reads.Asked, control-size-reads.Learnt) (measure-at t) measure.Post measure-Inv-loop measure-μ-loop
 measure-measure-requires t c κs =
     let f = c .before .before .before .before .before .before .before .before in
     let m = c .before .before .m .given .0 .0 in
-    let x = f .field-at .result in
-    let h = nested-accepts (es t (b t f)) (b t f .args .levels - 1) (b t f .args .number) (now (b t f .args .s)) (i t f) (f .before .before .before .loop .size) (state t f) (more t f) (octets t (b t f)) (f .field-at .result) (found t f) m (message-of (f .field-at .result .kind) (c .before .before .m .given .0 .0) (sym (c .before .before .before .before .held .ensures) ∙ c .before .before .m .given .1)) in
+    let x = f .field-in .result in
+    let h = nested-accepts (es t (b t f)) (b t f .args .levels - 1) (b t f .args .number) (now (b t f .args .s)) (i t f) (f .before .before .before .loop .size) (state t f) (more t f) (octets t (b t f)) (f .field-in .result) (found t f) m (message-of (f .field-in .result .kind) (c .before .before .m .given .0 .0) (sym (c .before .before .before .before .held .ensures) ∙ c .before .before .m .given .1)) in
     let k = h .0 in
     let p = b t f .pre .0 in
     let j = i t f + x .control in
     (omega arith, (part-few t f j (j + x .contents - j), (octets-part (j + x .contents - j) j (now (b t f .args .s)) (octets t (b t f)), h .1)))
 
 -- src/lib.rt:228:32
-measure-control-size-requires : (t : ℕ) → measure-lts.Need-control-size-requires (field-at-reads.Asked, field-at-reads.Learnt, held-reads.Asked, held-reads.Learnt, value-size-reads.Asked, value-size-reads.Learnt, measure-below t, measure.Post, control-size-reads.Asked, control-size-reads.Learnt) (measure-at t) measure.Post measure-Inv-loop measure-μ-loop
+measure-control-size-requires : (t : ℕ) → measure-lts.Need-control-size-requires (field-in-reads.Asked, field-in-reads.Learnt, held-reads.Asked, held-reads.Learnt, value-size-reads.Asked, value-size-reads.Learnt, measure-below t, measure.Post, control-size-reads.Asked, control-size-reads.Learnt) (measure-at t) measure.Post measure-Inv-loop measure-μ-loop
 measure-control-size-requires t c κs = search needs
 
 -- src/lib.rt:228:32
-measure-add-size-2 : (t : ℕ) → measure-lts.Need-add-size-2 (field-at-reads.Asked, field-at-reads.Learnt, held-reads.Asked, held-reads.Learnt, value-size-reads.Asked, value-size-reads.Learnt, measure-below t, measure.Post, control-size-reads.Asked, control-size-reads.Learnt) (measure-at t) measure.Post measure-Inv-loop measure-μ-loop
+measure-add-size-2 : (t : ℕ) → measure-lts.Need-add-size-2 (field-in-reads.Asked, field-in-reads.Learnt, held-reads.Asked, held-reads.Learnt, value-size-reads.Asked, value-size-reads.Learnt, measure-below t, measure.Post, control-size-reads.Asked, control-size-reads.Learnt) (measure-at t) measure.Post measure-Inv-loop measure-μ-loop
 measure-add-size-2 t c =
     let f = c .before .before .before .before .before .before .before .before .before .before in
-    let x = f .field-at .result in
-    let h = counted-small t (b t f) (i t f + x .control + x .contents) (f .before .before .before .loop .size + (c .control-size .result + c .before .measure .result)) (nested-counted (es t (b t f)) (b t f .args .levels - 1) (b t f .args .number) (now (b t f .args .s)) (i t f) (f .before .before .before .loop .size) (state t f) (more t f) (octets t (b t f)) (f .field-at .result) (found t f) (c .before .before .before .before .m .given .0 .0) (message-of (f .field-at .result .kind) (c .before .before .before .before .m .given .0 .0) (sym (c .before .before .before .before .before .before .held .ensures) ∙ c .before .before .before .before .m .given .1)) (c .before .measure .result) (c .control-size .result) (c .before .measure .ensures) (c .control-size .ensures)) in
+    let x = f .field-in .result in
+    let h = counted-small t (b t f) (i t f + x .control + x .contents) (f .before .before .before .loop .size + (c .control-size .result + c .before .measure .result)) (nested-counted (es t (b t f)) (b t f .args .levels - 1) (b t f .args .number) (now (b t f .args .s)) (i t f) (f .before .before .before .loop .size) (state t f) (more t f) (octets t (b t f)) (f .field-in .result) (found t f) (c .before .before .before .before .m .given .0 .0) (message-of (f .field-in .result .kind) (c .before .before .before .before .m .given .0 .0) (sym (c .before .before .before .before .before .before .held .ensures) ∙ c .before .before .before .before .m .given .1)) (c .before .measure .result) (c .control-size .result) (c .before .measure .ensures) (c .control-size .ensures)) in
     omega arith
 
 -- src/lib.rt:228:24
-measure-add-size-3 : (t : ℕ) → measure-lts.Need-add-size-3 (field-at-reads.Asked, field-at-reads.Learnt, held-reads.Asked, held-reads.Learnt, value-size-reads.Asked, value-size-reads.Learnt, measure-below t, measure.Post, control-size-reads.Asked, control-size-reads.Learnt) (measure-at t) measure.Post measure-Inv-loop measure-μ-loop
+measure-add-size-3 : (t : ℕ) → measure-lts.Need-add-size-3 (field-in-reads.Asked, field-in-reads.Learnt, held-reads.Asked, held-reads.Learnt, value-size-reads.Asked, value-size-reads.Learnt, measure-below t, measure.Post, control-size-reads.Asked, control-size-reads.Learnt) (measure-at t) measure.Post measure-Inv-loop measure-μ-loop
 measure-add-size-3 t c =
     let f = c .before .before .before .before .before .before .before .before .before .before in
-    let x = f .field-at .result in
-    let h = counted-small t (b t f) (i t f + x .control + x .contents) (f .before .before .before .loop .size + (c .control-size .result + c .before .measure .result)) (nested-counted (es t (b t f)) (b t f .args .levels - 1) (b t f .args .number) (now (b t f .args .s)) (i t f) (f .before .before .before .loop .size) (state t f) (more t f) (octets t (b t f)) (f .field-at .result) (found t f) (c .before .before .before .before .m .given .0 .0) (message-of (f .field-at .result .kind) (c .before .before .before .before .m .given .0 .0) (sym (c .before .before .before .before .before .before .held .ensures) ∙ c .before .before .before .before .m .given .1)) (c .before .measure .result) (c .control-size .result) (c .before .measure .ensures) (c .control-size .ensures)) in
+    let x = f .field-in .result in
+    let h = counted-small t (b t f) (i t f + x .control + x .contents) (f .before .before .before .loop .size + (c .control-size .result + c .before .measure .result)) (nested-counted (es t (b t f)) (b t f .args .levels - 1) (b t f .args .number) (now (b t f .args .s)) (i t f) (f .before .before .before .loop .size) (state t f) (more t f) (octets t (b t f)) (f .field-in .result) (found t f) (c .before .before .before .before .m .given .0 .0) (message-of (f .field-in .result .kind) (c .before .before .before .before .m .given .0 .0) (sym (c .before .before .before .before .before .before .held .ensures) ∙ c .before .before .before .before .m .given .1)) (c .before .measure .result) (c .control-size .result) (c .before .measure .ensures) (c .control-size .ensures)) in
     omega arith
 
 -- src/lib.rt:215:5
-measure-loop-less-2 : (t : ℕ) → measure-lts.Need-loop-less-2 (field-at-reads.Asked, field-at-reads.Learnt, held-reads.Asked, held-reads.Learnt, value-size-reads.Asked, value-size-reads.Learnt, measure-below t, measure.Post, control-size-reads.Asked, control-size-reads.Learnt) (measure-at t) measure.Post measure-Inv-loop measure-μ-loop
-measure-loop-less-2 t c = let f = c .before .before .before .before .before .before .before .before .before .before in let h = next-onward (es t (b t f)) (b t f .args .levels - 1) (b t f .args .number) (now (b t f .args .s)) (i t f) (f .before .before .before .loop .size) (state t f) (more t f) (octets t (b t f)) (f .field-at .result) (found t f) in let p = h .0 in let q = h .1 in omega arith
+measure-loop-less-2 : (t : ℕ) → measure-lts.Need-loop-less-2 (field-in-reads.Asked, field-in-reads.Learnt, held-reads.Asked, held-reads.Learnt, value-size-reads.Asked, value-size-reads.Learnt, measure-below t, measure.Post, control-size-reads.Asked, control-size-reads.Learnt) (measure-at t) measure.Post measure-Inv-loop measure-μ-loop
+measure-loop-less-2 t c = let f = c .before .before .before .before .before .before .before .before .before .before in let h = next-onward (es t (b t f)) (b t f .args .levels - 1) (b t f .args .number) (now (b t f .args .s)) (i t f) (f .before .before .before .loop .size) (state t f) (more t f) (octets t (b t f)) (f .field-in .result) (found t f) in let p = h .0 in let q = h .1 in omega arith
 
 -- src/lib.rt:215:5
-measure-loop-again-2 : (t : ℕ) → measure-lts.Need-loop-again-2 (field-at-reads.Asked, field-at-reads.Learnt, held-reads.Asked, held-reads.Learnt, value-size-reads.Asked, value-size-reads.Learnt, measure-below t, measure.Post, control-size-reads.Asked, control-size-reads.Learnt) (measure-at t) measure.Post measure-Inv-loop measure-μ-loop
+measure-loop-again-2 : (t : ℕ) → measure-lts.Need-loop-again-2 (field-in-reads.Asked, field-in-reads.Learnt, held-reads.Asked, held-reads.Learnt, value-size-reads.Asked, value-size-reads.Learnt, measure-below t, measure.Post, control-size-reads.Asked, control-size-reads.Learnt) (measure-at t) measure.Post measure-Inv-loop measure-μ-loop
 measure-loop-again-2 t c =
     let f = c .before .before .before .before .before .before .before .before .before .before in
-    nested-counted (es t (b t f)) (b t f .args .levels - 1) (b t f .args .number) (now (b t f .args .s)) (i t f) (f .before .before .before .loop .size) (state t f) (more t f) (octets t (b t f)) (f .field-at .result) (found t f) (c .before .before .before .before .m .given .0 .0) (message-of (f .field-at .result .kind) (c .before .before .before .before .m .given .0 .0) (sym (c .before .before .before .before .before .before .held .ensures) ∙ c .before .before .before .before .m .given .1)) (c .before .measure .result) (c .control-size .result) (c .before .measure .ensures) (c .control-size .ensures)
+    nested-counted (es t (b t f)) (b t f .args .levels - 1) (b t f .args .number) (now (b t f .args .s)) (i t f) (f .before .before .before .loop .size) (state t f) (more t f) (octets t (b t f)) (f .field-in .result) (found t f) (c .before .before .before .before .m .given .0 .0) (message-of (f .field-in .result .kind) (c .before .before .before .before .m .given .0 .0) (sym (c .before .before .before .before .before .before .held .ensures) ∙ c .before .before .before .before .m .given .1)) (c .before .measure .result) (c .control-size .result) (c .before .measure .ensures) (c .control-size .ensures)
 
 -- src/lib.rt:207:1
-measure-returns : (t : ℕ) → measure-lts.Need-returns (field-at-reads.Asked, field-at-reads.Learnt, held-reads.Asked, held-reads.Learnt, value-size-reads.Asked, value-size-reads.Learnt, measure-below t, measure.Post, control-size-reads.Asked, control-size-reads.Learnt) (measure-at t) measure.Post measure-Inv-loop measure-μ-loop
+measure-returns : (t : ℕ) → measure-lts.Need-returns (field-in-reads.Asked, field-in-reads.Learnt, held-reads.Asked, held-reads.Learnt, value-size-reads.Asked, value-size-reads.Learnt, measure-below t, measure.Post, control-size-reads.Asked, control-size-reads.Learnt) (measure-at t) measure.Post measure-Inv-loop measure-μ-loop
 measure-returns t c =
     let s = c .before .before .before .before in
     counted-all (es t s) (s .args .levels - 1) (s .args .number) (now (s .args .s)) (c .before .loop .i) (c .before .loop .size) (c .before .loop .inv) (c .loop-test .left)
     ∙ ap (λ (r : ℕ). length (short (es t s) r (s .args .number) (now (s .args .s)))) (levels-is t s)
 
 pub +measure-spec : {M : Type 1} → statement M
-+measure-spec = close μ-measure λ t. measure-lts.spec (field-at-reads.Asked, field-at-reads.Learnt, held-reads.Asked, held-reads.Learnt, value-size-reads.Asked, value-size-reads.Learnt, measure-below t, measure.Post, control-size-reads.Asked, control-size-reads.Learnt)
++measure-spec = close μ-measure λ t. measure-lts.spec (field-in-reads.Asked, field-in-reads.Learnt, held-reads.Asked, held-reads.Learnt, value-size-reads.Asked, value-size-reads.Learnt, measure-below t, measure.Post, control-size-reads.Asked, control-size-reads.Learnt)
     (measure-at t)
     measure.Post
     measure-Inv-loop
     measure-μ-loop
     (measure-loop-holds t)
-    (measure-sub-field-at t)
-    (measure-part-field-at-start t)
-    (measure-part-field-at-end t)
-    (measure-field-at-requires t)
+    (measure-sub-field-in t)
+    (measure-part-field-in-start t)
+    (measure-part-field-in-end t)
+    (measure-field-in-requires t)
     (measure-add-a t)
     (measure-add-e t)
     (measure-cast-tag t)

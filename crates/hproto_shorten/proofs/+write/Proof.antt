@@ -2,12 +2,13 @@ use Prim.Native.Nat.{ℕ, suc, _+_, _-_, _%_, _≤_, _<_}
 use native.Mathlib.Omega.{arith}
 use borrow.Author.Needs.{needs}
 use mathlib.Core.Path.{_≡_, refl, sym, ap, _∙_, subst}
-use mathlib.Core.List.{List, map}
+use mathlib.Core.List.{List}
 use denote.Ref.{now}
 use lib.ListN.{length, take, drop, length-drop}
 use lib.Seq.{take-all}
 use Rattle.octets.specs.Number.{Octets}
-use Rattle.hproto_table.specs.Entry.{Entry, entry}
+use Rattle.hproto_table.specs.Entry.{Entry}
+use Rattle.hproto_index.specs.Slots.{listed}
 use Rattle.hproto_field.specs.Fronts.{front}
 use Rattle.hproto_shorten.specs.Written.{short, Accepts, Put}
 use Rattle.hproto_shorten.proofs.Passing.{plain-of, message-of, octets-part, leaf-contents}
@@ -24,20 +25,20 @@ use Rattle.hproto_shorten.proofs.wrap.Reads as wrap-reads
 use Rattle.hproto_shorten.proofs.+write.{statement}
 use Rattle.hproto_shorten.proofs.+write.Tie.{close}
 
-abbrev μ-write : Measures 3 write-kinds.ps ℕ
+abbrev μ-write : Measures 4 write-kinds.ps ℕ
 μ-write κs a = a .1 .1 .1 .0
 
-abbrev write-at : ℕ → In 3 write-kinds.ps
-write-at t = and 3 write-kinds.ps (is 3 write-kinds.ps μ-write t) write.Pre
+abbrev write-at : ℕ → In 4 write-kinds.ps
+write-at t = and 4 write-kinds.ps (is 4 write-kinds.ps μ-write t) write.Pre
 
-abbrev write-below : ℕ → In 3 write-kinds.ps
-write-below t = and 3 write-kinds.ps (falls 3 write-kinds.ps _<_ μ-write t) write.Pre
+abbrev write-below : ℕ → In 4 write-kinds.ps
+write-below t = and 4 write-kinds.ps (falls 4 write-kinds.ps _<_ μ-write t) write.Pre
 
 abbrev write-Inv-loop : write-lts.InvT-loop
-write-Inv-loop words count number levels s out₀ to i₀ end₀ out i end = Progress (map entry (take count words)) (levels - 1) number s out₀ to i end out
+write-Inv-loop slots words number levels s out₀ to i₀ end₀ out i end = Progress (listed slots words) (levels - 1) number s out₀ to i end out
 
 abbrev write-μ-loop : write-lts.MeasureT-loop
-write-μ-loop words count number levels s out₀ to i₀ end₀ out i end = length s - i
+write-μ-loop slots words number levels s out₀ to i₀ end₀ out i end = length s - i
 
 -- The place after the field at the front of the octets that are left was found.
 abbrev Found : ℕ → Type 0
@@ -48,7 +49,7 @@ At-start t = write-lts.Start (next-field-reads.Asked, next-field-reads.Learnt, h
 
 module _ (t : ℕ) (b : At-start t) where
   abbrev es : List Entry
-  es = map entry (take (b .args .count) (now (b .args .words)))
+  es = listed (now (b .args .slots)) (now (b .args .words))
 
   abbrev octets : Octets (now (b .args .s))
   octets = b .pre .1 .0

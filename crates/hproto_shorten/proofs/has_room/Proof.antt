@@ -1,11 +1,10 @@
 use borrow.Author.Needs.{needs}
 use native.Mathlib.Omega.{arith}
 use mathlib.Core.Path.{sym}
-use mathlib.Core.List.{map}
 use denote.Ref.{now}
 use lib.ListN.{length, take}
 use borrow.Author.Tests.{le-leb}
-use Rattle.hproto_table.specs.Entry.{entry}
+use Rattle.hproto_index.specs.Slots.{listed}
 use Rattle.hproto_shorten.specs.Written.{short}
 use Rattle.hproto_shorten.proofs.Measuring.{short-few}
 use Rattle.hproto_shorten.proofs.has_room.Statement.{statement}
@@ -18,7 +17,7 @@ use Rattle.hproto_shorten.proofs.measure.Reads as measure-reads
 returns : tie.Need-returns
 returns c =
     let s = c .before .before .before in
-    let es = map entry (take (s .args .count) (now (s .args .words))) in
+    let es = listed (now (s .args .slots)) (now (s .args .words)) in
     let h = short-few es 8 (s .args .number) (now (s .args .message)) (s .pre .1 .0) (s .pre .1 .1) in
     let k = c .if1 .taken in
     sym (le-leb (length (short es 8 (s .args .number) (now (s .args .message)))) (s .args .len) (omega arith))

@@ -2,19 +2,18 @@ use borrow.Author.Needs.{needs}
 use native.Mathlib.Omega.{arith}
 use Prim.Native.Nat.{_/_}
 use mathlib.Core.Path.{refl}
-use mathlib.Core.List.{map}
 use denote.Ref.{now}
 use lib.Bits.{bitAnd, mask-lt}
 use lib.ListN.{getD, length, take}
 use borrow.Author.Tests.{ltb-true}
-use Rattle.hproto_table.specs.Entry.{entry}
+use Rattle.hproto_index.specs.Slots.{listed}
 use Rattle.hproto_shorten.proofs.Directs.{direct-front}
 use Rattle.hproto_shorten.proofs.next_field.Statement.{statement}
 use Rattle.hproto_shorten.proofs.next_field.Tie as tie
 use Rattle.hproto_shorten.proofs.next_field.Reads as reads
 use Rattle.hproto_shorten.proofs.next_field.Lts as lts
-use Rattle.hproto_field.proofs.field_at.Reads as field-at-reads
-use Rattle.hproto_find.proofs.find.Reads as find-reads
+use Rattle.hproto_field.proofs.field_in.Reads as field-in-reads
+use Rattle.hproto_index.proofs.find.Reads as find-reads
 
 -- src/lib.rt:159:17
 shared-slice-read-c : tie.Need-shared-slice-read-c
@@ -38,12 +37,12 @@ returns c =
     let a = c .before .before .before .before .before .before .before .before .args in
     let s = now (a .s) in
     let x = getD s 0 0 in
-    direct-front (map entry (take (a .count) (now (a .words)))) (a .number) s (x / 16) (bitAnd x 15) (c .find .result) refl refl
+    direct-front (listed (now (a .slots)) (now (a .words))) (a .number) s (x / 16) (bitAnd x 15) (c .find .result) refl refl
     (c .before .before .before .if2 .taken) (ltb-true (bitAnd x 15) 12 (c .before .before .if3 .taken)) (ltb-true (bitAnd x 15) (length s) (c .before .if4 .taken)) (c .find .ensures)
 
 -- src/lib.rt:171:5
-field-at-requires : tie.Need-field-at-requires
-field-at-requires c κs = search needs
+field-in-requires : tie.Need-field-in-requires
+field-in-requires c κs = search needs
 
 -- src/lib.rt:155:1
 returns-2 : tie.Need-returns-2
@@ -58,5 +57,5 @@ next-field-spec =
     cast-n
     find-requires
     returns
-    field-at-requires
+    field-in-requires
     returns-2)

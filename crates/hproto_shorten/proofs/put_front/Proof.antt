@@ -1,66 +1,46 @@
-use borrow.Author.Needs.{needs}
+-- `put_front` stores one octet for a small tag and a small length, else the control part by its widths.
 use native.Mathlib.Omega.{arith}
 use denote.Ref.{now}
 use borrow.Author.Tests.{ltb-true}
 use Rattle.hproto_shorten.proofs.Puts.{control-some, direct-put}
+use borrow.Author.Needs.{needs}
 use Rattle.hproto_shorten.proofs.put_front.Statement.{statement}
 use Rattle.hproto_shorten.proofs.put_front.Tie as tie
-use Rattle.hproto_shorten.proofs.put_front.Reads as reads
-use Rattle.hproto_shorten.proofs.put_front.Lts as lts
-use Rattle.hproto_put.proofs.control_size.Reads as control-size-reads
-use Rattle.hproto_put.proofs.put_control.Reads as put-control-reads
 
--- src/lib.rt:68:20
-mul-out : tie.Need-mul-out
-mul-out c = search needs
+one-octet-requires : tie.Need-one-octet-requires
+one-octet-requires c κs = search needs
 
--- src/lib.rt:68:20
-add-out : tie.Need-add-out
-add-out c = omega (arith, ltb-true (c .before .before .before .args .n) 12 (c .if2 .taken))
-
--- src/lib.rt:68:19
-cast-out : tie.Need-cast-out
-cast-out c = omega (arith, ltb-true (c .before .before .before .args .n) 12 (c .if2 .taken))
-
--- src/lib.rt:68:9
 slice-write-out : tie.Need-slice-write-out
 slice-write-out c =
-    let s = c .before .before .before in
+    let s = c .before .before .before .before in
     let h = s .pre in
     let e = control-some (s .args .tag) (s .args .n) in
     omega arith
 
--- src/lib.rt:69:16
 add-result : tie.Need-add-result
 add-result c = search needs
 
--- src/lib.rt:69:9
 same-length : tie.Need-same-length
 same-length c = search needs
 
--- src/lib.rt:69:9
 returns : tie.Need-returns
 returns c =
-    let s = c .before .before .before in
-    direct-put (now (s .args .out)) (s .args .to) (s .args .tag) (s .args .n) (c .before .if1 .taken) (ltb-true (s .args .n) 12 (c .if2 .taken)) (s .pre)
+    let s = c .before .before .before .before in
+    rw (c .one-octet .ensures)
+    (direct-put (now (s .args .out)) (s .args .to) (s .args .tag) (s .args .n) (c .before .before .if1 .taken) (ltb-true (s .args .n) 12 (c .before .if2 .taken)) (s .pre))
 
--- src/lib.rt:71:5
 put-control-requires : tie.Need-put-control-requires
 put-control-requires c κs = search needs
 
--- src/lib.rt:72:10
 control-size-requires : tie.Need-control-size-requires
 control-size-requires c κs = search needs
 
--- src/lib.rt:72:5
 add-result-2 : tie.Need-add-result-2
 add-result-2 c = search needs
 
--- src/lib.rt:63:1
 same-length-2 : tie.Need-same-length-2
 same-length-2 c = search needs
 
--- src/lib.rt:63:1
 returns-2 : tie.Need-returns-2
 returns-2 c = search needs
 
@@ -68,9 +48,7 @@ pub put-front-spec : {M : Type 1} → statement M
 put-front-spec =
     tie.close
     (tie.spec
-    mul-out
-    add-out
-    cast-out
+    one-octet-requires
     slice-write-out
     add-result
     same-length

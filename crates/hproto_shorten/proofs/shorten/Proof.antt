@@ -1,27 +1,23 @@
-use borrow.Author.Needs.{needs}
+-- `shorten` refuses a table that no loader gives, and shortens under the index of any other.
 use native.Mathlib.Omega.{arith}
-use mathlib.Core.Path.{refl, sym, _∙_}
+use mathlib.Core.Path.{sym, _∙_}
 use denote.Ref.{now}
 use borrow.Author.Tests.{not-true, not-false}
-use Rattle.hproto_table.specs.Entry.{entries}
+use Rattle.hproto_index.specs.Slots.{listed}
 use Rattle.hproto_check.specs.Check as checks
 use Rattle.hproto_check.specs.Check.{check}
 use Rattle.hproto_check.proofs.Counts.{too-long, bad-table}
+use Rattle.hproto_check.proofs.SameFinds.{indexed-same}
 use Rattle.hproto_shorten.specs.Shorten.{refusal, shortForm, answer, buffer}
-use Rattle.hproto_shorten.proofs.Answers.{refused-first, answer-under, buffer-under}
+use Rattle.hproto_shorten.proofs.Answers.{refused-first}
+use Rattle.hproto_shorten.proofs.SameFinds.{indexed-answer, indexed-buffer}
+use borrow.Author.Needs.{needs}
 use Rattle.hproto_shorten.proofs.shorten.Statement.{statement}
 use Rattle.hproto_shorten.proofs.shorten.Tie as tie
-use Rattle.hproto_shorten.proofs.shorten.Reads as reads
-use Rattle.hproto_shorten.proofs.shorten.Lts as lts
-use Rattle.hproto_shorten.proofs.refused.Reads as refused-reads
-use Rattle.hproto_shorten.proofs.shorten_under.Reads as shorten-under-reads
-use Rattle.hproto_valid.proofs.valid.Reads as valid-reads
 
--- src/lib.rt:295:9
 refused-requires : tie.Need-refused-requires
 refused-requires c κs = search needs
 
--- src/lib.rt:295:9
 returns : tie.Need-returns
 unfolding refusal checks.refusal answer buffer
 returns c =
@@ -30,15 +26,12 @@ returns c =
     let r = refused-first (check (a .t1) (a .number) m) (shortForm (a .t1) (a .number) m) (now (a .out)) (checks.refusal 1 0) (too-long (a .t1) (a .number) m (c .before .if1 .taken)) (λ z. omega arith) in
     (c .refused .ensures ∙ r .answered, r .left)
 
--- src/lib.rt:297:9
 valid-requires : tie.Need-valid-requires
 valid-requires c κs = search needs
 
--- src/lib.rt:298:9
 refused-requires-2 : tie.Need-refused-requires-2
 refused-requires-2 c κs = search needs
 
--- src/lib.rt:298:9
 returns-2 : tie.Need-returns-2
 unfolding refusal checks.refusal answer buffer
 returns-2 c =
@@ -49,25 +42,31 @@ returns-2 c =
     let r = refused-first (check (a .t1) (a .number) m) (shortForm (a .t1) (a .number) m) (now (a .out)) (checks.refusal 2 0) b (λ z. omega arith) in
     (c .refused2 .ensures ∙ r .answered, r .left)
 
--- src/lib.rt:300:5
+index-words-requires : tie.Need-index-words-requires
+index-words-requires c κs = search needs
+
+first-requires : tie.Need-first-requires
+first-requires c κs = search needs
+
 shorten-under-requires : tie.Need-shorten-under-requires
 shorten-under-requires c κs = search needs
 
--- src/lib.rt:290:1
 same-length : tie.Need-same-length
 same-length c = search needs
 
--- src/lib.rt:290:1
 returns-3 : tie.Need-returns-3
-unfolding entries
 returns-3 c =
-    let a = c .before .before .before .before .before .before .before .before .before .before .before .before .args in
+    let a = c .before .before .before .before .before .before .before .before .before .before .before .before .before .before .before .before .before .before .before .args in
     let m = now (a .message) in
-    let v = c .before .before .before .before .before .before .before .before .valid in
-    let g = sym (v .ensures) ∙ not-false (v .result) (c .before .before .before .before .before .before .before .if2 .left) in
+    let v = c .before .before .before .before .before .before .before .before .before .before .before .before .before .before .before .valid in
+    let g = sym (v .ensures) ∙ not-false (v .result) (c .before .before .before .before .before .before .before .before .before .before .before .before .before .before .if2 .left) in
+    let h = c .before .before .before .before .before .before .before .before .before .before .before .before .before .before .before .before .if1 .left in
+    let x = c .before .before .before .before .before .before .before .before .before .index-words in
+    let f = c .before .before .before .before .before .first in
+    let es = listed (x .last .1 .1 .0) (f .result .now) in
+    let e = indexed-same (a .t1) (x .last .1 .1 .0) (f .result .now) g (x .ensures) (f .ensures) in
     let s = c .before .before .shorten-under .ensures in
-    let h = c .before .before .before .before .before .before .before .before .before .if1 .left in
-    (s .0 ∙ answer-under (a .t1) (a .number) m (now (a .out)) h g, s .1 ∙ buffer-under (a .t1) (a .number) m (now (a .out)) h g)
+    (s .0 ∙ indexed-answer (a .t1) es e (a .number) m (now (a .out)) h g, s .1 ∙ indexed-buffer (a .t1) es e (a .number) m (now (a .out)) h g)
 
 pub shorten-spec : {M : Type 1} → statement M
 shorten-spec =
@@ -78,6 +77,8 @@ shorten-spec =
     valid-requires
     refused-requires-2
     returns-2
+    index-words-requires
+    first-requires
     shorten-under-requires
     same-length
     returns-3)
