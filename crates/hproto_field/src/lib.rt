@@ -11,6 +11,7 @@ ghost use Rattle.octets.specs.Text.{text};
 ghost use Rattle.hproto_table.specs.Entry.{entry};
 ghost use Rattle.hproto_message.specs.Reading.{step as step-of, stepByKind};
 ghost use Rattle.hproto_field.specs.Fronts.{front as front-of, part as part-of, nothing as nothing-of};
+ghost use Rattle.hproto_field.specs.Held.{heldIn};
 ghost use Rattle.hproto_index.specs.Slots.{listed};
 
 // The tag, the kind and the sizes of the control part and of the contents of a whole field; raw and zeros where there is none.
@@ -19,6 +20,12 @@ pub struct Field {
     pub kind: Meaning,
     pub control: usize,
     pub contents: usize,
+}
+
+// The number of the message that a field holds, if it holds one.
+pub enum Holds {
+    None,
+    Number(u64),
 }
 
 // The tag of a whole field and the sizes of its control part and of its contents, or that there is none.
@@ -103,6 +110,20 @@ fn part(s: &[u8]) -> Extent
             }
             Extent::Found(tag, start, length as usize)
         }
+    }
+}
+
+// The number of the message that a field of a kind holds.
+pub fn held(kind: Meaning) -> Holds
+    ensures { λ r. ⌜ r ≡ heldIn kind ⌝ }
+{
+    match kind {
+        Meaning::Raw => Holds::None,
+        Meaning::Uint => Holds::None,
+        Meaning::Int => Holds::None,
+        Meaning::String => Holds::None,
+        Meaning::Text => Holds::None,
+        Meaning::Message(m) => Holds::Number(m),
     }
 }
 

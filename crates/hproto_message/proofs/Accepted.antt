@@ -1,5 +1,5 @@
 -- A message is accepted by the reading exactly when it has a good cut, and it has at most one.
-use Prim.Native.Nat.{ℕ, zero, suc, _+_, _≤_, _<_, max}
+use Prim.Native.Nat.{ℕ, zero, suc, _+_, _-_, _≤_, _<_, max}
 use native.Mathlib.Omega.{arith}
 use mathlib.Core.Path.{_≡_, refl, sym, ap, ap₂, _∙_, subst}
 use mathlib.Core.List.{List, [], _∷_, _++_}
@@ -10,7 +10,7 @@ use Rattle.hproto_table.specs.Entry.{Entry}
 use Rattle.hproto_message.specs.declared.Step.{Step}
 use Rattle.hproto_message.specs.declared.Step.the-variants.{Done, Fault, Over, Into}
 use Rattle.hproto_message.specs.Cut.{Cut, end, leaf, nested, joined, depth, WholeField, LeafField, NestedField, Allowed, Good}
-use Rattle.hproto_message.specs.Reading.{step, Reading, accepted, refused, onCut, inOrder, Inner, afterStep, fieldsFrom, messageFrom, reading}
+use Rattle.hproto_message.specs.Reading.{step, Reading, accepted, refused, onCut, inOrder, Inner, afterStep, fieldsFrom, messageFrom, reading, Accepts}
 use Rattle.hproto_message.proofs.Steps.{StepMeans, step-means, step-of-leaf, step-of-nested, step-of-end, split-in-three, in-three}
 
 module _ (es : List Entry) (room n : ℕ) (s : List ℕ) where
@@ -139,3 +139,19 @@ good-cut-unique es room n s cut other g h =
     let p = good-accepted es room n 0 0 s cut g in
     let q = good-accepted es room n 0 0 s other h in
     cc
+
+-- ---- the same, of a message that is accepted
+
+pub accepts-good : (es : List Entry) (levels n : ℕ) (s : List ℕ) → Accepts es levels n s → (cut : Cut) × Good es levels n s cut
+unfolding Accepts
+accepts-good es levels n s a = (a .0, accepted-good es levels n 0 0 s (a .0) (a .1))
+
+pub good-accepts : (es : List Entry) (levels n : ℕ) (s : List ℕ) (cut : Cut) → Good es levels n s cut → Accepts es levels n s
+unfolding Accepts
+good-accepts es levels n s cut g = (cut, good-accepted es levels n 0 0 s cut g)
+
+-- A message that is accepted may be one deep or more.
+pub accepts-levels : (es : List Entry) (levels n : ℕ) (s : List ℕ) → Accepts es levels n s → suc (levels - 1) ≡ levels
+unfolding Accepts messageFrom
+accepts-levels es zero n s a = let e = a .1 in let z : _≡_ {A = ℕ} 0 1 = cc in absurd (omega arith)
+accepts-levels es (suc levels) n s a = omega arith

@@ -1,5 +1,6 @@
 -- Reading a message: its cut, or the first refusal with its place.
 use Prim.Native.Nat.{ℕ, zero, suc, _+_, _-_}
+use mathlib.Core.Path.{_≡_}
 use mathlib.Core.Bool.{cond}
 use mathlib.Core.List.{List}
 use lib.ListN.{length, take, drop}
@@ -75,3 +76,7 @@ messageFrom es (suc levels) n field at s = fieldsFrom es (messageFrom es levels)
 -- The outermost message: its cut, or the first refusal.
 unfoldable pub reading : List Entry → ℕ → List ℕ → Reading
 reading es n s = messageFrom es 8 n 0 0 s
+
+-- A message of a number, at most `levels` messages deep, is accepted.
+unfoldable pub Accepts : List Entry → ℕ → ℕ → List ℕ → Type 0
+Accepts es levels n s = (cut : Cut) × (messageFrom es levels n 0 0 s ≡ accepted cut)

@@ -5,6 +5,10 @@ use mathlib.Core.Path.{_≡_, refl, sym, ap, _∙_}
 use mathlib.Core.List.{List}
 use lib.ListN.{length, take, drop, length-drop}
 use lib.Seq.{take-all}
+use Rattle.hproto_field.specs.Held.{heldIn}
+use Rattle.hproto_message.specs.Reading.{Accepts}
+use Rattle.hproto_message.proofs.Accepted.{accepts-good}
+use Rattle.hproto_field.proofs.HeldKinds.{message-of, plain-of}
 use Rattle.hproto_table.specs.Entry.{Entry}
 use Rattle.hproto_message.specs.Cut.{Cut, Good}
 use Rattle.hproto_message.specs.Tree.{tree}
@@ -12,11 +16,10 @@ use Rattle.hproto_message.proofs.Accepted.{good-accepted}
 use Rattle.hproto_field.specs.Fronts.{front}
 use Rattle.hproto_field.specs.declared.Field.{Field}
 use Rattle.hproto_print.specs.Text.{direct}
-use Rattle.hproto_print.specs.Walk.{Accepts, heldIn, directRead, directOf}
-use Rattle.hproto_print.specs.declared.Inner.{Inner}
-use Rattle.hproto_print.specs.declared.Inner.the-variants.{None, Number}
-use Rattle.hproto_print.proofs.Values.{plain-of, message-of}
-use Rattle.hproto_print.proofs.Passing.{Left, all-left, none-left, ends, leaf-next, nested-next, accepts-good}
+use Rattle.hproto_print.specs.Walk.{directRead, directOf}
+use Rattle.hproto_field.specs.declared.Holds.{Holds}
+use Rattle.hproto_field.specs.declared.Holds.the-variants.{None, Number}
+use Rattle.hproto_print.proofs.Passing.{Left, all-left, none-left, ends, leaf-next, nested-next}
 
 -- The octets that are left, as the code hands them on.
 pub left-octets : (i : ℕ) (s : List ℕ) → take (length s - i) (drop i s) ≡ drop i s
@@ -59,7 +62,7 @@ module _ (es : List Entry) (n : ℕ) (s : List ℕ) where
     unfolding direct
     counted-turn = go (heldIn (f .kind)) refl
       where
-        go : (x : Inner) → heldIn (f .kind) ≡ x → Counted (i + f .control + f .contents) (k + 1)
+        go : (x : Holds) → heldIn (f .kind) ≡ x → Counted (i + f .control + f .contents) (k + 1)
         go None e = let x = leaf-next es 7 n s i (p .left) more f found (plain-of (f .kind) e) in one-more (x .left) (ap direct (x .tree-is))
         go (Number m) e =
             let x = nested-next es 7 n s i (p .left) more f found m (message-of (f .kind) m e) in one-more (x .left) (ap direct (x .tree-is))

@@ -4,6 +4,8 @@ use native.Mathlib.Omega.{arith}
 use mathlib.Core.Path.{_≡_, refl, ap}
 use mathlib.Core.List.{List, [], _∷_}
 use lib.ListN.{length, length-append}
+use Rattle.hproto_message.specs.Reading.{Accepts}
+use Rattle.hproto_message.proofs.Accepted.{accepts-good}
 use Rattle.octets.specs.Number.{number}
 use Rattle.octets.specs.Signed.{integer}
 use Rattle.octets.specs.Control.{control}
@@ -17,9 +19,8 @@ use Rattle.hproto_print.specs.Ascii.{ascii}
 use Rattle.hproto_print.specs.Digits.{decimal, fourDigits, hex, hexOrDash}
 use Rattle.hproto_print.specs.Window.{Room}
 use Rattle.hproto_print.specs.Text.{kindName, valueText, front, line, direct, lines, page, refusal}
-use Rattle.hproto_print.specs.Walk.{Accepts, linesOf}
+use Rattle.hproto_print.specs.Walk.{linesOf}
 use Rattle.hproto_print.proofs.Numbers.{decimal-length, signed-length}
-use Rattle.hproto_print.proofs.Passing.{accepts-good}
 use Rattle.hproto_print.proofs.Writing.{lines-is}
 
 hex-length : (s : List ℕ) → length (hex s) ≡ 2 * length s

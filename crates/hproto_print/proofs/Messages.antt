@@ -7,6 +7,7 @@ use mathlib.Core.List.{List}
 use lib.ListN.{length}
 use lib.Dec.{ltb}
 use borrow.Author.Tests.{eq-eqb, ne-eqb}
+use Rattle.hproto_message.specs.Reading.{Accepts}
 use Rattle.hproto_table.specs.Entry.{entries}
 use Rattle.hproto_table.specs.Valid.{valid}
 use Rattle.hproto_table.specs.declared.Table.{Table}
@@ -19,7 +20,7 @@ use Rattle.hproto_check.specs.Check.{check, checkUnder, counts}
 use Rattle.hproto_check.proofs.Passed.{check-passed}
 use Rattle.hproto_check.specs.declared.Checked.{Checked}
 use Rattle.hproto_print.specs.Text.{page, shown, refusal, readText, messageText}
-use Rattle.hproto_print.specs.Walk.{Accepts, linesRead, linesOf}
+use Rattle.hproto_print.specs.Walk.{linesRead, linesOf}
 
 -- What is printed for a message that was read.
 shown-is : (t : Table) (s : List ℕ) (c : Checked) → c ≡ check t 0 s → c .refusal ≡ 0 → (cut : Cut) → reading (entries t) 0 s ≡ accepted cut

@@ -5,6 +5,7 @@ use mathlib.Core.Path.{_≡_, sym, ap, _∙_, subst}
 use mathlib.Core.List.{List}
 use lib.ListN.{length, take, drop, length-drop}
 use lib.Seq.{drop-drop}
+use Rattle.hproto_message.specs.Reading.{Accepts}
 use Rattle.octets.specs.Control.{control}
 use Rattle.octets.specs.declared.Control.the-variants.{Whole}
 use Rattle.octets.proofs.ControlPart.{control-size}
@@ -18,21 +19,6 @@ use Rattle.hproto_message.proofs.Next.{Plain, next-leaf, next-nested, fronted, 
 use Rattle.hproto_field.specs.Fronts.{front}
 use Rattle.hproto_field.proofs.Fields.{front-whole}
 use Rattle.hproto_field.specs.declared.Field.{Field}
-use Rattle.hproto_print.specs.Walk.{Accepts}
-
-pub accepts-good : (es : List Entry) (room n : ℕ) (s : List ℕ) → Accepts es room n s → (cut : Cut) × Good es room n s cut
-unfolding Accepts
-accepts-good es room n s a = (a .0, accepted-good es room n 0 0 s (a .0) (a .1))
-
-pub good-accepts : (es : List Entry) (room n : ℕ) (s : List ℕ) (cut : Cut) → Good es room n s cut → Accepts es room n s
-unfolding Accepts
-good-accepts es room n s cut g = (cut, good-accepted es room n 0 0 s cut g)
-
--- A message that is accepted may be one deep or more.
-pub accepts-room : (es : List Entry) (room n : ℕ) (s : List ℕ) → Accepts es room n s → suc (room - 1) ≡ room
-unfolding Accepts messageFrom
-accepts-room es zero n s a = let e = a .1 in let z : _≡_ {A = ℕ} 0 1 = cc in absurd (omega arith)
-accepts-room es (suc room) n s a = omega arith
 
 -- A cut that is good with fewer levels is good with more.
 pub good-deeper : (es : List Entry) (room more n : ℕ) (s : List ℕ) (cut : Cut) → room ≤ more → Good es room n s cut → Good es more n s cut

@@ -8,6 +8,7 @@ use lib.ListN.{length}
 use lib.Dec.{leb}
 use lib.IntN.{ℤ}
 use borrow.Author.Tests.{le-leb}
+use Rattle.hproto_field.specs.Held.{heldIn}
 use Rattle.octets.specs.Number.{number, unsigned}
 use Rattle.octets.specs.Signed.{integer, signed}
 use Rattle.octets.specs.declared.Unsigned.the-variants.{Value as UValue, Long as ULong}
@@ -18,8 +19,8 @@ use Rattle.hproto_message.specs.Cut.{Contents}
 use Rattle.hproto_message.specs.Tree.{value}
 use Rattle.hproto_message.proofs.Next.{Plain}
 use Rattle.hproto_print.specs.Text.{kindName}
-use Rattle.hproto_print.specs.Walk.{heldIn, meaningName}
-use Rattle.hproto_print.specs.declared.Inner.the-variants.{None, Number}
+use Rattle.hproto_print.specs.Walk.{meaningName}
+use Rattle.hproto_field.specs.declared.Holds.the-variants.{None, Number}
 
 pub unsigned-value : (s : List ℕ) (v : ℕ) → unsigned s ≡ UValue v → v ≡ number s
 unfolding unsigned
@@ -54,22 +55,3 @@ name-is Int s h = refl
 name-is String s h = refl
 name-is Text s h = refl
 name-is (Message m) s h = absurd h
-
--- A kind that holds no message is plain, one that holds one is that message's.
-pub plain-of : (k : Meaning) → heldIn k ≡ None → Plain k
-unfolding heldIn Plain
-plain-of Raw e = tt
-plain-of Uint e = tt
-plain-of Int e = tt
-plain-of String e = tt
-plain-of Text e = tt
-plain-of (Message m) e = let z : _≡_ {A = ℕ} 0 1 = cc in absurd (omega arith)
-
-pub message-of : (k : Meaning) (m : ℕ) → heldIn k ≡ Number m → k ≡ Message m
-unfolding heldIn
-message-of Raw m e = let z : _≡_ {A = ℕ} 0 1 = cc in absurd (omega arith)
-message-of Uint m e = let z : _≡_ {A = ℕ} 0 1 = cc in absurd (omega arith)
-message-of Int m e = let z : _≡_ {A = ℕ} 0 1 = cc in absurd (omega arith)
-message-of String m e = let z : _≡_ {A = ℕ} 0 1 = cc in absurd (omega arith)
-message-of Text m e = let z : _≡_ {A = ℕ} 0 1 = cc in absurd (omega arith)
-message-of (Message k) m e = ap Message (cc)

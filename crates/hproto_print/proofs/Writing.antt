@@ -4,6 +4,8 @@ use native.Mathlib.Omega.{arith}
 use mathlib.Core.Path.{_≡_, sym, ap, _∙_, subst}
 use mathlib.Core.List.{List, [], _++_, append-assoc, append-nil}
 use lib.ListN.{length, drop, length-append}
+use Rattle.hproto_message.specs.Reading.{Accepts}
+use Rattle.hproto_message.proofs.Accepted.{accepts-good, accepts-levels, good-accepts}
 use Rattle.hproto_table.specs.Entry.{Entry}
 use Rattle.hproto_table.specs.declared.Meaning.the-variants.{Message}
 use Rattle.hproto_message.specs.Cut.{Cut, Contents, Good}
@@ -16,9 +18,9 @@ use Rattle.hproto_print.specs.Ascii.{ascii}
 use Rattle.hproto_print.specs.Digits.{decimal}
 use Rattle.hproto_print.specs.Window.{Printed, Room}
 use Rattle.hproto_print.specs.Text.{kindName, valueText, line, lines}
-use Rattle.hproto_print.specs.Walk.{Accepts, linesRead, linesOf, directOf}
+use Rattle.hproto_print.specs.Walk.{linesRead, linesOf, directOf}
 use Rattle.hproto_print.proofs.Windows.{then, printed-nothing, printed-length, same-place, fits-after}
-use Rattle.hproto_print.proofs.Passing.{Left, all-left, none-left, part, ends, leaf-next, nested-next, accepts-good, accepts-room, good-accepts, good-deeper}
+use Rattle.hproto_print.proofs.Passing.{Left, all-left, none-left, part, ends, leaf-next, nested-next, good-deeper}
 use Rattle.hproto_print.proofs.Counting.{direct-is}
 
 pub lines-is : (es : List Entry) (levels n : ℕ) (s : List ℕ) (cut : Cut) → Good es levels n s cut → linesOf es levels n s ≡ lines (9 - levels) (tree es n cut)
@@ -42,7 +44,7 @@ module _ (es : List Entry) (levels n : ℕ) (s before : List ℕ) (from at : ℕ
   pub begun : Accepts es levels n s → Progress 0 at before
   begun a =
       let g = accepts-good es levels n s a in
-      let r = accepts-room es levels n s a in
+      let r = accepts-levels es levels n s a in
       record {
         left = all-left es (levels - 1) n s (g .0) (subst (λ (r : ℕ). Good es r n s (g .0)) (sym r) (g .1));
         written = [];

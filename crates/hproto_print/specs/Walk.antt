@@ -11,21 +11,6 @@ use Rattle.hproto_message.specs.Tree.{tree}
 use Rattle.hproto_message.specs.Reading.{Reading, accepted, refused, messageFrom}
 use Rattle.hproto_print.specs.Ascii.{ascii}
 use Rattle.hproto_print.specs.Text.{direct, lines}
-use Rattle.hproto_print.specs.declared.Inner.{Inner}
-use Rattle.hproto_print.specs.declared.Inner.the-variants.{None, Number}
-
--- The message is accepted.
-unfoldable pub Accepts : List Entry → ℕ → ℕ → List ℕ → Type 0
-Accepts es levels n s = (cut : Cut) × (messageFrom es levels n 0 0 s ≡ accepted cut)
-
--- The number of the message that a field of a kind holds, if it holds one.
-unfoldable pub heldIn : Meaning → Inner
-heldIn Raw = None
-heldIn Uint = None
-heldIn Int = None
-heldIn String = None
-heldIn Text = None
-heldIn (Message m) = Number m
 
 -- The name of what a tag means.
 unfoldable pub meaningName : Meaning → List ℕ

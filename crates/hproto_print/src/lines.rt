@@ -1,7 +1,7 @@
 // The lines of a message that was checked before. Like those of `print`, each function that puts text puts a piece at `at` and answers
 // the place after it.
-use crate::Inner;
 use crate::print;
+use hproto_field::Holds;
 use hproto_table::Meaning;
 use octets::Signed;
 use octets::Unsigned;
@@ -13,25 +13,13 @@ ghost use Rattle.octets.specs.Number.{number as number-of};
 ghost use Rattle.octets.specs.Signed.{integer};
 ghost use Rattle.hproto_table.specs.Entry.{entry};
 ghost use Rattle.hproto_message.specs.Cut.{Contents};
+ghost use Rattle.hproto_message.specs.Reading.{Accepts};
 ghost use Rattle.hproto_message.specs.Tree.{value as value-of};
 ghost use Rattle.hproto_print.specs.Ascii.{ascii};
 ghost use Rattle.hproto_print.specs.Digits.{decimal, signedDecimal};
 ghost use Rattle.hproto_print.specs.Window.{Room, Printed};
 ghost use Rattle.hproto_print.specs.Text.{kindName, valueText, front as front-of, line};
-ghost use Rattle.hproto_print.specs.Walk.{Accepts, heldIn, meaningName, directOf, linesOf};
-
-fn held(kind: Meaning) -> Inner
-    ensures { λ r. ⌜ r ≡ heldIn kind ⌝ }
-{
-    match kind {
-        Meaning::Raw => Inner::None,
-        Meaning::Uint => Inner::None,
-        Meaning::Int => Inner::None,
-        Meaning::String => Inner::None,
-        Meaning::Text => Inner::None,
-        Meaning::Message(m) => Inner::Number(m),
-    }
-}
+ghost use Rattle.hproto_print.specs.Walk.{meaningName, directOf, linesOf};
 
 fn kind_name(out: &mut [u8], from: u64, at: u64, kind: Meaning) -> u64
     requires { ⌜ Room at (meaningName kind) ⌝ }
@@ -181,12 +169,12 @@ pub(crate) fn write(
         let e = a + f.contents;
         let depth = 9 - levels;
         let tag = f.tag;
-        match held(kind) {
-            Inner::None => {
+        match hproto_field::held(kind) {
+            Holds::None => {
                 end = leaf_line(out, from, end, depth, tag, kind, &s[a..e]);
                 i = e;
             }
-            Inner::Number(m) => {
+            Holds::Number(m) => {
                 let b = message_line(words, count, m, &s[a..e], out, from, end, depth, tag);
                 end = write(words, count, m, levels - 1, &s[a..e], out, from, b);
                 i = e;

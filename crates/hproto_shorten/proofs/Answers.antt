@@ -8,6 +8,7 @@ use lib.ListN.{length}
 use lib.Seq.{sets}
 use lib.Dec.{ltb, leb, eqb}
 use borrow.Author.Tests.{ltb-false, le-leb, lt-leb, eq-eqb, ne-eqb}
+use Rattle.hproto_message.specs.Reading.{Accepts}
 use Rattle.hproto_table.specs.Entry.{Entry, entries}
 use Rattle.hproto_table.specs.Valid.{valid}
 use Rattle.hproto_table.specs.declared.Table.{Table}
@@ -19,7 +20,7 @@ use Rattle.hproto_check.specs.declared.Checked.{Checked}
 use Rattle.hproto_check.proofs.Counts.{under-valid}
 use Rattle.hproto_put.specs.Store.{stored}
 use Rattle.hproto_put.proofs.Stores.{stored-fits}
-use Rattle.hproto_shorten.specs.Written.{short, shortestOf, Accepts}
+use Rattle.hproto_shorten.specs.Written.{short, shortestOf}
 use Rattle.hproto_shorten.specs.Shorten.{refusal, shortUnder, shortForm, roomy, answerTo, bufferTo, answer, buffer, answerUnder, bufferUnder}
 use Rattle.hproto_shorten.specs.declared.Shortened.{Shortened}
 use Rattle.hproto_check.proofs.Passed.{under-passed}

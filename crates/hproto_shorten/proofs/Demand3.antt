@@ -6,6 +6,8 @@ use mathlib.Core.Bool.{true}
 use mathlib.Core.List.{List, _++_}
 use mathlib.Core.Logic.{_↔_}
 use lib.ListN.{length, drop}
+use Rattle.hproto_message.specs.Reading.{Accepts}
+use Rattle.hproto_message.proofs.Accepted.{accepts-good}
 use Rattle.hproto_put.specs.Store.{stored}
 use Rattle.hproto_put.proofs.Stores.{stored-parts}
 use Rattle.octets.specs.Number.{Octets}
@@ -25,10 +27,9 @@ use Rattle.hproto_check.specs.Check.{check, counts}
 use Rattle.hproto_check.proofs.Counts.{read-through}
 use Rattle.hproto_shorten.specs.Shorten.{shortForm, answer, buffer}
 use Rattle.hproto_shorten.specs.Demand3.{HasCut, ReadTheSame, Demand3, Demand3Holds}
-use Rattle.hproto_shorten.proofs.Passing.{accepts-good, short-is}
+use Rattle.hproto_shorten.proofs.Passing.{short-is}
 use Rattle.hproto_shorten.proofs.Answers.{short-form, no-room, shortened}
 use Rattle.hproto_check.proofs.Passed.{check-passed}
-use Rattle.hproto_shorten.specs.Written.{Accepts}
 
 module _ (t : Table) (n : ℕ) (v : valid t ≡ true) (k : n ≤ 15) where
   cut-accepted : (s : List ℕ) → length s ≤ 65536 → HasCut t n s → check t n s .refusal ≡ 0

@@ -5,6 +5,8 @@ use mathlib.Core.Path.{_≡_, refl, sym, ap, _∙_, subst}
 use mathlib.Core.List.{List, [], _++_}
 use lib.ListN.{length, drop, length-append}
 use lib.IntN.{ℤ, pos, negsuc}
+use Rattle.hproto_message.specs.Reading.{Accepts}
+use Rattle.hproto_message.proofs.Accepted.{accepts-good}
 use Rattle.octets.specs.Number.{Octets, number}
 use Rattle.octets.specs.Signed.{integer, signedWidth}
 use Rattle.octets.specs.Control.{leastControl, controlWidths}
@@ -20,8 +22,8 @@ use Rattle.hproto_message.proofs.Shortened.{shortest-no-longer}
 use Rattle.hproto_field.specs.Fronts.{front}
 use Rattle.hproto_field.specs.declared.Field.{Field}
 use Rattle.hproto_put.proofs.Least.{leastControl-size, leastControl-widths}
-use Rattle.hproto_shorten.specs.Written.{short, Accepts}
-use Rattle.hproto_shorten.proofs.Passing.{Passed, nothing-passed, all-passed, passed-length, part, ends, leaf-passed, nested-passed, short-is, accepts-good}
+use Rattle.hproto_shorten.specs.Written.{short}
+use Rattle.hproto_shorten.proofs.Passing.{Passed, nothing-passed, all-passed, passed-length, part, ends, leaf-passed, nested-passed, short-is}
 use Rattle.hproto_shorten.proofs.Puts.{field-length}
 
 signedWidth-bound : (z : ℤ) → signedWidth z ≤ 8

@@ -6,6 +6,8 @@ use mathlib.Core.Path.{_≡_, refl, sym, ap, ap₂, _∙_, subst}
 use mathlib.Core.List.{List, [], _∷_, _++_, append-assoc, append-nil}
 use lib.ListN.{length, take, drop, getD, length-append, length-drop, take-append-drop}
 use lib.Seq.{drop-drop, length-take-le}
+use Rattle.hproto_field.specs.Held.{heldIn}
+use Rattle.hproto_message.specs.Reading.{Accepts}
 use Rattle.octets.specs.Number.{Octets}
 use Rattle.octets.proofs.Number.{octets-before, octets-after}
 use Rattle.octets.proofs.ControlPart.{control-size, control-take, control-bounds}
@@ -20,14 +22,14 @@ use Rattle.hproto_message.specs.Tree as trees
 use Rattle.hproto_message.specs.Tree.{Tree, value, tree}
 use Rattle.hproto_message.specs.Reading.{Reading, accepted, messageFrom}
 use Rattle.hproto_message.specs.Shortest.{leastContents, field, shortest}
-use Rattle.hproto_message.proofs.Accepted.{accepted-good, good-accepted, depth-positive}
+use Rattle.hproto_message.proofs.Accepted.{accepted-good, good-accepted, depth-positive, accepts-good, good-accepts}
 use Rattle.hproto_message.proofs.Next.{NextLeaf, NextNested, Plain, next-leaf, next-nested, Fronted, fronted, nothing-left}
 use Rattle.hproto_field.specs.Fronts.{front}
 use Rattle.hproto_field.proofs.Fields.{front-whole}
 use Rattle.hproto_field.specs.declared.Field.{Field}
-use Rattle.hproto_shorten.specs.Written.{shortestOf, short, Accepts, heldIn}
-use Rattle.hproto_shorten.specs.declared.Inner.{Inner}
-use Rattle.hproto_shorten.specs.declared.Inner.the-variants.{None, Number}
+use Rattle.hproto_shorten.specs.Written.{shortestOf, short}
+use Rattle.hproto_field.specs.declared.Holds.{Holds}
+use Rattle.hproto_field.specs.declared.Holds.the-variants.{None, Number}
 
 octets-take : (n : ℕ) (s : List ℕ) → Octets s → Octets (take n s)
 octets-take n s o = octets-before (take n s) (drop n s) (subst Octets (sym (take-append-drop n s)) o)
@@ -45,37 +47,10 @@ unfolding Octets
 octets-each [] h = tt
 octets-each (x ∷ s) h = (h 0, octets-each s (λ i. h (suc i)))
 
--- A kind that holds no message is plain, one that holds one is that message's.
-pub plain-of : (k : Meaning) → heldIn k ≡ None → Plain k
-unfolding heldIn Plain
-plain-of Raw e = tt
-plain-of Uint e = tt
-plain-of Int e = tt
-plain-of String e = tt
-plain-of Text e = tt
-plain-of (Message m) e = let z : _≡_ {A = ℕ} 0 1 = cc in absurd (omega arith)
-
-pub message-of : (k : Meaning) (m : ℕ) → heldIn k ≡ Number m → k ≡ Message m
-unfolding heldIn
-message-of Raw m e = let z : _≡_ {A = ℕ} 0 1 = cc in absurd (omega arith)
-message-of Uint m e = let z : _≡_ {A = ℕ} 0 1 = cc in absurd (omega arith)
-message-of Int m e = let z : _≡_ {A = ℕ} 0 1 = cc in absurd (omega arith)
-message-of String m e = let z : _≡_ {A = ℕ} 0 1 = cc in absurd (omega arith)
-message-of Text m e = let z : _≡_ {A = ℕ} 0 1 = cc in absurd (omega arith)
-message-of (Message k) m e = ap Message (cc)
-
 -- The cut of an accepted message, and its shortest form.
 pub short-is : (es : List Entry) (levels n : ℕ) (s : List ℕ) (cut : Cut) → Good es levels n s cut → short es levels n s ≡ shortest (tree es n cut)
 unfolding short shortestOf
 short-is es levels n s cut g = rw (good-accepted es levels n 0 0 s cut g)
-
-pub accepts-good : (es : List Entry) (levels n : ℕ) (s : List ℕ) → Accepts es levels n s → (cut : Cut) × Good es levels n s cut
-unfolding Accepts
-accepts-good es levels n s a = (a .0, accepted-good es levels n 0 0 s (a .0) (a .1))
-
-pub good-accepts : (es : List Entry) (levels n : ℕ) (s : List ℕ) (cut : Cut) → Good es levels n s cut → Accepts es levels n s
-unfolding Accepts
-good-accepts es levels n s cut g = (cut, good-accepted es levels n 0 0 s cut g)
 
 module _ (es : List Entry) (levels n : ℕ) (s : List ℕ) where
   -- After i octets, `written` is the shortest form of the fields passed.

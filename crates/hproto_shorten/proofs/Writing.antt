@@ -4,6 +4,7 @@ use native.Mathlib.Omega.{arith}
 use mathlib.Core.Path.{_≡_, refl, sym, ap, ap₂, _∙_, subst}
 use mathlib.Core.List.{List, [], _++_}
 use lib.ListN.{length, take, drop, length-append}
+use Rattle.hproto_message.specs.Reading.{Accepts}
 use Rattle.octets.specs.Number.{Octets}
 use Rattle.octets.specs.Control.{leastControl}
 use Rattle.hproto_table.specs.Entry.{Entry}
@@ -17,16 +18,10 @@ use Rattle.hproto_field.specs.Fronts.{front}
 use Rattle.hproto_field.specs.declared.Field.{Field}
 use Rattle.hproto_put.specs.Store.{stored, moved}
 use Rattle.hproto_put.proofs.Stores.{stored-nothing, stored-after, length-stored}
-use Rattle.hproto_shorten.specs.Written.{short, Accepts, Put}
+use Rattle.hproto_shorten.specs.Written.{short, Put}
 use Rattle.hproto_shorten.proofs.Passing.{Passed, nothing-passed, all-passed, passed-length, part, ends, leaf-passed, nested-passed}
 use Rattle.hproto_shorten.proofs.Puts.{field-length, control-some}
 use Rattle.hproto_shorten.proofs.Behind.{stored-behind}
-
--- A message that is accepted may be one deep or more.
-pub accepts-levels : (es : List Entry) (levels n : ℕ) (s : List ℕ) → Accepts es levels n s → suc (levels - 1) ≡ levels
-unfolding Accepts messageFrom
-accepts-levels es zero n s a = let e = a .1 in let z : _≡_ {A = ℕ} 0 1 = cc in absurd (omega arith)
-accepts-levels es (suc levels) n s a = omega arith
 
 module _ (es : List Entry) (levels n : ℕ) (s before : List ℕ) (to : ℕ) where
   -- After i octets the buffer holds what has been passed, from `to` up to `end`.

@@ -5,14 +5,9 @@ use mathlib.Core.List.{List, []}
 use lib.ListN.{length}
 use Rattle.hproto_put.specs.Store.{stored}
 use Rattle.hproto_table.specs.Entry.{Entry}
-use Rattle.hproto_table.specs.declared.Meaning.{Meaning}
-use Rattle.hproto_table.specs.declared.Meaning.the-variants.{Raw, Uint, Int, String, Text, Message}
-use Rattle.hproto_message.specs.Cut.{Cut}
 use Rattle.hproto_message.specs.Tree.{tree}
 use Rattle.hproto_message.specs.Reading.{Reading, accepted, refused, messageFrom}
 use Rattle.hproto_message.specs.Shortest.{shortest}
-use Rattle.hproto_shorten.specs.declared.Inner.{Inner}
-use Rattle.hproto_shorten.specs.declared.Inner.the-variants.{None, Number}
 
 -- The shortest form of the tree that a reading gives; nothing for a refusal.
 unfoldable pub shortestOf : List Entry → ℕ → Reading → List ℕ
@@ -22,19 +17,6 @@ shortestOf es n (refused number place) = []
 -- The shortest form of a message of a number, at most `levels` messages deep.
 unfoldable pub short : List Entry → ℕ → ℕ → List ℕ → List ℕ
 short es levels n s = shortestOf es n (messageFrom es levels n 0 0 s)
-
--- The message is accepted.
-unfoldable pub Accepts : List Entry → ℕ → ℕ → List ℕ → Type 0
-Accepts es levels n s = (cut : Cut) × (messageFrom es levels n 0 0 s ≡ accepted cut)
-
--- The number of the message that a field of a kind holds, if it holds one.
-unfoldable pub heldIn : Meaning → Inner
-heldIn Raw = None
-heldIn Uint = None
-heldIn Int = None
-heldIn String = None
-heldIn Text = None
-heldIn (Message m) = Number m
 
 -- A store of octets from a place on: the place after them, and the buffer afterwards.
 pub record Put (before : List ℕ) (to : ℕ) (octets : List ℕ) (end : ℕ) (after : List ℕ) : Type 0 where

@@ -1,5 +1,6 @@
 // The shortener: writes the shortest octets that read the same as a message.
 use hproto_field::Field;
+use hproto_field::Holds;
 use hproto_table::Meaning;
 use hproto_table::Table;
 use octets::Least;
@@ -15,36 +16,18 @@ ghost use Rattle.hproto_put.specs.Store.{stored, moved};
 ghost use Rattle.hproto_index.specs.Slots.{listed};
 ghost use Rattle.hproto_field.specs.Fronts.{front as front-of};
 ghost use Rattle.hproto_message.specs.Cut.{Contents};
+ghost use Rattle.hproto_message.specs.Reading.{Accepts};
 ghost use Rattle.hproto_message.specs.Tree.{value};
 ghost use Rattle.hproto_message.specs.Shortest.{field, leastContents};
 ghost use lib.Dec.{leb};
 ghost use Rattle.hproto_shorten.specs.Shorten.{answer, buffer, answerUnder, bufferUnder, refusal};
-ghost use Rattle.hproto_shorten.specs.Written.{short, Accepts, heldIn, Put};
-
-// The number of the message that a field holds, if it holds one.
-enum Inner {
-    None,
-    Number(u64),
-}
+ghost use Rattle.hproto_shorten.specs.Written.{short, Put};
 
 // The shortener's answer: a refusal number (0 where the message was shortened), the place of the fault, and the length written.
 pub struct Shortened {
     pub refusal: u64,
     pub place: u64,
     pub length: u64,
-}
-
-fn held(kind: Meaning) -> Inner
-    ensures { λ r. ⌜ r ≡ heldIn kind ⌝ }
-{
-    match kind {
-        Meaning::Raw => Inner::None,
-        Meaning::Uint => Inner::None,
-        Meaning::Int => Inner::None,
-        Meaning::String => Inner::None,
-        Meaning::Text => Inner::None,
-        Meaning::Message(m) => Inner::Number(m),
-    }
 }
 
 // The octets of a number. Most numbers take one.
@@ -203,12 +186,12 @@ fn write(
         let e = a + f.contents;
         // The tag of a field is below 65,536.
         let tag = (f.tag % 65536) as u16;
-        match held(kind) {
-            Inner::None => {
+        match hproto_field::held(kind) {
+            Holds::None => {
                 end = put_value(kind, tag, &s[a..e], out, end);
                 i = e;
             }
-            Inner::Number(m) => {
+            Holds::Number(m) => {
                 let after = write(slots, words, m, levels - 1, &s[a..e], out, end + 1);
                 end = wrap(tag, out, end, after - (end + 1));
                 i = e;
@@ -278,12 +261,12 @@ fn measure(slots: &[u16; 256], words: &[u64], number: u64, levels: u64, s: &[u8]
         let a = i + f.control;
         let e = a + f.contents;
         let tag = (f.tag % 65536) as u16;
-        match held(kind) {
-            Inner::None => {
+        match hproto_field::held(kind) {
+            Holds::None => {
                 size = size + value_size(kind, tag, &s[a..e]);
                 i = e;
             }
-            Inner::Number(m) => {
+            Holds::Number(m) => {
                 let n = measure(slots, words, m, levels - 1, &s[a..e]);
                 size = size + (hproto_put::control_size(tag, n as u64) + n);
                 i = e;

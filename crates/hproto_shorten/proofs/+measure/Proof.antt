@@ -6,13 +6,15 @@ use mathlib.Core.List.{List}
 use denote.Ref.{now}
 use lib.ListN.{length, take, drop, length-drop, length-take}
 use lib.Seq.{take-all}
+use Rattle.hproto_message.specs.Reading.{Accepts}
+use Rattle.hproto_message.proofs.Accepted.{accepts-levels}
+use Rattle.hproto_field.proofs.HeldKinds.{message-of, plain-of}
 use Rattle.octets.specs.Number.{Octets}
 use Rattle.hproto_table.specs.Entry.{Entry}
 use Rattle.hproto_index.specs.Slots.{listed}
 use Rattle.hproto_field.specs.Fronts.{front}
-use Rattle.hproto_shorten.specs.Written.{short, Accepts}
-use Rattle.hproto_shorten.proofs.Passing.{plain-of, message-of, octets-part, leaf-contents}
-use Rattle.hproto_shorten.proofs.Writing.{accepts-levels}
+use Rattle.hproto_shorten.specs.Written.{short}
+use Rattle.hproto_shorten.proofs.Passing.{octets-part, leaf-contents}
 use Rattle.hproto_shorten.proofs.Measuring.{Counted, counted-none, counted-all, counted-few, short-few, control-few, next-onward, leaf-counted, nested-accepts, nested-counted}
 use borrow.Fn.Kinds.{In}
 use borrow.Fn.PlainCycle.{Measures, is, falls, and}
@@ -21,7 +23,7 @@ use Rattle.hproto_shorten.proofs.measure.Kinds as measure-kinds
 use Rattle.hproto_shorten.proofs.+measure.Lts-measure as measure-lts
 use Rattle.hproto_field.proofs.field_in.Reads as field-in-reads
 use Rattle.hproto_put.proofs.control_size.Reads as control-size-reads
-use Rattle.hproto_shorten.proofs.held.Reads as held-reads
+use Rattle.hproto_field.proofs.held.Reads as held-reads
 use Rattle.hproto_shorten.proofs.value_size.Reads as value-size-reads
 use Rattle.hproto_shorten.proofs.+measure.{statement}
 use Rattle.hproto_shorten.proofs.+measure.Tie.{close}

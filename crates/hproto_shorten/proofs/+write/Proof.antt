@@ -6,20 +6,23 @@ use mathlib.Core.List.{List}
 use denote.Ref.{now}
 use lib.ListN.{length, take, drop, length-drop}
 use lib.Seq.{take-all}
+use Rattle.hproto_message.specs.Reading.{Accepts}
+use Rattle.hproto_message.proofs.Accepted.{accepts-levels}
+use Rattle.hproto_field.proofs.HeldKinds.{message-of, plain-of}
 use Rattle.octets.specs.Number.{Octets}
 use Rattle.hproto_table.specs.Entry.{Entry}
 use Rattle.hproto_index.specs.Slots.{listed}
 use Rattle.hproto_field.specs.Fronts.{front}
-use Rattle.hproto_shorten.specs.Written.{short, Accepts, Put}
-use Rattle.hproto_shorten.proofs.Passing.{plain-of, message-of, octets-part, leaf-contents}
-use Rattle.hproto_shorten.proofs.Writing.{Progress, begun, ended, same-length, accepts-levels, next-onward, leaf-fits, leaf-written, nested-accepts, nested-fits, inner-after, wrap-fits, nested-written}
+use Rattle.hproto_shorten.specs.Written.{short, Put}
+use Rattle.hproto_shorten.proofs.Passing.{octets-part, leaf-contents}
+use Rattle.hproto_shorten.proofs.Writing.{Progress, begun, ended, same-length, next-onward, leaf-fits, leaf-written, nested-accepts, nested-fits, inner-after, wrap-fits, nested-written}
 use borrow.Fn.Kinds.{In}
 use borrow.Fn.PlainCycle.{Measures, is, falls, and}
 use Rattle.hproto_shorten.proofs.write.Reads as write
 use Rattle.hproto_shorten.proofs.write.Kinds as write-kinds
 use Rattle.hproto_shorten.proofs.+write.Lts-write as write-lts
 use Rattle.hproto_shorten.proofs.next_field.Reads as next-field-reads
-use Rattle.hproto_shorten.proofs.held.Reads as held-reads
+use Rattle.hproto_field.proofs.held.Reads as held-reads
 use Rattle.hproto_shorten.proofs.put_value.Reads as put-value-reads
 use Rattle.hproto_shorten.proofs.wrap.Reads as wrap-reads
 use Rattle.hproto_shorten.proofs.+write.{statement}

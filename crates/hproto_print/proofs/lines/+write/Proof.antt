@@ -6,9 +6,9 @@ use mathlib.Core.Path.{_≡_, sym, _∙_}
 use mathlib.Core.List.{List, map}
 use denote.Ref.{now}
 use lib.ListN.{length, take, drop}
+use Rattle.hproto_field.proofs.HeldKinds.{message-of, plain-of}
 use Rattle.hproto_table.specs.Entry.{Entry, entry}
 use Rattle.hproto_field.specs.Fronts.{front}
-use Rattle.hproto_print.proofs.Values.{plain-of, message-of}
 use Rattle.hproto_print.proofs.Counting.{left-octets}
 use Rattle.hproto_print.proofs.Writing.{Progress, begun, ended, same-length, next-ends, leaf-contents, leaf-fits, leaf-written, nested-accepts, message-fits, inner-fits, nested-written}
 use borrow.Fn.Kinds.{In}
@@ -17,7 +17,7 @@ use Rattle.hproto_print.proofs.lines.write.Reads as write
 use Rattle.hproto_print.proofs.lines.write.Kinds as write-kinds
 use Rattle.hproto_print.proofs.lines.+write.Lts-write as write-lts
 use Rattle.hproto_field.proofs.field_at.Reads as field-at-reads
-use Rattle.hproto_print.proofs.lines.held.Reads as held-reads
+use Rattle.hproto_field.proofs.held.Reads as held-reads
 use Rattle.hproto_print.proofs.lines.leaf_line.Reads as leaf-line-reads
 use Rattle.hproto_print.proofs.lines.message_line.Reads as message-line-reads
 use Rattle.hproto_print.proofs.lines.+write.{statement}

@@ -1,8 +1,10 @@
--- `hproto_print::lines::held` meets its contract.
+-- `held` answers for each kind.
 use borrow.Author.Needs.{needs}
-use Rattle.hproto_print.specs.Walk.{heldIn}
-use Rattle.hproto_print.proofs.lines.held.Statement.{statement}
-use Rattle.hproto_print.proofs.lines.held.Tie as tie
+use Rattle.hproto_field.specs.Held.{heldIn}
+use Rattle.hproto_field.proofs.held.Statement.{statement}
+use Rattle.hproto_field.proofs.held.Tie as tie
+use Rattle.hproto_field.proofs.held.Reads as reads
+use Rattle.hproto_field.proofs.held.Lts as lts
 
 enum-told : tie.Need-enum-told
 enum-told c = search needs
