@@ -156,8 +156,8 @@ fn zero_of_sixteen(s: &[u8], at: usize) -> bool
     z
 }
 
-// Whether a zero stands from the place 1 to n where none stands before a place, sixteen octets at once. The last sixteen end at n, and may have
-// been read in part.
+// Whether a zero stands from the place 1 to n where none stands before a place, sixteen octets at once. The last sixteen end at n, and
+// may have been read in part.
 fn zero_from(s: &[u8], from: usize, n: usize) -> bool
     requires { ⌜ (n ≤ length (now s)) × Far (now s) from n ⌝ }
     ensures { λ r. ⌜ ZeroIn r (now (s .entry)) 1 n n ⌝ }

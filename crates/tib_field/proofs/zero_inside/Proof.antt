@@ -1,6 +1,5 @@
 -- `tib_field::zero_inside` meets its contract.
 use borrow.Author.Needs.{needs}
-use native.Mathlib.Omega.{arith}
 use Rattle.tib_field.proofs.Zeros.{same-size, near-zero, near-none, near-all, far-start}
 use Rattle.tib_field.proofs.zero_inside.Statement.{statement}
 use Rattle.tib_field.proofs.zero_inside.Tie as tie
