@@ -10,11 +10,35 @@ ghost use Rattle.octets.specs.Signed.{intWidthBits, lowest};
 ghost use Rattle.octets.specs.Control.{controlWidths, tagCode, lengthCode};
 ghost use Rattle.octets_least.specs.Lead.{LeastLead};
 
-// How many octets a number needs: its binary digits, in eights, rounded up.
+// How many octets a number needs.
 fn width(v: u64) -> u64
     ensures { λ r. ⌜ r ≡ width-of v ⌝ }
 {
-    (71 - (u64::leading_zeros(v) as u64)) / 8
+    if v < 1 {
+        return 0;
+    }
+    if v < 0x100 {
+        return 1;
+    }
+    if v < 0x1_0000 {
+        return 2;
+    }
+    if v < 0x100_0000 {
+        return 3;
+    }
+    if v < 0x1_0000_0000 {
+        return 4;
+    }
+    if v < 0x100_0000_0000 {
+        return 5;
+    }
+    if v < 0x1_0000_0000_0000 {
+        return 6;
+    }
+    if v < 0x100_0000_0000_0000 {
+        return 7;
+    }
+    8
 }
 
 // The least octets of an unsigned number.
