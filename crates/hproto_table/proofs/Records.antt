@@ -44,11 +44,6 @@ pub loaded-entries : (ws : List ℕ) → entries (tableOf ws) ≡ map entry ws
 unfolding entries tableOf
 loaded-entries ws = ap (map entry) (take-at ws (replicate (64 - length ws) 0) (length ws) refl)
 
--- The entries of the table that holds words are those in the words, in their order.
-pub loaded-entries : (ws : List ℕ) → entries (tableOf ws) ≡ map entry ws
-unfolding entries tableOf
-loaded-entries ws = ap (map entry) (take-at ws (replicate (64 - length ws) 0) (length ws) refl)
-
 -- A sound record is the record of its word.
 sound-record : (r : List ℕ) → Octets r → sound r ≡ true → r ≡ recordFor (number (drop 3 r))
 unfolding sound recordFor Octets number
