@@ -1,4 +1,4 @@
--- What a reading comes to, with the counts of its cut.
+-- What the private function `nested` answers: what a reading comes to, with the counts of its cut.
 use Prim.Native.Nat.{ℕ, suc, _+_, max}
 use Rattle.hproto_message.specs.Cut.{Cut, end, leaf, nested, depth}
 use Rattle.hproto_message.specs.Reading.{Reading, accepted, refused}

@@ -1,4 +1,4 @@
--- What the first pass of the loader gives: the records up to the first that is not of the right form.
+-- What `record_at` and the private function `records` answer: a record's word; the records up to the first that is not of the right form.
 use Prim.Native.Nat.{ℕ, _*_, _-_, _≤_, _<_}
 use mathlib.Core.Path.{_≡_}
 use mathlib.Core.Bool.{true, cond}

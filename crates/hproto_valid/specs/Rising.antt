@@ -1,4 +1,4 @@
--- Words that are valid as they stand, one after the other, with no search for a repeat.
+-- What the private function `rises_in_range` answers: words that are valid as they stand, one after the other, with no search for a repeat.
 use Prim.Native.Nat.{ℕ, suc}
 use mathlib.Core.Bool.{Bool, true, _&&_}
 use mathlib.Core.List.{List, [], _∷_}

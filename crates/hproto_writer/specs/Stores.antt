@@ -1,4 +1,4 @@
--- A store just before a place.
+-- What the private functions `store_number` and `store_plain` do: a store just before a place.
 use Prim.Native.Nat.{ℕ, _-_}
 use mathlib.Core.Path.{_≡_}
 use mathlib.Core.List.{List}

@@ -12,13 +12,13 @@ ghost use Rattle.tib_msg.specs.Answers.{check as check-of, hintNumber, r
 ghost use Rattle.tib_msg.specs.Found.{walkOf, kthOf, IsAccepted};
 
 // What a message comes to: the count of its fields, or a refusal.
-pub enum Walk {
+enum Walk {
     Accepted(u64),
     Refused { number: u64, place: u64 },
 }
 
 // A field of a message by its place, or that there is none.
-pub enum Kth {
+enum Kth {
     At { place: usize, sizes: Sizes },
     Absent,
 }

@@ -23,7 +23,7 @@ pub enum Step {
 }
 
 // The hint of a field: it is refused with a number, or takes this many octets.
-pub enum HintPart {
+enum HintPart {
     Fault(u64),
     Size(usize),
 }

@@ -11,19 +11,19 @@ ghost use Rattle.tib_rv.specs.Answers.{check as check-of, field as field
 ghost use Rattle.tib_rv.specs.Found.{walkOf, outerOf, kthOf, shownSizes, IsAccepted};
 
 // What a message comes to: the count of its fields at all depths and its depth, or a refusal.
-pub enum Walk {
+enum Walk {
     Accepted { fields: u64, depth: u64 },
     Refused { number: u64, place: u64 },
 }
 
 // A field of either kind, or that there is none.
-pub enum Outer {
+enum Outer {
     Nothing,
     Field(Sizes),
 }
 
 // A field of a message by its place, or that there is none.
-pub enum Kth {
+enum Kth {
     At { place: usize, sizes: Sizes },
     Absent,
 }
