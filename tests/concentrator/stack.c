@@ -15,8 +15,8 @@ static uint8_t nest[65536], shorter[65536], tib[65536];
 static uint64_t a, b, c, d, e, f, g, h, i, j;
 static int64_t s;
 
-/* Tag 1 of message 0 is message 0, tag 2 an int, tag 3 text. */
-static const uint8_t table[] = {1, 0, 5, 0, 0, 1, 5, 0, 1, 0, 5, 0, 0, 2, 2, 0, 1, 0, 5, 0, 0, 3, 4, 0};
+/* Tag 1 of message 0 is message 0, tag 2 an int, tag 3 text, tag 16 a uint. A table with a tag from 16 on takes the most stack. */
+static const uint8_t table[] = {1, 0, 5, 0, 0, 1, 5, 0, 1, 0, 5, 0, 0, 2, 2, 0, 1, 0, 5, 0, 0, 3, 4, 0, 1, 0, 5, 0, 0, 16, 1, 0};
 static size_t nest_length, tib_length;
 
 static void *check(void *x) { crudvim_check(table, sizeof table, 0, nest, nest_length, &a, &b, &c); return x; }
