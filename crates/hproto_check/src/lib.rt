@@ -31,29 +31,21 @@ fn larger(a: u64, b: u64) -> u64
     if a < b { b } else { a }
 }
 
-// A message of a number whose octets start at a place, in a field at another place. `levels` is how many messages deep it may be, itself
-// counted; a nested message has one less.
-fn nested(
-    slots: &[u16; 256],
-    words: &[u64],
-    n: u64,
-    levels: u64,
-    field: u64,
-    at: u64,
-    s: &[u8],
-) -> Walk
+// A message of number `n` whose octets start at a place, in the field that starts at `from`. `deep` is how many messages deep it may be,
+// itself counted; a nested message has one less. `rest` has the entries that have no slot.
+fn nested(slots: &[u16; 256], rest: &[u64], n: u64, deep: u64, from: u64, at: u64, s: &[u8]) -> Walk
     requires { ⌜ at + length (now s) ≤ 65536 ⌝ }
-    requires { ⌜ levels ≤ 8 ⌝ }
-    ensures { λ r. ⌜ r ≡ walk-of (messageFrom (listed (now (slots .entry)) (now (words .entry))) levels n field at (now (s .entry))) ⌝ }
+    requires { ⌜ deep ≤ 8 ⌝ }
+    ensures { λ r. ⌜ r ≡ walk-of (messageFrom (listed (now (slots .entry)) (now (rest .entry))) deep n from at (now (s .entry))) ⌝ }
 {
-    if levels == 0 {
-        return Walk::Refused(5, field);
+    if deep == 0 {
+        return Walk::Refused(5, from);
     }
     let mut i: usize = 0;
     let mut fields: u64 = 0;
     let mut depth: u64 = 1;
     loop {
-        match hproto_field::step(slots, words, n, &s[i..]) {
+        match hproto_field::step(slots, rest, n, &s[i..]) {
             Step::Done => return Walk::Accepted(fields, depth),
             Step::Fault(k) => return Walk::Refused(k, at + (i as u64)),
             Step::Over(control, contents) => {
@@ -65,7 +57,7 @@ fn nested(
                 let e = a + contents;
                 let here = at + (i as u64);
                 let inside = at + (a as u64);
-                match nested(slots, words, m, levels - 1, here, inside, &s[a..e]) {
+                match nested(slots, rest, m, deep - 1, here, inside, &s[a..e]) {
                     Walk::Accepted(f, d) => {
                         i = e;
                         fields = fields + (1 + f);

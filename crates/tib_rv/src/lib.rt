@@ -10,10 +10,10 @@ ghost use Rattle.tib_rv_field.specs.Reading.{nextField, lead as lead-of, total,
 ghost use Rattle.tib_rv.specs.Answers.{check as check-of, field as field-of};
 ghost use Rattle.tib_rv.specs.Found.{walkOf, outerOf, kthOf, shownSizes, IsAccepted};
 
-// What a message comes to: the count of its fields at all depths and its depth, or a refusal.
+// What a message comes to: the count of its fields at all depths and its depth, or a refusal's number and place.
 enum Walk {
-    Accepted { fields: u64, depth: u64 },
-    Refused { number: u64, place: u64 },
+    Accepted(u64, u64),
+    Refused(u64, u64),
 }
 
 // A field of either kind, or that there is none.
@@ -68,7 +68,7 @@ fn larger(a: u64, b: u64) -> u64
 fn refused(number: u64, place: u64) -> Walk
     ensures { λ r. ⌜ r ≡ Walk.Refused number place ⌝ }
 {
-    Walk::Refused { number, place }
+    Walk::Refused(number, place)
 }
 
 // A message whose header starts at a place, in a field at another place. `room` is how many messages deep it may be, itself counted; a
@@ -90,7 +90,7 @@ fn message(s: &[u8], room: u64, field: u64, at: u64) -> Walk
     let mut depth: u64 = 1;
     loop {
         match tib_rv_field::next_field(&s[i..]) {
-            Step::Done => return Walk::Accepted { fields, depth },
+            Step::Done => return Walk::Accepted(fields, depth),
             Step::Fault(k) => return refused(k, at + (i as u64)),
             Step::Over(z) => {
                 i = past(i, z);
@@ -100,11 +100,8 @@ fn message(s: &[u8], room: u64, field: u64, at: u64) -> Walk
                 let a = data_at(i, z);
                 let e = past(i, z);
                 match message(&s[a..e], room - 1, at + (i as u64), at + (a as u64)) {
-                    Walk::Refused { number, place } => return refused(number, place),
-                    Walk::Accepted {
-                        fields: f,
-                        depth: d,
-                    } => {
+                    Walk::Refused(number, place) => return refused(number, place),
+                    Walk::Accepted(f, d) => {
                         i = e;
                         fields = fields + (1 + f);
                         depth = larger(depth, d + 1);
@@ -129,13 +126,13 @@ pub fn check(message: &[u8]) -> Checked
     ensures { λ r. ⌜ r ≡ check-of (now (message .entry)) ⌝ }
 {
     match read(message) {
-        Walk::Accepted { fields, depth } => Checked {
+        Walk::Accepted(fields, depth) => Checked {
             refusal: 0,
             place: 0,
             fields,
             depth,
         },
-        Walk::Refused { number, place } => tib_field::refused_check(number, place),
+        Walk::Refused(number, place) => tib_field::refused_check(number, place),
     }
 }
 
@@ -197,11 +194,8 @@ pub fn field(message: &[u8], k: u64) -> Field
     ensures { λ r. ⌜ r ≡ field-of (now (message .entry)) k ⌝ }
 {
     match read(message) {
-        Walk::Refused { number, place } => tib_field::refused_field(number, place),
-        Walk::Accepted {
-            fields: _,
-            depth: _,
-        } => match find(message, k) {
+        Walk::Refused(number, place) => tib_field::refused_field(number, place),
+        Walk::Accepted(_, _) => match find(message, k) {
             Kth::At { place, sizes } => shown(place, sizes),
             Kth::Absent => tib_field::refused_field(18, 0),
         },

@@ -31,11 +31,11 @@ abbrev nested-below : ℕ → In 3 nested-kinds.ps
 nested-below t = and 3 nested-kinds.ps (falls 3 nested-kinds.ps _<_ μ-nested t) nested.Pre
 
 abbrev nested-Inv-loop : nested-lts.InvT-loop
-nested-Inv-loop slots words number levels field at s i₀ fields₀ depth₀ i fields depth =
-    (1 ≤ levels) × State (listed slots words) (messageFrom (listed slots words) (levels - 1)) number at s i fields depth
+nested-Inv-loop slots rest n deep from at s i₀ fields₀ depth₀ i fields depth =
+    (1 ≤ deep) × State (listed slots rest) (messageFrom (listed slots rest) (deep - 1)) n at s i fields depth
 
 abbrev nested-μ-loop : nested-lts.MeasureT-loop
-nested-μ-loop slots words number levels field at s i₀ fields₀ depth₀ i fields depth = length s - i
+nested-μ-loop slots rest n deep from at s i₀ fields₀ depth₀ i fields depth = length s - i
 
 -- The places in the code that the facts below speak of.
 abbrev After-step : ℕ → Type 0
@@ -55,7 +55,7 @@ module _ (t : ℕ) (c : After-step t) where
   args = c .before .before .before .before .before .before .args
 
   abbrev es : List Entry
-  es = listed (now (args .slots)) (now (args .words))
+  es = listed (now (args .slots)) (now (args .rest))
 
   abbrev octets : List ℕ
   octets = now (args .s)
@@ -63,13 +63,13 @@ module _ (t : ℕ) (c : After-step t) where
   abbrev i : ℕ
   i = c .before .before .loop .i
 
-  abbrev state : State es (messageFrom es (args .levels - 1)) (args .n) (args .at) octets i (c .before .before .loop .fields) (c .before .before .loop .depth)
+  abbrev state : State es (messageFrom es (args .deep - 1)) (args .n) (args .at) octets i (c .before .before .loop .fields) (c .before .before .loop .depth)
   state = c .before .before .loop .inv .1
 
-  abbrev room-left : 1 ≤ args .levels
+  abbrev room-left : 1 ≤ args .deep
   room-left = c .before .before .loop .inv .0
 
-  abbrev bounds : (args .at + length octets ≤ 65536) × (args .levels ≤ 8)
+  abbrev bounds : (args .at + length octets ≤ 65536) × (args .deep ≤ 8)
   bounds = c .before .before .before .before .before .before .pre .1
 
   -- What the step found at the octets that are left.
@@ -77,9 +77,9 @@ module _ (t : ℕ) (c : After-step t) where
   step-found = let h = state .inside in c .step .ensures ∙ rw (take-all (length octets - i) (drop i octets) (simp length-drop (omega arith)))
 
   -- What the whole message comes to, in terms of its fields.
-  opened : walks.walk (messageFrom es (args .levels) (args .n) (args .field) (args .at) octets)
-      ≡ walks.walk (fieldsFrom es (messageFrom es (args .levels - 1)) (args .n) (suc (length octets)) (args .at) octets)
-  opened = ap walks.walk (room-open es (args .levels) (args .n) (args .field) (args .at) octets room-left)
+  opened : walks.walk (messageFrom es (args .deep) (args .n) (args .from) (args .at) octets)
+      ≡ walks.walk (fieldsFrom es (messageFrom es (args .deep - 1)) (args .n) (suc (length octets)) (args .at) octets)
+  opened = ap walks.walk (room-open es (args .deep) (args .n) (args .from) (args .at) octets room-left)
 
 -- The field that the loop goes over ends within the octets.
 over-ends : (t : ℕ) (c : Over-field t) → let b = c .before .before .before in let v = c .before .control .given .0 in
@@ -87,7 +87,7 @@ over-ends : (t : ℕ) (c : Over-field t) → let b = c .before .before .before i
 over-ends t c =
     let b = c .before .before .before in
     let v = c .before .control .given in
-    leaf-ends (es t b) (messageFrom (es t b) (args t b .levels - 1)) (args t b .n) (args t b .at) (octets t b) (i t b)
+    leaf-ends (es t b) (messageFrom (es t b) (args t b .deep - 1)) (args t b .n) (args t b .at) (octets t b) (i t b)
     (b .before .before .loop .fields) (b .before .before .loop .depth) (state t b) (v .0 .0) (v .0 .1 .0) (sym (step-found t b) ∙ v .1)
 
 -- The field that holds a nested message ends within the octets.
@@ -96,18 +96,18 @@ in-ends : (t : ℕ) (c : In-field t) → let b = c .before .before .before in le
 in-ends t c =
     let b = c .before .before .before in
     let v = c .before .m .given in
-    nested-ends (es t b) (messageFrom (es t b) (args t b .levels - 1)) (args t b .n) (args t b .at) (octets t b) (i t b)
+    nested-ends (es t b) (messageFrom (es t b) (args t b .deep - 1)) (args t b .n) (args t b .at) (octets t b) (i t b)
     (b .before .before .loop .fields) (b .before .before .loop .depth) (state t b) (v .0 .0) (v .0 .1 .0) (v .0 .1 .1 .0) (sym (step-found t b) ∙ v .1)
 
 -- The nested message's counts are small.
 inner-small : (t : ℕ) (c : After-inner t) → let d = c .before .before .before .before .before in let b = d .before .before .before in let w = c .before .f .given .0 in
-    (w .0 ≤ d .before .m .given .0 .1 .1 .0) × (w .1 .0 ≤ args t b .levels - 1)
+    (w .0 ≤ d .before .m .given .0 .1 .1 .0) × (w .1 .0 ≤ args t b .deep - 1)
 inner-small t c =
     let d = c .before .before .before .before .before in
     let b = d .before .before .before in
     let v = d .before .m .given .0 in
     let w = c .before .f .given in
-    nested-small (es t b) (args t b .levels - 1) (v .0) (args t b .at + i t b) (args t b .at + (i t b + v .1 .0)) (i t b) (v .1 .0) (v .1 .1 .0) (octets t b)
+    nested-small (es t b) (args t b .deep - 1) (v .0) (args t b .at + i t b) (args t b .at + (i t b + v .1 .0)) (i t b) (v .1 .0) (v .1 .1 .0) (octets t b)
     (w .0 .0) (w .0 .1 .0) (c .before .before .before .nested .result) (in-ends t d .1) (c .before .before .before .nested .ensures) (w .1)
 
 -- src/lib.rt:43:9
@@ -119,9 +119,9 @@ nested-returns t c = rw (c .if1 .taken)
 nested-loop-holds : (t : ℕ) → nested-lts.Need-loop-holds (step-reads.Asked, step-reads.Learnt, nested-below t, nested.Post, larger-reads.Asked, larger-reads.Learnt) (nested-at t) nested.Post nested-Inv-loop nested-μ-loop
 nested-loop-holds t c =
     let a = c .before .before .before .args in
-    let e = listed (now (a .slots)) (now (a .words)) in
+    let e = listed (now (a .slots)) (now (a .rest)) in
     let h = c .if1 .left in
-    (omega arith, start e (messageFrom e (a .levels - 1)) (a .n) (a .at) (now (a .s)))
+    (omega arith, start e (messageFrom e (a .deep - 1)) (a .n) (a .at) (now (a .s)))
 
 -- src/lib.rt:49:56
 nested-sub-step : (t : ℕ) → nested-lts.Need-sub-step (step-reads.Asked, step-reads.Learnt, nested-below t, nested.Post, larger-reads.Asked, larger-reads.Learnt) (nested-at t) nested.Post nested-Inv-loop nested-μ-loop
@@ -147,7 +147,7 @@ nested-enum-told t c = search needs
 nested-returns-2 : (t : ℕ) → nested-lts.Need-returns-2 (step-reads.Asked, step-reads.Learnt, nested-below t, nested.Post, larger-reads.Asked, larger-reads.Learnt) (nested-at t) nested.Post nested-Inv-loop nested-μ-loop
 nested-returns-2 t c =
     let b = c .before .before in
-    sym (opened t b ∙ at-end (es t b) (messageFrom (es t b) (args t b .levels - 1)) (args t b .n) (args t b .at) (octets t b) (i t b) (b .before .before .loop .fields) (b .before .before .loop .depth) (state t b) (sym (step-found t b) ∙ c .enum-told .given .1))
+    sym (opened t b ∙ at-end (es t b) (messageFrom (es t b) (args t b .deep - 1)) (args t b .n) (args t b .at) (octets t b) (i t b) (b .before .before .loop .fields) (b .before .before .loop .depth) (state t b) (sym (step-found t b) ∙ c .enum-told .given .1))
 
 -- src/lib.rt:53:25
 nested-enum-known-k : (t : ℕ) → nested-lts.Need-enum-known-k (step-reads.Asked, step-reads.Learnt, nested-below t, nested.Post, larger-reads.Asked, larger-reads.Learnt) (nested-at t) nested.Post nested-Inv-loop nested-μ-loop
@@ -162,7 +162,7 @@ nested-returns-3 : (t : ℕ) → nested-lts.Need-returns-3 (step-reads.Asked, st
 nested-returns-3 t c =
     let b = c .before .before .before in
     let v = c .before .k .given in
-    sym (opened t b ∙ at-fault (es t b) (messageFrom (es t b) (args t b .levels - 1)) (args t b .n) (args t b .at) (octets t b) (i t b) (b .before .before .loop .fields) (b .before .before .loop .depth) (state t b) (v .0 .0) (sym (step-found t b) ∙ v .1))
+    sym (opened t b ∙ at-fault (es t b) (messageFrom (es t b) (args t b .deep - 1)) (args t b .n) (args t b .at) (octets t b) (i t b) (b .before .before .loop .fields) (b .before .before .loop .depth) (state t b) (v .0 .0) (sym (step-found t b) ∙ v .1))
 
 -- src/lib.rt:56:26
 nested-enum-known-control : (t : ℕ) → nested-lts.Need-enum-known-control (step-reads.Asked, step-reads.Learnt, nested-below t, nested.Post, larger-reads.Asked, larger-reads.Learnt) (nested-at t) nested.Post nested-Inv-loop nested-μ-loop
@@ -189,7 +189,7 @@ nested-loop-again : (t : ℕ) → nested-lts.Need-loop-again (step-reads.Asked, 
 nested-loop-again t c =
     let b = c .before .before .before in
     let v = c .before .control .given in
-    (room-left t b, over-leaf (es t b) (messageFrom (es t b) (args t b .levels - 1)) (args t b .n) (args t b .at) (octets t b) (i t b) (b .before .before .loop .fields) (b .before .before .loop .depth) (state t b) (v .0 .0) (v .0 .1 .0) (sym (step-found t b) ∙ v .1))
+    (room-left t b, over-leaf (es t b) (messageFrom (es t b) (args t b .deep - 1)) (args t b .n) (args t b .at) (octets t b) (i t b) (b .before .before .loop .fields) (b .before .before .loop .depth) (state t b) (v .0 .0) (v .0 .1 .0) (sym (step-found t b) ∙ v .1))
 
 -- src/lib.rt:60:34
 nested-enum-known-m : (t : ℕ) → nested-lts.Need-enum-known-m (step-reads.Asked, step-reads.Learnt, nested-below t, nested.Post, larger-reads.Asked, larger-reads.Learnt) (nested-at t) nested.Post nested-Inv-loop nested-μ-loop
@@ -301,7 +301,7 @@ nested-loop-again-2 t c =
     let v = d .before .m .given in
     let w = n .before .f .given in (
       room-left t b,
-      nested-turn (es t b) (messageFrom (es t b) (args t b .levels - 1)) (args t b .n) (args t b .at) (octets t b) (i t b) (b .before .before .loop .fields) (b .before .before .loop .depth) (state t b) (v .0 .0) (v .0 .1 .0) (v .0 .1 .1 .0) (w .0 .0) (w .0 .1 .0) (c .larger .result) (n .before .before .before .nested .result)
+      nested-turn (es t b) (messageFrom (es t b) (args t b .deep - 1)) (args t b .n) (args t b .at) (octets t b) (i t b) (b .before .before .loop .fields) (b .before .before .loop .depth) (state t b) (v .0 .0) (v .0 .1 .0) (v .0 .1 .1 .0) (w .0 .0) (w .0 .1 .0) (c .larger .result) (n .before .before .before .nested .result)
           (sym (step-found t b) ∙ v .1) (n .before .before .before .nested .ensures) (w .1) (inner-small t n .0) (c .larger .ensures),
     )
 
@@ -316,7 +316,7 @@ nested-returns-4 t c =
     let b = d .before .before .before in
     let v = d .before .m .given in
     let w = c .before .k2 .given in
-    sym (opened t b ∙ nested-refusal (es t b) (messageFrom (es t b) (args t b .levels - 1)) (args t b .n) (args t b .at) (octets t b) (i t b) (b .before .before .loop .fields) (b .before .before .loop .depth) (state t b) (v .0 .0) (v .0 .1 .0) (v .0 .1 .1 .0) (w .0 .0) (w .0 .1 .0) (c .before .before .before .nested .result)
+    sym (opened t b ∙ nested-refusal (es t b) (messageFrom (es t b) (args t b .deep - 1)) (args t b .n) (args t b .at) (octets t b) (i t b) (b .before .before .loop .fields) (b .before .before .loop .depth) (state t b) (v .0 .0) (v .0 .1 .0) (v .0 .1 .1 .0) (w .0 .0) (w .0 .1 .0) (c .before .before .before .nested .result)
     (sym (step-found t b) ∙ v .1) (c .before .before .before .nested .ensures) (w .1))
 
 pub +nested-spec : {M : Type 1} → statement M
