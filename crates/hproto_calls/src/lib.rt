@@ -48,7 +48,7 @@ pub fn check(table: &[u8], number: u64, message: &[u8]) -> Checked
         return check_loaded(table, number, message);
     }
     let none = [0u64; 1];
-    hproto_check::check_under(&slots, hproto_index::first(&none, 0), number, message)
+    hproto_check::check_under(&slots, hproto_find::first(&none, 0), number, message)
 }
 
 fn unshortened(number: u64, place: u64) -> Shortened
@@ -88,7 +88,7 @@ pub fn shorten(table: &[u8], number: u64, message: &[u8], out: &mut [u8]) -> Sho
         return shorten_loaded(table, number, message, out);
     }
     let none = [0u64; 1];
-    hproto_shorten::shorten_under(&slots, hproto_index::first(&none, 0), number, message, out)
+    hproto_shorten::shorten_under(&slots, hproto_find::first(&none, 0), number, message, out)
 }
 
 fn unfound(number: u64, place: u64) -> Found

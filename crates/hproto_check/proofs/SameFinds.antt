@@ -1,15 +1,14 @@
 -- The check answers the same under two lists of entries in which each tag means the same.
-use Prim.Native.Nat.{ℕ, _≤_, min}
+use Prim.Native.Nat.{ℕ, _≤_}
 use mathlib.Core.Path.{_≡_, refl, _∙_}
 use mathlib.Core.Bool.{true}
 use mathlib.Core.List.{List}
-use lib.ListN.{length, take, getD, replicate}
+use lib.ListN.{length}
 use Rattle.hproto_table.specs.Entry.{Entry, entries}
 use Rattle.hproto_table.specs.Valid.{valid}
 use Rattle.hproto_table.specs.declared.Table.{Table}
 use Rattle.hproto_table.proofs.SameFinds.{SameFinds}
-use Rattle.hproto_index.specs.Slots.{notedBefore, listed}
-use Rattle.hproto_index.proofs.Loaded.{table-same}
+use Rattle.hproto_index.specs.Slots.{listed}
 use Rattle.hproto_message.specs.Reading.{Reading, accepted, refused, reading}
 use Rattle.hproto_message.proofs.SameFinds.{reading-same, tree-same}
 use Rattle.hproto_check.specs.Check.{counts, checkUnder, check}
@@ -25,13 +24,7 @@ module _ (es fs : List Entry) (same : SameFinds es fs) where
   unfolding checkUnder
   under-same n s = rw (reading-same es fs same n s, counts-same n (reading fs n s)) refl
 
--- An index and words that have the entries of a table.
-pub indexed-same : (t : Table) (slots ws : List ℕ) → valid t ≡ true
-    → slots ≡ notedBefore (λ i. getD (t .words) i 0) (replicate 256 0) (min (t .count) (length (t .words))) → ws ≡ take (t .count) (t .words)
-    → SameFinds (listed slots ws) (entries t)
-indexed-same t slots ws v e f = rw (e, f) (table-same t v)
-
--- Under them the check answers as under the table.
+-- Under an index and words that have the entries of a table, the check answers as under the table.
 pub indexed-check : (t : Table) (n : ℕ) (s slots ws : List ℕ) → length s ≤ 65536 → valid t ≡ true → SameFinds (listed slots ws) (entries t)
     → checkUnder (listed slots ws) n s ≡ check t n s
 indexed-check t n s slots ws h v same = under-same (listed slots ws) (entries t) same n s ∙ under-valid t n s h v

@@ -115,7 +115,7 @@ pub fn check(t: Table, number: u64, message: &[u8]) -> Checked
         return refused(2, 0);
     }
     let mut slots = [0u16; 256];
-    hproto_index::index_words(&t.words, t.count, &mut slots);
-    let words = hproto_index::first(&t.words, t.count);
+    let words = hproto_find::first(&t.words, t.count);
+    hproto_index::index_words(words, &mut slots);
     check_under(&slots, words, number, message)
 }

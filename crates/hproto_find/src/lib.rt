@@ -27,6 +27,14 @@ fn least(a: usize, b: usize) -> usize
     if a < b { a } else { b }
 }
 
+// The first words of a table.
+pub fn first(words: &[u64], count: usize) -> &[u64]
+    ensures { λ r. ⌜ now r ≡ take count (now (words .entry)) ⌝ }
+{
+    let n = least(count, words.len());
+    &words[0..n]
+}
+
 // What a tag means under the first words of a table. A word above its lowest 16 bits is the message number and the tag, so one
 // comparison looks at both. A number or a tag too large for its bits stands in no word.
 pub fn find(words: &[u64], count: usize, number: u64, tag: u64) -> Meaning

@@ -1,12 +1,12 @@
 -- An index has the entries of the table that it was made from.
-use Prim.Native.Nat.{ℕ, zero, suc, _+_, _*_, _-_, _/_, _%_, _≤_, _<_, min}
+use Prim.Native.Nat.{ℕ, zero, suc, _+_, _*_, _-_, _/_, _%_, _≤_, _<_}
 use native.Mathlib.Numerals.{add-one}
 use native.Mathlib.Omega.{arith}
-use mathlib.Core.Path.{_≡_, refl, sym, ap, _∙_}
+use mathlib.Core.Path.{_≡_, refl, sym, ap, _∙_, subst}
 use mathlib.Core.Bool.{Bool, true, false, cond, _&&_}
 use mathlib.Core.List.{List, [], _∷_, _++_, map}
-use lib.ListN.{length, take, drop, getD, replicate, length-take}
-use lib.Seq.{getD-take}
+use lib.ListN.{length, take, drop, getD, replicate}
+use lib.Seq.{take-length}
 use lib.Dec.{eqb, leb, ltb}
 use borrow.Author.Tests.{ltb-true, lt-ltb, eqb-true, eqb-false}
 use Rattle.octets.specs.Number.{number}
@@ -17,7 +17,7 @@ use Rattle.hproto_table.specs.Valid.{allInRange, allZero, valid}
 use Rattle.hproto_table.specs.declared.Table.{Table}
 use Rattle.hproto_table.specs.declared.Meaning.the-variants.{Raw}
 use Rattle.hproto_table.proofs.Bools.{and-left, and-right}
-use Rattle.hproto_table.proofs.Lists.{take-more, take-min}
+use Rattle.hproto_table.proofs.Lists.{take-more}
 use Rattle.hproto_table.proofs.Load.{length-words, load-whole}
 use Rattle.hproto_table.proofs.Repeat.{distinct-is}
 use Rattle.hproto_table.proofs.Records.{loaded-entries}
@@ -182,20 +182,16 @@ range-at [] j e l = absurd (omega arith)
 range-at (w ∷ ws) zero e l = and-left (inRange (entry w)) (allInRange ws) e
 range-at (w ∷ ws) (suc j) e l = range-at ws j (and-right (inRange (entry w)) (allInRange ws) e) (omega arith)
 
--- The first words of a table, all in range: the slots, and the words themselves for what has no slot.
-module _ (words : List ℕ) (count : ℕ) (in-range : allInRange (take count words) ≡ true) where
-  abbrev used : ℕ
-  used = min count (length words)
+-- The words of a table, all in range: the slots, and the words themselves for what has no slot.
+module _ (words : List ℕ) (in-range : allInRange words ≡ true) where
+  word-range : (j : ℕ) → j < length words → inRange (entry (getD words j 0)) ≡ true
+  word-range j l = range-at words j in-range l
 
-  word-range : (j : ℕ) → j < used → inRange (entry (getD words j 0)) ≡ true
-  word-range j l =
-      let h : length (take count words) ≡ min count (length words) = length-take count words in
-      rw (← getD-take count words j 0 (omega arith)) (range-at (take count words) j in-range (omega arith))
-
-  pub words-same : SameFinds (listed (shown (λ i. getD words i 0) (min count (length words))) (take count words)) (map entry (take count words))
+  pub words-same : SameFinds (listed (shown (λ i. getD words i 0) (length words)) words) (map entry words)
   words-same =
-      same-where (shown (λ i. getD words i 0) used) (take count words) (take count words)
-      (rw (← take-min count words, ← words-taken words used (omega arith)) (shows (λ i. getD words i 0) used word-range))
+      same-where (shown (λ i. getD words i 0) (length words)) words words
+      (subst (Shows (shown (λ i. getD words i 0) (length words)))
+      (words-taken words (length words) (omega arith) ∙ take-length words) (shows (λ i. getD words i 0) (length words) word-range))
       (λ n t d. refl)
 
 -- A table value that the loader can give.
@@ -208,7 +204,8 @@ valid-range t e =
     let c = distinct used in
     and-right a b (and-left (a && b) c (and-left (a && b && c) (allZero (drop (t .count) (t .words))) e))
 
-pub table-same : (t : Table) → valid t ≡ true
-    → SameFinds (listed (shown (λ i. getD (t .words) i 0) (min (t .count) (length (t .words)))) (take (t .count) (t .words))) (entries t)
+pub table-same : (t : Table) (slots ws : List ℕ) → valid t ≡ true → ws ≡ take (t .count) (t .words)
+    → slots ≡ notedBefore (λ i. getD ws i 0) (replicate 256 0) (length ws) → SameFinds (listed slots ws) (entries t)
 unfolding entries
-table-same t e = words-same (t .words) (t .count) (valid-range t e)
+table-same t slots ws v e f =
+    rw (f, e) (words-same (take (t .count) (t .words)) (valid-range t v))

@@ -3,8 +3,7 @@
 use hproto_load::Record;
 use hproto_table::Meaning;
 ghost use mathlib.Core.Path.{_≡_};
-ghost use Prim.Native.Nat.{min};
-ghost use lib.ListN.{length, take, getD};
+ghost use lib.ListN.{length, getD};
 ghost use Rattle.hproto_table.specs.Entry.{find as find-of};
 ghost use Rattle.hproto_table.specs.Load.{wordAt};
 ghost use Rattle.hproto_index.specs.Slots.{hasSlot, free, noted, notedBefore, takenFrom, listed};
@@ -54,30 +53,15 @@ pub fn index(s: &[u8], slots: &mut [u16; 256]) -> usize
     n
 }
 
-fn least(a: usize, b: usize) -> usize
-    ensures { λ r. ⌜ r ≡ min a b ⌝ }
+// Notes the words of a table.
+pub fn index_words(words: &[u64], slots: &mut [u16; 256])
+    ensures { λ _. ⌜ now (slots .exit) ≡ notedBefore (λ i. getD (now (words .entry)) i 0) (now (slots .entry)) (length (now (words .entry))) ⌝ }
 {
-    if a < b { a } else { b }
-}
-
-// Notes the first words of a table.
-pub fn index_words(words: &[u64], count: usize, slots: &mut [u16; 256])
-    ensures { λ _. ⌜ now (slots .exit) ≡ notedBefore (λ i. getD (now (words .entry)) i 0) (now (slots .entry)) (min count (length (now (words .entry)))) ⌝ }
-{
-    let n = least(count, words.len());
     let mut i = 0;
-    while i < n {
+    while i < words.len() {
         note(words[i], slots);
         i += 1;
     }
-}
-
-// The first words of a table.
-pub fn first(words: &[u64], count: usize) -> &[u64]
-    ensures { λ r. ⌜ now r ≡ take count (now (words .entry)) ⌝ }
-{
-    let n = least(count, words.len());
-    &words[0..n]
 }
 
 fn wide(x: u16) -> u64

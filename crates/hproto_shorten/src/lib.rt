@@ -340,7 +340,7 @@ pub fn shorten(t: Table, number: u64, message: &[u8], out: &mut [u8]) -> Shorten
         return refused(2, 0);
     }
     let mut slots = [0u16; 256];
-    hproto_index::index_words(&t.words, t.count, &mut slots);
-    let words = hproto_index::first(&t.words, t.count);
+    let words = hproto_find::first(&t.words, t.count);
+    hproto_index::index_words(words, &mut slots);
     shorten_under(&slots, words, number, message, out)
 }

@@ -1,8 +1,9 @@
 -- `check` refuses a table that no loader gives, and reads under the index of any other.
 use mathlib.Core.Path.{sym, _∙_}
 use borrow.Author.Tests.{not-true, not-false}
+use Rattle.hproto_index.proofs.Loaded.{table-same}
 use Rattle.hproto_check.proofs.Counts.{too-long, bad-table}
-use Rattle.hproto_check.proofs.SameFinds.{indexed-same, indexed-check}
+use Rattle.hproto_check.proofs.SameFinds.{indexed-check}
 use borrow.Author.Needs.{needs}
 use Rattle.hproto_check.proofs.check.Statement.{statement}
 use Rattle.hproto_check.proofs.check.Tie as tie
@@ -28,25 +29,25 @@ returns-2 c =
     c .refused2 .ensures
     ∙ bad-table (a .t1) (a .number) (a .message .now) (c .before .before .before .if1 .left) (sym (v .ensures) ∙ not-true (v .result) (c .before .if2 .taken))
 
-index-words-requires : tie.Need-index-words-requires
-index-words-requires c κs = search needs
-
 first-requires : tie.Need-first-requires
 first-requires c κs = search needs
+
+index-words-requires : tie.Need-index-words-requires
+index-words-requires c κs = search needs
 
 check-under-requires : tie.Need-check-under-requires
 check-under-requires c κs = search needs
 
 returns-3 : tie.Need-returns-3
 returns-3 c =
-    let a = c .before .before .before .before .before .before .before .before .before .before .before .before .before .before .before .args in
-    let v = c .before .before .before .before .before .before .before .before .before .before .before .before .valid in
-    let x = c .before .before .before .before .before .before .index-words in
-    let f = c .before .before .first in
-    let g = sym (v .ensures) ∙ not-false (v .result) (c .before .before .before .before .before .before .before .before .before .before .before .if2 .left) in
+    let a = c .before .before .before .before .before .before .before .before .before .before .before .before .args in
+    let v = c .before .before .before .before .before .before .before .before .before .valid in
+    let x = c .before .before .index-words in
+    let f = c .before .before .before .before .first in
+    let g = sym (v .ensures) ∙ not-false (v .result) (c .before .before .before .before .before .before .before .before .if2 .left) in
     c .check-under .ensures
-    ∙ indexed-check (a .t1) (a .number) (a .message .now) (x .last .1 .1 .0) (f .result .now) (c .before .before .before .before .before .before .before .before .before .before .before .before .before .if1 .left) g
-    (indexed-same (a .t1) (x .last .1 .1 .0) (f .result .now) g (x .ensures) (f .ensures))
+    ∙ indexed-check (a .t1) (a .number) (a .message .now) (x .last .1 .0) (f .result .now) (c .before .before .before .before .before .before .before .before .before .before .if1 .left) g
+    (table-same (a .t1) (x .last .1 .0) (f .result .now) g (f .ensures) (x .ensures))
 
 pub check-spec : {M : Type 1} → statement M
 check-spec =
@@ -57,7 +58,7 @@ check-spec =
     valid-requires
     refused-requires-2
     returns-2
-    index-words-requires
     first-requires
+    index-words-requires
     check-under-requires
     returns-3)

@@ -4,10 +4,10 @@ use mathlib.Core.Path.{sym, _∙_}
 use denote.Ref.{now}
 use borrow.Author.Tests.{not-true, not-false}
 use Rattle.hproto_index.specs.Slots.{listed}
+use Rattle.hproto_index.proofs.Loaded.{table-same}
 use Rattle.hproto_check.specs.Check as checks
 use Rattle.hproto_check.specs.Check.{check}
 use Rattle.hproto_check.proofs.Counts.{too-long, bad-table}
-use Rattle.hproto_check.proofs.SameFinds.{indexed-same}
 use Rattle.hproto_shorten.specs.Shorten.{refusal, shortForm, answer, buffer}
 use Rattle.hproto_shorten.proofs.Answers.{refused-first}
 use Rattle.hproto_shorten.proofs.SameFinds.{indexed-answer, indexed-buffer}
@@ -42,11 +42,11 @@ returns-2 c =
     let r = refused-first (check (a .t1) (a .number) m) (shortForm (a .t1) (a .number) m) (now (a .out)) (checks.refusal 2 0) b (λ z. omega arith) in
     (c .refused2 .ensures ∙ r .answered, r .left)
 
-index-words-requires : tie.Need-index-words-requires
-index-words-requires c κs = search needs
-
 first-requires : tie.Need-first-requires
 first-requires c κs = search needs
+
+index-words-requires : tie.Need-index-words-requires
+index-words-requires c κs = search needs
 
 shorten-under-requires : tie.Need-shorten-under-requires
 shorten-under-requires c κs = search needs
@@ -56,15 +56,15 @@ same-length c = search needs
 
 returns-3 : tie.Need-returns-3
 returns-3 c =
-    let a = c .before .before .before .before .before .before .before .before .before .before .before .before .before .before .before .before .before .before .before .args in
+    let a = c .before .before .before .before .before .before .before .before .before .before .before .before .before .before .before .before .args in
     let m = now (a .message) in
-    let v = c .before .before .before .before .before .before .before .before .before .before .before .before .before .before .before .valid in
-    let g = sym (v .ensures) ∙ not-false (v .result) (c .before .before .before .before .before .before .before .before .before .before .before .before .before .before .if2 .left) in
-    let h = c .before .before .before .before .before .before .before .before .before .before .before .before .before .before .before .before .if1 .left in
-    let x = c .before .before .before .before .before .before .before .before .before .index-words in
-    let f = c .before .before .before .before .before .first in
-    let es = listed (x .last .1 .1 .0) (f .result .now) in
-    let e = indexed-same (a .t1) (x .last .1 .1 .0) (f .result .now) g (x .ensures) (f .ensures) in
+    let v = c .before .before .before .before .before .before .before .before .before .before .before .before .valid in
+    let g = sym (v .ensures) ∙ not-false (v .result) (c .before .before .before .before .before .before .before .before .before .before .before .if2 .left) in
+    let h = c .before .before .before .before .before .before .before .before .before .before .before .before .before .if1 .left in
+    let x = c .before .before .before .before .before .index-words in
+    let f = c .before .before .before .before .before .before .before .first in
+    let es = listed (x .last .1 .0) (f .result .now) in
+    let e = table-same (a .t1) (x .last .1 .0) (f .result .now) g (f .ensures) (x .ensures) in
     let s = c .before .before .shorten-under .ensures in
     (s .0 ∙ indexed-answer (a .t1) es e (a .number) m (now (a .out)) h g, s .1 ∙ indexed-buffer (a .t1) es e (a .number) m (now (a .out)) h g)
 
@@ -77,8 +77,8 @@ shorten-spec =
     valid-requires
     refused-requires-2
     returns-2
-    index-words-requires
     first-requires
+    index-words-requires
     shorten-under-requires
     same-length
     returns-3)

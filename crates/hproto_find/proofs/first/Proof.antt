@@ -5,8 +5,8 @@ use mathlib.Core.Path.{_≡_}
 use lib.ListN.{length}
 use Rattle.hproto_table.proofs.Lists.{take-min}
 use borrow.Author.Needs.{needs}
-use Rattle.hproto_index.proofs.first.Statement.{statement}
-use Rattle.hproto_index.proofs.first.Tie as tie
+use Rattle.hproto_find.proofs.first.Statement.{statement}
+use Rattle.hproto_find.proofs.first.Tie as tie
 
 least-requires : tie.Need-least-requires
 least-requires c κs = search needs
