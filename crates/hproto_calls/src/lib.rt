@@ -47,6 +47,7 @@ pub fn check(table: &[u8], number: u64, message: &[u8]) -> Checked
     if n * 8 < table.len() {
         return check_loaded(table, number, message);
     }
+    // Every entry has a slot, so that no words are needed for the others.
     let none = [0u64; 1];
     hproto_check::check_under(&slots, hproto_find::first(&none, 0), number, message)
 }
@@ -87,6 +88,7 @@ pub fn shorten(table: &[u8], number: u64, message: &[u8], out: &mut [u8]) -> Sho
     if n * 8 < table.len() {
         return shorten_loaded(table, number, message, out);
     }
+    // As in the check, no words are needed.
     let none = [0u64; 1];
     hproto_shorten::shorten_under(&slots, hproto_find::first(&none, 0), number, message, out)
 }

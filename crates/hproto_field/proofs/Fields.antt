@@ -1,12 +1,11 @@
 -- What a step finds once the control part at the front is known.
 use Prim.Native.Nat.{ℕ, _+_, _-_, _≤_, _<_}
 use native.Mathlib.Omega.{arith}
-use mathlib.Core.Path.{_≡_, refl, sym}
+use mathlib.Core.Path.{_≡_}
 use mathlib.Core.List.{List}
 use lib.ListN.{length, take, drop}
 use borrow.Author.Tests.{le-leb, lt-leb}
 use Rattle.octets.specs.Control.{control}
-use Rattle.octets.specs.declared.Control.{Control}
 use Rattle.octets.specs.declared.Control.the-variants.{Absent, Partial, Whole}
 use Rattle.octets.proofs.ControlPart.{control-size}
 use Rattle.hproto_table.specs.Entry.{Entry, find}
@@ -14,7 +13,6 @@ use Rattle.hproto_table.specs.declared.Meaning.{Meaning}
 use Rattle.hproto_field.specs.Fronts.{nothing, partFrom, part, fieldOf, front}
 use Rattle.hproto_field.specs.declared.Extent.the-variants.{None, Found}
 use Rattle.hproto_message.specs.Reading.{step, stepFrom, stepByKind}
-use Rattle.hproto_message.specs.declared.Step.{Step}
 use Rattle.hproto_message.specs.declared.Step.the-variants.{Done, Fault}
 
 module _ (es : List Entry) (n : ℕ) (s : List ℕ) where

@@ -2,7 +2,7 @@
 use Prim.Native.Nat.{ℕ, zero, suc, _+_, _*_, _-_, _/_, _%_, _≤_, _<_}
 use native.Mathlib.Numerals.{add-one}
 use native.Mathlib.Omega.{arith}
-use mathlib.Core.Path.{_≡_, refl, sym, ap, _∙_, subst}
+use mathlib.Core.Path.{_≡_, refl, sym, _∙_, subst}
 use mathlib.Core.Bool.{Bool, true, false, cond, _&&_}
 use mathlib.Core.List.{List, [], _∷_, _++_, map}
 use lib.ListN.{length, take, drop, getD, replicate}
@@ -10,8 +10,8 @@ use lib.Seq.{take-length}
 use lib.Dec.{eqb, leb, ltb}
 use borrow.Author.Tests.{ltb-true, lt-ltb, eqb-true, eqb-false}
 use Rattle.octets.specs.Number.{number}
-use Rattle.hproto_table.specs.Entry.{Entry, entry, entries, find, meaning}
-use Rattle.hproto_table.specs.Load.{inRange, recordAt, wordAt, sound, wordsBefore, pair, seen, accepted, tableOf, load}
+use Rattle.hproto_table.specs.Entry.{entry, entries, find, meaning}
+use Rattle.hproto_table.specs.Load.{inRange, recordAt, wordAt, sound, wordsBefore, accepted, load}
 use Rattle.hproto_table.specs.Repeat.{distinct, firstRepeat}
 use Rattle.hproto_table.specs.Valid.{allInRange, allZero, valid}
 use Rattle.hproto_table.specs.declared.Table.{Table}
@@ -23,13 +23,11 @@ use Rattle.hproto_table.proofs.Repeat.{distinct-is}
 use Rattle.hproto_table.proofs.Records.{loaded-entries}
 use Rattle.hproto_table.proofs.Valid.{distinct-snoc}
 use Rattle.hproto_table.proofs.SameFinds.{SameFinds}
-use Rattle.hproto_find.proofs.Finding.{fits, fits-not, find-none}
-use Rattle.hproto_index.specs.Slots.{hasSlot, small, slotOf, free, noted, notedBefore, taken, takenFrom, listed}
+use Rattle.hproto_find.proofs.Finding.{fits}
+use Rattle.hproto_index.specs.Slots.{hasSlot, small, slotOf, free, notedBefore, taken, takenFrom, listed}
+use Rattle.hproto_index.proofs.Noting.{true-false}
 use Rattle.hproto_index.proofs.Finding.{listed-slot, listed-rest}
-use Rattle.hproto_index.proofs.Showing.{code, code-finds, wordsOf, shown, Shows, shows, free-unseen}
-
-not-both : (a : Bool) → a ≡ false → a ≡ true → ⊥
-not-both a p q = let z : _≡_ {A = ℕ} 0 1 = cc in absurd (omega arith)
+use Rattle.hproto_index.proofs.Showing.{code-finds, wordsOf, shown, Shows, shows, free-unseen}
 
 -- ---- by the slots, and by the words for what has no slot
 
@@ -47,8 +45,8 @@ module _ (slots ws rest : List ℕ) (shown : Shows slots ws) where
 
       go : (a : Bool) → ltb n 16 ≡ a → (b : Bool) → ltb t 16 ≡ b → find (listed slots rest) n t ≡ find (map entry ws) n t
       go true p true q = by-slot n t (ltb-true n 16 p) (ltb-true t 16 q)
-      go true p false q = beyond (λ h l. not-both (ltb t 16) q (lt-ltb t 16 l))
-      go false p b q = beyond (λ h l. not-both (ltb n 16) p (lt-ltb n 16 h))
+      go true p false q = beyond (λ h l. true-false (sym (lt-ltb t 16 l) ∙ q))
+      go false p b q = beyond (λ h l. true-false (sym (lt-ltb n 16 h) ∙ p))
 
 -- ---- from octets
 

@@ -1,13 +1,13 @@
 -- The slots of the first words of a table show what the words say.
 use Prim.Native.Nat.{ℕ, zero, suc, _+_, _*_, _/_, _%_, _^_, _≤_, _<_}
 use native.Mathlib.Omega.{arith}
-use mathlib.Core.Path.{_≡_, refl, sym, ap, _∙_}
+use mathlib.Core.Path.{_≡_, refl, sym, _∙_}
 use mathlib.Core.Bool.{Bool, true, false, cond, _&&_, _||_}
 use mathlib.Core.List.{List, [], _∷_, _++_, map}
 use lib.ListN.{length, getD, set, replicate, length-set, length-replicate, getD-replicate}
 use lib.Seq.{getD-set-same, getD-set-other}
 use lib.Dec.{eqb, ltb, leb}
-use borrow.Author.Tests.{ltb-true, ltb-false, lt-ltb, leb-true, eqb-true, eqb-false, eq-eqb, ne-eqb}
+use borrow.Author.Tests.{ltb-true, lt-ltb, leb-true, eqb-true, eqb-false, eq-eqb, ne-eqb}
 use Rattle.hproto_table.specs.Entry.{entry, find, meaning}
 use Rattle.hproto_table.specs.Load.{inRange, pair, seen}
 use Rattle.hproto_table.specs.declared.Meaning.the-variants.{Raw}
@@ -15,6 +15,7 @@ use Rattle.hproto_table.proofs.Bools.{and-left, and-right, or-left, or-right, o
 use Rattle.hproto_table.proofs.Repeat.{seen-append, seen-one}
 use Rattle.hproto_find.proofs.Finding.{fits-key, fits-not, find-here, find-past}
 use Rattle.hproto_index.specs.Slots.{hasSlot, small, slotOf, free, noted, notedBefore}
+use Rattle.hproto_index.proofs.Noting.{true-false}
 
 -- ---- the kind and the inner number of the first word with a pair, as one number
 
@@ -95,9 +96,6 @@ range-code w e z =
     let d = cond (eqb (w / 256 % 256) 5) (ltb (w % 256) 16) (eqb (w % 256) 0) in
     let k : 1 ≤ w / 256 % 256 = leb-true 1 (w / 256 % 256) (and-right a b (and-left (a && b) c (and-left (a && b && c) d e))) in
     omega arith
-
-true-false : true ≡ false → ⊥
-true-false e = let z : _≡_ {A = ℕ} 0 1 = cc in absurd (omega arith)
 
 module _ (word : ℕ → ℕ) where
   -- A pair that was seen has a code, where the words are in range.

@@ -1,6 +1,6 @@
 -- What is read under a list of entries is read under every other list in which each tag means the same.
 use Prim.Native.Nat.{ℕ, zero, suc, _+_, _-_}
-use mathlib.Core.Path.{_≡_, refl, sym, ap, _∙_}
+use mathlib.Core.Path.{_≡_, refl}
 use mathlib.Core.List.{List}
 use lib.ListN.{length, take, drop}
 use Rattle.octets.specs.Control.{control}
@@ -11,8 +11,8 @@ use Rattle.hproto_table.proofs.SameFinds.{SameFinds}
 use Rattle.hproto_message.specs.declared.Step.{Step}
 use Rattle.hproto_message.specs.declared.Step.the-variants.{Done, Fault, Over, Into}
 use Rattle.hproto_message.specs.Cut.{Cut, end, leaf, nested}
-use Rattle.hproto_message.specs.Tree.{Tree, tree, tagOf, value}
-use Rattle.hproto_message.specs.Reading.{Reading, onCut, inOrder, Inner, stepFrom, step, afterStep, fieldsFrom, messageFrom, reading}
+use Rattle.hproto_message.specs.Tree.{tree, tagOf}
+use Rattle.hproto_message.specs.Reading.{Reading, Inner, stepFrom, step, afterStep, fieldsFrom, messageFrom, reading}
 
 -- Two ways to read a nested message that answer the same.
 unfoldable SameInner : Inner → Inner → Type 0

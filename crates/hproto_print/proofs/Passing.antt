@@ -1,11 +1,10 @@
 -- Passing over the fields of an accepted message.
-use Prim.Native.Nat.{ℕ, zero, suc, _+_, _-_, _≤_, _<_}
+use Prim.Native.Nat.{ℕ, suc, _+_, _-_, _≤_, _<_}
 use native.Mathlib.Omega.{arith}
 use mathlib.Core.Path.{_≡_, sym, ap, _∙_, subst}
 use mathlib.Core.List.{List}
 use lib.ListN.{length, take, drop, length-drop}
 use lib.Seq.{drop-drop}
-use Rattle.hproto_message.specs.Reading.{Accepts}
 use Rattle.octets.specs.Control.{control}
 use Rattle.octets.specs.declared.Control.the-variants.{Whole}
 use Rattle.octets.proofs.ControlPart.{control-size}
@@ -13,8 +12,7 @@ use Rattle.hproto_table.specs.Entry.{Entry, find}
 use Rattle.hproto_table.specs.declared.Meaning.the-variants.{Message}
 use Rattle.hproto_message.specs.Cut.{Cut, end, Contents, Good}
 use Rattle.hproto_message.specs.Tree.{Tree, value, tree}
-use Rattle.hproto_message.specs.Reading.{messageFrom}
-use Rattle.hproto_message.proofs.Accepted.{accepted-good, good-accepted, depth-positive}
+use Rattle.hproto_message.proofs.Accepted.{depth-positive}
 use Rattle.hproto_message.proofs.Next.{Plain, next-leaf, next-nested, fronted, nothing-left}
 use Rattle.hproto_field.specs.Fronts.{front}
 use Rattle.hproto_field.proofs.Fields.{front-whole}

@@ -1,14 +1,13 @@
 -- Laws of the values and kinds of fields.
 use Prim.Native.Nat.{ℕ, _≤_}
 use native.Mathlib.Omega.{arith}
-use mathlib.Core.Path.{_≡_, refl, ap}
+use mathlib.Core.Path.{_≡_, refl}
 use mathlib.Core.Bool.{Bool, true, false, cond}
 use mathlib.Core.List.{List}
 use lib.ListN.{length}
 use lib.Dec.{leb}
 use lib.IntN.{ℤ}
 use borrow.Author.Tests.{le-leb}
-use Rattle.hproto_field.specs.Held.{heldIn}
 use Rattle.octets.specs.Number.{number, unsigned}
 use Rattle.octets.specs.Signed.{integer, signed}
 use Rattle.octets.specs.declared.Unsigned.the-variants.{Value as UValue, Long as ULong}
@@ -17,10 +16,8 @@ use Rattle.hproto_table.specs.declared.Meaning.{Meaning}
 use Rattle.hproto_table.specs.declared.Meaning.the-variants.{Raw, Uint, Int, String, Text, Message}
 use Rattle.hproto_message.specs.Cut.{Contents}
 use Rattle.hproto_message.specs.Tree.{value}
-use Rattle.hproto_message.proofs.Next.{Plain}
 use Rattle.hproto_print.specs.Text.{kindName}
 use Rattle.hproto_print.specs.Walk.{meaningName}
-use Rattle.hproto_field.specs.declared.Holds.the-variants.{None, Number}
 
 pub unsigned-value : (s : List ℕ) (v : ℕ) → unsigned s ≡ UValue v → v ≡ number s
 unfolding unsigned

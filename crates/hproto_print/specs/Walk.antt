@@ -1,12 +1,10 @@
 -- What the private functions of the walk put, by the octets of a message that is accepted. One that may be `levels` messages deep, itself
 -- counted, is at the depth 9 - levels: the outermost may be 8 deep and is at 1.
 use Prim.Native.Nat.{ℕ, _-_}
-use mathlib.Core.Path.{_≡_}
 use mathlib.Core.List.{List, []}
 use Rattle.hproto_table.specs.Entry.{Entry}
 use Rattle.hproto_table.specs.declared.Meaning.{Meaning}
 use Rattle.hproto_table.specs.declared.Meaning.the-variants.{Raw, Uint, Int, String, Text, Message}
-use Rattle.hproto_message.specs.Cut.{Cut}
 use Rattle.hproto_message.specs.Tree.{tree}
 use Rattle.hproto_message.specs.Reading.{Reading, accepted, refused, messageFrom}
 use Rattle.hproto_print.specs.Ascii.{ascii}

@@ -1,9 +1,9 @@
 -- Storing the octets of a number from the first on.
 use Prim.Native.Nat.{ℕ, zero, suc, _+_, _*_, _-_, _/_, _%_, _^_, _≤_, _<_}
 use native.Mathlib.Omega.{arith}
-use mathlib.Core.Path.{_≡_, refl, sym, ap, _∙_}
+use mathlib.Core.Path.{_≡_, ap, _∙_}
 use mathlib.Core.List.{List}
-use lib.ListN.{length, getD, set, take}
+use lib.ListN.{length, getD, set}
 use lib.Seq.{take-all}
 use Rattle.octets.specs.Number.{octetsOf}
 use Rattle.octets.proofs.Number.{length-octetsOf}

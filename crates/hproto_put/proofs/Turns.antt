@@ -6,7 +6,7 @@ use native.Mathlib.Omega.{arith}
 use mathlib.Core.Path.{_≡_, refl, sym, ap, ap₂, _∙_, subst}
 use mathlib.Core.List.{List, [], _∷_, _++_}
 use lib.ListN.{length, getD, set, take, drop, length-append}
-use lib.Seq.{sets, length-sets, take-suc, take-all, drop-cons, length-take-le}
+use lib.Seq.{sets, length-sets, take-suc, drop-cons, length-take-le}
 use Rattle.octets.specs.Number.{octetsOf}
 use Rattle.octets.proofs.Number.{length-octetsOf}
 use Rattle.hproto_put.specs.Store.{stored, moved}

@@ -1,26 +1,24 @@
 -- The shortener's answer and buffer, case by case.
-use Prim.Native.Nat.{ℕ, zero, suc, _+_, _^_, _≤_, _<_}
+use Prim.Native.Nat.{ℕ, _+_, _≤_, _<_}
 use native.Mathlib.Omega.{arith}
 use mathlib.Core.Path.{_≡_, refl, sym, ap, _∙_}
-use mathlib.Core.Bool.{Bool, true, false, cond, not, _||_}
+use mathlib.Core.Bool.{true, false, not}
 use mathlib.Core.List.{List}
 use lib.ListN.{length}
-use lib.Seq.{sets}
-use lib.Dec.{ltb, leb, eqb}
-use borrow.Author.Tests.{ltb-false, le-leb, lt-leb, eq-eqb, ne-eqb}
+use lib.Dec.{eqb}
+use borrow.Author.Tests.{le-leb, lt-leb, eq-eqb, ne-eqb}
 use Rattle.hproto_message.specs.Reading.{Accepts}
 use Rattle.hproto_table.specs.Entry.{Entry, entries}
 use Rattle.hproto_table.specs.Valid.{valid}
 use Rattle.hproto_table.specs.declared.Table.{Table}
-use Rattle.hproto_message.specs.Reading.{Reading, accepted, refused, reading, messageFrom}
-use Rattle.hproto_message.proofs.Refusals.{refusal-positive}
+use Rattle.hproto_message.specs.Reading.{accepted, refused, reading}
 use Rattle.hproto_check.specs.Check as checks
-use Rattle.hproto_check.specs.Check.{check, checkUnder, counts}
+use Rattle.hproto_check.specs.Check.{check, checkUnder}
 use Rattle.hproto_check.specs.declared.Checked.{Checked}
 use Rattle.hproto_check.proofs.Counts.{under-valid}
 use Rattle.hproto_put.specs.Store.{stored}
 use Rattle.hproto_put.proofs.Stores.{stored-fits}
-use Rattle.hproto_shorten.specs.Written.{short, shortestOf}
+use Rattle.hproto_shorten.specs.Written.{short}
 use Rattle.hproto_shorten.specs.Shorten.{refusal, shortUnder, shortForm, roomy, answerTo, bufferTo, answer, buffer, answerUnder, bufferUnder}
 use Rattle.hproto_shorten.specs.declared.Shortened.{Shortened}
 use Rattle.hproto_check.proofs.Passed.{under-passed}

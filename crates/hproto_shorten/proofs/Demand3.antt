@@ -1,10 +1,9 @@
 -- Demand 3 of the order holds. specs/Demand3.antt states it.
-use Prim.Native.Nat.{ℕ, suc, _+_, _^_, _≤_, _<_}
+use Prim.Native.Nat.{ℕ, _+_, _≤_, _<_}
 use native.Mathlib.Omega.{arith}
 use mathlib.Core.Path.{_≡_, refl, sym, ap, _∙_, subst}
 use mathlib.Core.Bool.{true}
 use mathlib.Core.List.{List, _++_}
-use mathlib.Core.Logic.{_↔_}
 use lib.ListN.{length, drop}
 use Rattle.hproto_message.specs.Reading.{Accepts}
 use Rattle.hproto_message.proofs.Accepted.{accepts-good}
@@ -15,11 +14,10 @@ use Rattle.hproto_table.specs.Entry.{entries}
 use Rattle.hproto_table.specs.Load.{load}
 use Rattle.hproto_table.specs.Valid.{valid}
 use Rattle.hproto_table.specs.declared.Table.{Table}
-use Rattle.hproto_table.specs.declared.Loaded.{Loaded}
 use Rattle.hproto_table.proofs.Placed.{loaded-valid}
 use Rattle.hproto_message.specs.Cut.{Cut, Good}
-use Rattle.hproto_message.specs.Tree.{Tree, tree}
-use Rattle.hproto_message.specs.Reading.{accepted, reading}
+use Rattle.hproto_message.specs.Tree.{tree}
+use Rattle.hproto_message.specs.Reading.{reading}
 use Rattle.hproto_message.specs.Shortest.{shortest}
 use Rattle.hproto_message.proofs.Accepted.{accepted-exactly, good-cut-unique}
 use Rattle.hproto_message.proofs.Shortened.{shortest-good, shortest-octets, shortest-no-longer, others-longer}

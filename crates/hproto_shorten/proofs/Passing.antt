@@ -1,35 +1,30 @@
 -- Passing over the fields of an accepted message: what has been passed is the front of the shortest form.
-use Prim.Native.Nat.{ℕ, zero, suc, _+_, _-_, _%_, _^_, _≤_, _<_}
+use Prim.Native.Nat.{ℕ, suc, _+_, _-_, _%_, _≤_, _<_}
 use native.Mathlib.Nat.{mod-eq-of-lt}
 use native.Mathlib.Omega.{arith}
-use mathlib.Core.Path.{_≡_, refl, sym, ap, ap₂, _∙_, subst}
+use mathlib.Core.Path.{_≡_, sym, ap, _∙_, subst}
 use mathlib.Core.List.{List, [], _∷_, _++_, append-assoc, append-nil}
 use lib.ListN.{length, take, drop, getD, length-append, length-drop, take-append-drop}
 use lib.Seq.{drop-drop, length-take-le}
-use Rattle.hproto_field.specs.Held.{heldIn}
 use Rattle.hproto_message.specs.Reading.{Accepts}
 use Rattle.octets.specs.Number.{Octets}
 use Rattle.octets.proofs.Number.{octets-before, octets-after}
 use Rattle.octets.proofs.ControlPart.{control-size, control-take, control-bounds}
 use Rattle.octets.specs.Control.{control}
-use Rattle.octets.specs.declared.Control.{Control}
-use Rattle.octets.specs.declared.Control.the-variants.{Absent, Partial, Whole}
+use Rattle.octets.specs.declared.Control.the-variants.{Whole}
 use Rattle.hproto_table.specs.Entry.{Entry, find}
-use Rattle.hproto_table.specs.declared.Meaning.{Meaning}
-use Rattle.hproto_table.specs.declared.Meaning.the-variants.{Raw, Uint, Int, String, Text, Message}
+use Rattle.hproto_table.specs.declared.Meaning.the-variants.{Message}
 use Rattle.hproto_message.specs.Cut.{Cut, end, Contents, Good}
 use Rattle.hproto_message.specs.Tree as trees
 use Rattle.hproto_message.specs.Tree.{Tree, value, tree}
-use Rattle.hproto_message.specs.Reading.{Reading, accepted, messageFrom}
+use Rattle.hproto_message.specs.Reading.{accepted}
 use Rattle.hproto_message.specs.Shortest.{leastContents, field, shortest}
-use Rattle.hproto_message.proofs.Accepted.{accepted-good, good-accepted, depth-positive, accepts-good, good-accepts}
-use Rattle.hproto_message.proofs.Next.{NextLeaf, NextNested, Plain, next-leaf, next-nested, Fronted, fronted, nothing-left}
+use Rattle.hproto_message.proofs.Accepted.{good-accepted, depth-positive, accepts-good, good-accepts}
+use Rattle.hproto_message.proofs.Next.{Plain, next-leaf, next-nested, fronted, nothing-left}
 use Rattle.hproto_field.specs.Fronts.{front}
 use Rattle.hproto_field.proofs.Fields.{front-whole}
 use Rattle.hproto_field.specs.declared.Field.{Field}
 use Rattle.hproto_shorten.specs.Written.{shortestOf, short}
-use Rattle.hproto_field.specs.declared.Holds.{Holds}
-use Rattle.hproto_field.specs.declared.Holds.the-variants.{None, Number}
 
 octets-take : (n : ℕ) (s : List ℕ) → Octets s → Octets (take n s)
 octets-take n s o = octets-before (take n s) (drop n s) (subst Octets (sym (take-append-drop n s)) o)

@@ -1,17 +1,15 @@
 -- Writing the shortest form of a message field by field: the buffer holds the part that has been passed.
-use Prim.Native.Nat.{ℕ, zero, suc, _+_, _-_, _%_, _≤_, _<_}
+use Prim.Native.Nat.{ℕ, suc, _+_, _-_, _%_, _≤_, _<_}
 use native.Mathlib.Omega.{arith}
-use mathlib.Core.Path.{_≡_, refl, sym, ap, ap₂, _∙_, subst}
+use mathlib.Core.Path.{_≡_, sym, ap, _∙_, subst}
 use mathlib.Core.List.{List, [], _++_}
-use lib.ListN.{length, take, drop, length-append}
+use lib.ListN.{length, drop, length-append}
 use Rattle.hproto_message.specs.Reading.{Accepts}
 use Rattle.octets.specs.Number.{Octets}
 use Rattle.octets.specs.Control.{leastControl}
 use Rattle.hproto_table.specs.Entry.{Entry}
-use Rattle.hproto_table.specs.declared.Meaning.{Meaning}
 use Rattle.hproto_table.specs.declared.Meaning.the-variants.{Message}
 use Rattle.hproto_message.specs.Tree.{value}
-use Rattle.hproto_message.specs.Reading.{messageFrom}
 use Rattle.hproto_message.specs.Shortest.{field, leastContents}
 use Rattle.hproto_message.proofs.Next.{Plain}
 use Rattle.hproto_field.specs.Fronts.{front}

@@ -1,23 +1,22 @@
 -- What the reading finds at the front of octets, test by test.
-use Prim.Native.Nat.{ℕ, zero, suc, _+_, _-_, _≤_, _<_}
+use Prim.Native.Nat.{ℕ, suc, _+_, _-_, _≤_, _<_}
 use native.Mathlib.Omega.{arith}
 use mathlib.Core.Path.{_≡_, refl, sym, ap, _∙_}
-use mathlib.Core.Bool.{Bool, true, false, cond}
+use mathlib.Core.Bool.{cond}
 use mathlib.Core.List.{List, [], _∷_}
 use lib.ListN.{length, getD, take, drop, length-drop}
 use lib.Seq.{length-take-le}
-use lib.Dec.{eqb, ltb}
-use borrow.Author.Tests.{lt-ltb, le-ltb, eq-eqb, ne-eqb}
+use lib.Dec.{ltb}
+use borrow.Author.Tests.{lt-ltb, le-ltb, ne-eqb}
 use Rattle.octets.specs.Number.{number, unsigned}
 use Rattle.tib_field.specs.Octets.{orZero}
 use Rattle.tib_field.specs.Name.{nameFront}
-use Rattle.tib_field.specs.declared.Front.{Front}
 use Rattle.tib_field.specs.declared.Front.the-variants.{End, Fault as NameFault, Name as Sized}
 use Rattle.tib_field.proofs.Slices.{tail-part, front-part}
 use Rattle.tib_field.proofs.Numbers.{few-octets}
 use Rattle.tib_rv_field.specs.declared.Step.{Step}
-use Rattle.tib_rv_field.specs.declared.Step.the-variants.{Done, Fault, Over, Into}
-use Rattle.tib_rv_field.specs.Reading.{following, own, counted, fromCount, fromSize, fromType, afterName, nextField}
+use Rattle.tib_rv_field.specs.declared.Step.the-variants.{Done, Fault}
+use Rattle.tib_rv_field.specs.Reading.{following, counted, fromCount, fromSize, fromType, afterName, nextField}
 
 pub size-none : (n c : ℕ) (s : List ℕ) → length s ≡ 0 → Fault 3 ≡ fromSize n c s
 unfolding fromSize

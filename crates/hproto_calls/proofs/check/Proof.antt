@@ -1,6 +1,6 @@
 -- `check` reads under the index of a table where that has all its records, else under the loaded table.
 use native.Mathlib.Omega.{arith}
-use mathlib.Core.Path.{sym, _∙_}
+use mathlib.Core.Path.{_∙_}
 use lib.ListN.{replicate}
 use Rattle.hproto_table.specs.declared.Table.{Table}
 use Rattle.hproto_check.specs.Check.{check, refusal}

@@ -1,5 +1,5 @@
 -- `check_loaded` answers the loader's refusal, or what the check answers under the loaded table.
-use mathlib.Core.Path.{sym, _∙_}
+use mathlib.Core.Path.{_∙_}
 use Rattle.hproto_table.specs.declared.Table.{Table}
 use Rattle.hproto_check.specs.Check.{check, refusal}
 use Rattle.hproto_calls.specs.Calls.{checkOctets}

@@ -1,7 +1,7 @@
 -- `shorten` reads under the index of a table where that has all its records, else under the loaded table.
 use Prim.Native.Nat.{ℕ}
 use native.Mathlib.Omega.{arith}
-use mathlib.Core.Path.{sym, _∙_}
+use mathlib.Core.Path.{_∙_}
 use lib.ListN.{replicate}
 use Rattle.hproto_table.specs.declared.Table.{Table}
 use Rattle.hproto_shorten.specs.Shorten.{answer, buffer, refusal}

@@ -1,6 +1,6 @@
 -- `shorten_loaded` answers the loader's refusal, or what the shortener answers under the loaded table.
 use Prim.Native.Nat.{ℕ}
-use mathlib.Core.Path.{sym, _∙_}
+use mathlib.Core.Path.{_∙_}
 use Rattle.hproto_table.specs.declared.Table.{Table}
 use Rattle.hproto_shorten.specs.Shorten.{answer, buffer, refusal}
 use Rattle.hproto_calls.specs.Calls.{shortenOctets, shortenBuffer}

@@ -1,6 +1,5 @@
 -- `hproto_put::copy` meets its contract: at each turn the first octets are stored.
 use Prim.Native.Nat.{_-_}
-use borrow.Author.Needs.{needs}
 use native.Mathlib.Omega.{arith}
 use Rattle.hproto_put.proofs.Turns.{CopiedUp, copy-begun, copy-turn, copy-ended}
 use Rattle.hproto_put.proofs.copy.Statement.{statement}

@@ -1,6 +1,5 @@
 -- `hproto_put::move_back` meets its contract: at each turn the last octets are moved, and those before them are as they were.
 use Prim.Native.Nat.{_-_}
-use borrow.Author.Needs.{needs}
 use native.Mathlib.Omega.{arith}
 use Rattle.hproto_put.proofs.Turns.{MovedDown, move-begun, move-turn, move-ended}
 use Rattle.hproto_put.proofs.move_back.Statement.{statement}

@@ -1,7 +1,7 @@
-use Prim.Native.Nat.{ℕ, suc, _+_, _-_, _%_, _≤_, _<_}
+use Prim.Native.Nat.{ℕ, suc, _+_, _-_, _≤_, _<_}
 use native.Mathlib.Omega.{arith}
 use borrow.Author.Needs.{needs}
-use mathlib.Core.Path.{_≡_, refl, sym, ap, _∙_, subst}
+use mathlib.Core.Path.{_≡_, sym, ap, _∙_, subst}
 use mathlib.Core.List.{List}
 use denote.Ref.{now}
 use lib.ListN.{length, take, drop, length-drop, length-take}
@@ -15,7 +15,7 @@ use Rattle.hproto_index.specs.Slots.{listed}
 use Rattle.hproto_field.specs.Fronts.{front}
 use Rattle.hproto_shorten.specs.Written.{short}
 use Rattle.hproto_shorten.proofs.Passing.{octets-part, leaf-contents}
-use Rattle.hproto_shorten.proofs.Measuring.{Counted, counted-none, counted-all, counted-few, short-few, control-few, next-onward, leaf-counted, nested-accepts, nested-counted}
+use Rattle.hproto_shorten.proofs.Measuring.{Counted, counted-none, counted-all, counted-few, short-few, next-onward, leaf-counted, nested-accepts, nested-counted}
 use borrow.Fn.Kinds.{In}
 use borrow.Fn.PlainCycle.{Measures, is, falls, and}
 use Rattle.hproto_shorten.proofs.measure.Reads as measure

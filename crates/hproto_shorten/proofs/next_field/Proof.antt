@@ -4,7 +4,7 @@ use Prim.Native.Nat.{_/_}
 use mathlib.Core.Path.{refl}
 use denote.Ref.{now}
 use lib.Bits.{bitAnd, mask-lt}
-use lib.ListN.{getD, length, take}
+use lib.ListN.{getD, length}
 use borrow.Author.Tests.{ltb-true}
 use Rattle.hproto_index.specs.Slots.{listed}
 use Rattle.hproto_shorten.proofs.Directs.{direct-front}

@@ -2,7 +2,7 @@ use borrow.Author.Needs.{needs}
 use native.Mathlib.Omega.{arith}
 use mathlib.Core.Path.{sym, ap, _∙_}
 use denote.Ref.{now}
-use lib.ListN.{length, take}
+use lib.ListN.{length}
 use borrow.Author.Tests.{leb-true, leb-false, not-true, not-false}
 use Rattle.hproto_index.specs.Slots.{listed}
 use Rattle.hproto_check.specs.Check.{checkUnder}
@@ -10,7 +10,7 @@ use Rattle.hproto_check.specs.declared.Checked.{Checked}
 use Rattle.hproto_shorten.specs.Written.{short}
 use Rattle.hproto_shorten.specs.Shorten.{refusal, shortUnder, answerUnder, bufferUnder}
 use Rattle.hproto_shorten.proofs.Passing.{octets-each}
-use Rattle.hproto_shorten.proofs.Answers.{passed-accepts, short-under, Answered, refused-first, no-room, shortened}
+use Rattle.hproto_shorten.proofs.Answers.{passed-accepts, short-under, refused-first, no-room, shortened}
 use Rattle.hproto_shorten.proofs.shorten_under.Statement.{statement}
 use Rattle.hproto_shorten.proofs.shorten_under.Tie as tie
 use Rattle.hproto_shorten.proofs.shorten_under.Reads as reads
