@@ -1,16 +1,15 @@
 -- Laws of numbers that stand for themselves or follow in a chosen width, and of their least forms.
-use Prim.Native.Nat.{ℕ, zero, suc, _+_, _*_, _-_, _^_, _≤_, _<_}
-use native.Mathlib.Nat.{lt-of-lt-of-le, suc-add, add-suc, add-zero}
+use Prim.Native.Nat.{ℕ, zero, suc, _+_, _-_, _^_, _≤_, _<_}
 use native.Mathlib.Omega.{arith}
-use mathlib.Core.Path.{_≡_, refl, sym, ap, ap₂, _∙_, subst}
+use mathlib.Core.Path.{_≡_, refl, sym, _∙_, subst}
 use mathlib.Core.Bool.{Bool, true, false, cond}
-use mathlib.Core.List.{List, [], _∷_, _++_}
+use mathlib.Core.List.{List, [], _∷_}
 use lib.ListN.{length, getD}
 use lib.Dec.{ltb}
 use borrow.Author.Tests.{ltb-true, ltb-false, lt-ltb, le-ltb}
 use Rattle.octets.specs.Number.{Octets, number, octetsOf}
 use Rattle.octets.specs.Control.{Code, following, coded, firstFit, leastCode}
-use Rattle.octets.proofs.Number.{number-below, number-octetsOf, octets-octetsOf, length-octetsOf, number-injective, power-grows}
+use Rattle.octets.proofs.Number.{number-below, number-octetsOf, octets-octetsOf, length-octetsOf, number-injective}
 
 -- A lead and the octets after it that stand for a number.
 pub data Form (code : Code) (v : ℕ) : ℕ → List ℕ → Type 0 where

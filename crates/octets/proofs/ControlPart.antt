@@ -2,20 +2,20 @@
 use Prim.Native.Nat.{ℕ, zero, suc, _+_, _*_, _-_, _/_, _%_, _^_, _≤_, _<_}
 use native.Mathlib.Nat.{lt-of-lt-of-le}
 use native.Mathlib.Omega.{arith}
-use mathlib.Core.Path.{_≡_, refl, sym, ap, ap₂, _∙_, subst}
+use mathlib.Core.Path.{_≡_, refl, sym, ap, _∙_, subst}
 use mathlib.Core.Bool.{Bool, true, false, cond}
 use mathlib.Core.List.{List, [], _∷_, _++_, append-assoc, append-nil}
-use lib.ListN.{length, getD, take, drop, length-append, length-take, length-drop, take-append-drop}
+use lib.ListN.{length, getD, take, drop, length-append, length-drop, take-append-drop}
 use lib.Seq.{take-at, drop-at, length-take-le}
 use lib.Arith.{digits-div, digits-mod}
 use lib.Dec.{ltb}
-use borrow.Author.Tests.{ltb-true, ltb-false, lt-ltb, le-ltb}
-use Rattle.octets.specs.Number.{Octets, number, octetsOf}
-use Rattle.octets.specs.Control.{Code, tagCode, lengthCode, following, coded, controlOf, control, firstFit, leastCode, leastControl}
+use borrow.Author.Tests.{ltb-false, le-ltb}
+use Rattle.octets.specs.Number.{Octets}
+use Rattle.octets.specs.Control.{Code, tagCode, lengthCode, following, coded, controlOf, control, leastCode, leastControl}
 use Rattle.octets.specs.declared.Control.{Control}
 use Rattle.octets.specs.declared.Control.the-variants.{Absent, Partial, Whole}
 use Rattle.octets.proofs.Number.{octets-append, octets-before, octets-after, number-below-most}
-use Rattle.octets.proofs.Codes.{Form, direct, follows, form-following, form-coded, form-lead, form-of, Rising, Holds, Least, leastCode-form, leastCode-octets, leastCode-least}
+use Rattle.octets.proofs.Codes.{Form, direct, follows, form-following, form-coded, form-lead, form-of, Rising, Holds, leastCode-form, leastCode-octets, leastCode-least}
 
 -- Octets at whose front a whole control part stands, taken apart.
 pub record Front (s : List ℕ) (tag len size : ℕ) : Type 0 where

@@ -1,20 +1,21 @@
 -- Laws of signed numbers and their least octets.
-use Prim.Native.Nat.{ℕ, zero, suc, _+_, _*_, _-_, _/_, _%_, _^_, _≤_, _<_}
-use native.Mathlib.Nat.{pow-suc, pow-succ', mul-comm, mul-le-mul-right, mul-lt-mul-of-pos-right, mod-eq-of-lt, mod-self, mod-lt, lt-of-lt-of-le, eq-or-lt-of-le}
+use Prim.Native.Nat.{ℕ, zero, suc, _+_, _*_, _-_, _%_, _^_, _≤_, _<_}
+use native.Mathlib.Nat.{pow-suc, mul-comm, one-mul, mul-le-mul-right, mod-eq-of-lt, mod-self, mod-lt, lt-of-lt-of-le, eq-or-lt-of-le}
 use native.Mathlib.Omega.{arith}
 use mathlib.Core.Logic.{⊎-elim}
-use mathlib.Core.Path.{_≡_, refl, sym, ap, ap₂, _∙_}
-use mathlib.Core.Bool.{Bool, true, false, cond}
-use mathlib.Core.List.{List, [], _∷_, _++_}
+use mathlib.Core.Path.{_≡_, refl, sym, ap, _∙_}
+use mathlib.Core.Bool.{Bool, true, false}
+use mathlib.Core.List.{List, [], _∷_}
 use lib.ListN.{length}
 use lib.IntN.{ℤ, pos, negsuc, negℤ}
 use lib.Signed.{mag}
 use lib.Arith.{digits-lt}
 use lib.Pow.{pow-add}
 use lib.Dec.{leb}
-use borrow.Author.Tests.{leb-true, leb-false, le-leb, lt-leb}
+use borrow.Author.Tests.{leb-true, leb-false, le-leb}
+use Rattle.octets.specs.declared.Least.{Least}
 use Rattle.octets.specs.Number.{Octets, number, octetsOf, width, widthWithin}
-use Rattle.octets.specs.Signed.{lowest, withSign, integer, signedWidth, signedBits, leastInt}
+use Rattle.octets.specs.Signed.{lowest, withSign, integer, signed, signedWidth, signedBits, leastInt, intWidthBits}
 use Rattle.octets.proofs.Number.{power-positive, power-grows, number-below, number-octetsOf, octets-octetsOf, length-octetsOf, number-injective, width-least, width-holds}
 use Rattle.octets.proofs.Shorter.{NoShorter, no-shorter-self}
 
@@ -36,6 +37,20 @@ lowest-twice n = rw (lowest-half n, pow-suc 256 n) (omega arith)
 
 lowest-positive : (n : ℕ) → 0 < lowest (suc n)
 lowest-positive n = let h = power-positive n in rw (lowest-half n) (omega arith)
+
+-- The lowest number of at most eight octets.
+pub lowest-bounds : (n : ℕ) → 0 < n → n ≤ 8 → (0 < lowest n) × (lowest n ≤ 2 ^ 63)
+lowest-bounds zero a b = absurd (omega arith)
+lowest-bounds (suc n) a b =
+    let e = lowest-half n in
+    let g = power-grows n 7 (omega arith) in
+    let p = power-positive n in
+    (omega arith, omega arith)
+
+-- What the machine makes of `1 << (8 * n - 1)`.
+pub lowest-is : (n : ℕ) → 0 < n → n ≤ 8 → (1 * 2 ^ (8 * n - 1)) % 2 ^ 64 ≡ lowest n
+unfolding lowest
+lowest-is n a b = let h = lowest-bounds n a b in rw (one-mul (2 ^ (8 * n - 1))) (mod-eq-of-lt (omega arith))
 
 -- Octets whose leftmost bit is clear.
 integer-of-small : (x : ℕ) (s : List ℕ) → number (x ∷ s) < lowest (suc (length s)) → integer (x ∷ s) ≡ pos (number (x ∷ s))
@@ -222,3 +237,13 @@ leastInt-no-shorter (x ∷ s) o h =
         rw (e, b)
         (number-injective (octetsOf n (number (x ∷ s))) (x ∷ s) (octets-octetsOf n (number (x ∷ s))) o
         (length-octetsOf n (number (x ∷ s))) (number-octetsOf n (number (x ∷ s)) (number-below (x ∷ s) o)))
+
+-- Where a field may have as many octets, its signed number is read.
+pub signed-is : (s : List ℕ) → length s ≤ 8 → signed s ≡ integer s
+unfolding signed
+signed-is s h = rw (le-leb (length s) 8 h)
+
+-- The octets of a least form are the least octets.
+pub int-octets : (r : Least) (z : ℤ) → r ≡ intWidthBits z → octetsOf (r .width) (r .bits) ≡ leastInt z
+unfolding intWidthBits leastInt
+int-octets r z e = rw e

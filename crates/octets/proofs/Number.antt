@@ -5,12 +5,13 @@ use native.Mathlib.Omega.{arith}
 use mathlib.Core.Path.{_≡_, refl, sym, ap, ap₂, _∙_}
 use mathlib.Core.Bool.{Bool, true, false, cond}
 use mathlib.Core.List.{List, [], _∷_, _++_}
-use lib.ListN.{length, length-append}
+use lib.ListN.{length, getD, take, drop, length-append, take-append-drop}
 use lib.Arith.{digits-div, digits-mod, mod-mul, digits-lt}
 use lib.Pow.{pow-add}
 use lib.Dec.{leb}
-use borrow.Author.Tests.{leb-true, leb-false}
-use Rattle.octets.specs.Number.{Octets, number, octetsOf, width, widthWithin, leastUint}
+use borrow.Author.Tests.{leb-true, leb-false, le-leb}
+use Rattle.octets.specs.declared.Least.{Least}
+use Rattle.octets.specs.Number.{Octets, number, unsigned, octetsOf, width, widthWithin, leastUint, uintWidthBits}
 
 pub power-positive : (n : ℕ) → 0 < 256 ^ n
 power-positive zero = omega arith
@@ -33,6 +34,18 @@ pub octets-after : (s t : List ℕ) → Octets (s ++ t) → Octets t
 unfolding Octets
 octets-after [] t h = h
 octets-after (x ∷ s) t h = octets-after s t (h .1)
+
+-- The elements of a slice of octets are octets.
+pub octets-of-slice : (s : List ℕ) → ((i : ℕ) → getD s i 0 < 256) → Octets s
+unfolding Octets
+octets-of-slice [] h = tt
+octets-of-slice (x ∷ s) h = (h 0, octets-of-slice s (λ i. h (suc i)))
+
+-- A part of octets that starts anywhere has octets.
+pub octets-part : (n i : ℕ) (s : List ℕ) → Octets s → Octets (take n (drop i s))
+octets-part n i s o =
+    let later = octets-after (take i s) (drop i s) (rw (take-append-drop i s) o) in
+    octets-before (take n (drop i s)) (drop n (drop i s)) (rw (take-append-drop n (drop i s)) later)
 
 pub number-append : (s t : List ℕ) → number (s ++ t) ≡ number s * 256 ^ length t + number t
 unfolding number
@@ -154,3 +167,13 @@ length-leastUint v = length-octetsOf (width v) v
 pub octets-leastUint : (v : ℕ) → Octets (leastUint v)
 unfolding leastUint
 octets-leastUint v = octets-octetsOf (width v) v
+
+-- Where a field may have as many octets, its number is read.
+pub unsigned-is : (s : List ℕ) → length s ≤ 8 → unsigned s ≡ number s
+unfolding unsigned
+unsigned-is s h = rw (le-leb (length s) 8 h)
+
+-- The octets of a least form are the least octets.
+pub uint-octets : (r : Least) (v : ℕ) → r ≡ uintWidthBits v → octetsOf (r .width) (r .bits) ≡ leastUint v
+unfolding uintWidthBits leastUint
+uint-octets r v e = rw e

@@ -3,10 +3,10 @@ use Prim.Native.Nat.{ℕ, _+_, _≤_, _<_}
 use native.Mathlib.Omega.{arith}
 use native.Mathlib.Nat.{eq-or-lt-of-le}
 use mathlib.Core.Logic.{⊎-elim}
-use mathlib.Core.Path.{_≡_, refl, sym, ap, ap₂, _∙_}
-use mathlib.Core.List.{List, [], _∷_, _++_}
+use mathlib.Core.Path.{_≡_, refl, ap₂}
+use mathlib.Core.List.{List, _++_}
 use lib.ListN.{length, length-append}
-use Rattle.octets.specs.Number.{Octets, number, leastUint, width}
+use Rattle.octets.specs.Number.{Octets, number, leastUint}
 use Rattle.octets.proofs.Number.{number-injective, number-below, number-below-most, width-least, length-leastUint, octets-leastUint, number-leastUint}
 
 -- s is at least as long as l, and is l where it is just as long.

@@ -4,8 +4,6 @@ use mathlib.Core.Bool.{cond}
 use mathlib.Core.List.{List, [], _∷_}
 use lib.ListN.{length}
 use lib.Dec.{leb}
-use Rattle.octets.specs.declared.Unsigned.{Unsigned}
-use Rattle.octets.specs.declared.Unsigned.the-variants.{Value, Long}
 use Rattle.octets.specs.declared.Least.{Least}
 
 -- Octets are numbers below 256.
@@ -18,9 +16,9 @@ unfoldable pub number : List ℕ → ℕ
 number [] = 0
 number (x ∷ s) = x * 256 ^ length s + number s
 
--- The unsigned number that octets hold: at most eight.
-unfoldable pub unsigned : List ℕ → Unsigned
-unsigned s = cond (leb (length s) 8) (Value (number s)) Long
+-- The number that at most eight octets hold, 0 for more: no number of any format takes more.
+unfoldable pub unsigned : List ℕ → ℕ
+unsigned s = cond (leb (length s) 8) (number s) 0
 
 -- A number's last n octets.
 unfoldable pub octetsOf : ℕ → ℕ → List ℕ

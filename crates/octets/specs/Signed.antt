@@ -5,8 +5,6 @@ use mathlib.Core.List.{List, [], _∷_}
 use lib.ListN.{length}
 use lib.Dec.{leb}
 use lib.IntN.{ℤ, pos, negsuc, negℤ}
-use Rattle.octets.specs.declared.Signed.{Signed}
-use Rattle.octets.specs.declared.Signed.the-variants.{Value, Long}
 use Rattle.octets.specs.declared.Least.{Least}
 use Rattle.octets.specs.Number.{number, octetsOf, width}
 
@@ -25,9 +23,9 @@ unfoldable pub integer : List ℕ → ℤ
 integer [] = pos 0
 integer (x ∷ s) = withSign (length (x ∷ s)) (leb 128 x) (number (x % 128 ∷ s))
 
--- The same for at most eight octets.
-unfoldable pub signed : List ℕ → Signed
-signed s = cond (leb (length s) 8) (Value (integer s)) Long
+-- The same for at most eight octets, 0 for more: no field of kind int has more.
+unfoldable pub signed : List ℕ → ℤ
+signed s = cond (leb (length s) 8) (integer s) (pos 0)
 
 -- How many octets a signed number needs: none for 0, else a bit for the sign beside the magnitude. One less than the magnitude counts
 -- below zero, since minus `lowest n` takes n octets.

@@ -1,18 +1,6 @@
 // Octets: big-endian numbers, signed numbers, text and control parts. This crate has the definitions (specs/) and the laws about them
 // (proofs/); its only code is the types below, which the definitions and the functions of the crates above share.
 
-// The unsigned number that octets hold, or that they are too long for one.
-pub enum Unsigned {
-    Value(u64),
-    Long,
-}
-
-// The signed number that octets hold, or that they are too long for one.
-pub enum Signed {
-    Value(i64),
-    Long,
-}
-
 // What stands at the front of octets: nothing, the beginning of a control part, or a whole one with its tag, the length that it
 // announces and the number of octets that it takes itself.
 pub enum Control {

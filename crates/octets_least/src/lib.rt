@@ -3,8 +3,7 @@ use octets::Least;
 use octets::LeastControl;
 ghost use mathlib.Core.Path.{_≡_};
 ghost use Prim.Native.Nat.{_<_, _≤_, _^_};
-ghost use lib.IntN.{pos, negsuc};
-ghost use lib.Signed.{_<ℤ_};
+ghost use lib.IntN.{negsuc};
 ghost use Rattle.octets.specs.Number.{uintWidthBits, width as width-of};
 ghost use Rattle.octets.specs.Signed.{intWidthBits, lowest};
 ghost use Rattle.octets.specs.Control.{controlWidths, tagCode, lengthCode};
@@ -59,14 +58,6 @@ fn sign_bit(n: u64) -> u64
     1u64 << (8 * n - 1)
 }
 
-// One less than the magnitude of a number below zero. Unlike the magnitude it is in range for each of them.
-fn under_zero(z: i64) -> u64
-    requires { ⌜ z <ℤ pos 0 ⌝ }
-    ensures { λ r. ⌜ z ≡ negsuc r ⌝ }
-{
-    (-1 - z) as u64
-}
-
 // The least octets of the number below zero whose magnitude is k + 1. The mask drops the magnitude where it is the sign bit itself.
 fn least_below(k: u64) -> Least
     requires { ⌜ k < 2 ^ 63 ⌝ }
@@ -85,7 +76,7 @@ pub fn int_least(z: i64) -> Least
     ensures { λ r. ⌜ r ≡ intWidthBits z ⌝ }
 {
     if z < 0 {
-        return least_below(under_zero(z));
+        return least_below(numbers::below_zero(z));
     }
     let v = z as u64;
     Least {

@@ -1,19 +1,13 @@
 -- Laws for reading a big-endian number octet by octet.
-use Prim.Native.Nat.{ℕ, suc, _+_, _*_, _^_, _≤_, _<_}
+use Prim.Native.Nat.{ℕ, _+_, _*_, _^_, _≤_, _<_}
 use native.Mathlib.Numerals.{add-one}
 use native.Mathlib.Omega.{arith}
 use mathlib.Core.Path.{_≡_, refl, ap, _∙_}
-use mathlib.Core.List.{List, [], _∷_}
+use mathlib.Core.List.{List}
 use lib.ListN.{length, getD, take, drop, take-append-drop}
 use lib.Seq.{take-suc, take-all, length-take-le}
 use Rattle.octets.specs.Number.{Octets, number}
 use Rattle.octets.proofs.Number.{number-snoc, number-below-most, octets-before}
-
--- The elements of a slice of octets are octets.
-pub octets-of-slice : (s : List ℕ) → ((i : ℕ) → getD s i 0 < 256) → Octets s
-unfolding Octets
-octets-of-slice [] h = tt
-octets-of-slice (x ∷ s) h = (h 0, octets-of-slice s (λ i. h (suc i)))
 
 -- No octets hold 0.
 pub none-held : (s : List ℕ) → 0 ≡ number (take 0 s)

@@ -1,6 +1,6 @@
 -- Laws for reading a signed number from its sign and its magnitude.
 use Prim.Native.Nat.{ℕ, zero, suc, _+_, _*_, _-_, _%_, _^_, _≤_, _<_}
-use native.Mathlib.Nat.{mod-eq-of-lt, one-mul, pow-suc, zero-add}
+use native.Mathlib.Nat.{mod-eq-of-lt, pow-suc, zero-add}
 use native.Mathlib.Omega.{arith}
 use mathlib.Core.Path.{_≡_, refl, ap, _∙_}
 use mathlib.Core.Bool.{true}
@@ -14,18 +14,8 @@ use mir.ValLaws.{toZ-ofZ, toZ-pos}
 use borrow.Author.Tests.{le-leb, lt-leb}
 use Rattle.octets.specs.Number.{Octets, number}
 use Rattle.octets.specs.Signed.{lowest, withSign, integer, signed}
-use Rattle.octets.specs.declared.Signed.the-variants.{Value, Long}
-use Rattle.octets.proofs.Number.{number-below, power-grows, power-positive}
+use Rattle.octets.proofs.Number.{number-below, power-grows}
 use Rattle.octets.proofs.Integer.{lowest-half}
-
--- The lowest number of at most eight octets.
-pub lowest-bounds : (n : ℕ) → 0 < n → n ≤ 8 → (0 < lowest n) × (lowest n ≤ 2 ^ 63)
-lowest-bounds zero a b = absurd (omega arith)
-lowest-bounds (suc n) a b =
-    let e = lowest-half n in
-    let g = power-grows n 7 (omega arith) in
-    let p = power-positive n in
-    (omega arith, omega arith)
 
 -- A number whose leftmost bit is clear.
 pub clear-bound : (s : List ℕ) → Octets s → 0 < length s → length s ≤ 8 → getD s 0 0 < 128 → number s < 2 ^ 63
@@ -56,16 +46,16 @@ set-bounds (x ∷ s) o a h =
     let b = rw (pow-suc 256 (length s)) at (number-below (x ∷ s) o) in
     (omega arith, omega arith)
 
-pub signed-long : (s : List ℕ) → 8 < length s → Long ≡ signed s
+pub signed-long : (s : List ℕ) → 8 < length s → pos 0 ≡ signed s
 unfolding signed
 signed-long s h = rw (lt-leb (length s) 8 h)
 
-pub signed-none : (s : List ℕ) → length s ≡ 0 → Value (pos 0) ≡ signed s
+pub signed-none : (s : List ℕ) → length s ≡ 0 → pos 0 ≡ signed s
 unfolding signed integer
 signed-none [] h = refl
 signed-none (x ∷ s) h = absurd (omega arith)
 
-pub signed-clear : (s : List ℕ) → 0 < length s → length s ≤ 8 → getD s 0 0 < 128 → Value (pos (number s)) ≡ signed s
+pub signed-clear : (s : List ℕ) → 0 < length s → length s ≤ 8 → getD s 0 0 < 128 → pos (number s) ≡ signed s
 unfolding signed integer withSign
 signed-clear [] a b h = absurd (omega arith)
 signed-clear (x ∷ s) a b h = rw (le-leb (length (x ∷ s)) 8 b, lt-leb 128 x h, mod-eq-of-lt h)
@@ -85,26 +75,21 @@ set-rest : (x : ℕ) (s : List ℕ) → x < 256 → 128 ≤ x → number (x ∷ 
 set-rest x s b h = let e = set-splits x s b h in omega arith
 
 signed-set : (x : ℕ) (s : List ℕ) → x < 256 → 128 ≤ x → length (x ∷ s) ≤ 8
-    → Value (withSign (length (x ∷ s)) true (number (x ∷ s) - lowest (length (x ∷ s)))) ≡ signed (x ∷ s)
+    → withSign (length (x ∷ s)) true (number (x ∷ s) - lowest (length (x ∷ s))) ≡ signed (x ∷ s)
 unfolding signed integer
 signed-set x s b h l = rw (le-leb (length (x ∷ s)) 8 l, le-leb 128 x h, set-rest x s b h)
 
 pub signed-lowest : (s : List ℕ) → Octets s → 0 < length s → length s ≤ 8 → 128 ≤ getD s 0 0 → number s - lowest (length s) ≡ 0
-    → Value (negℤ (pos (lowest (length s)))) ≡ signed s
+    → negℤ (pos (lowest (length s))) ≡ signed s
 unfolding Octets
 signed-lowest [] o a b h z = absurd (omega arith)
-signed-lowest (x ∷ s) o a b h z = ap Value (with-none (length (x ∷ s)) _ z) ∙ signed-set x s (o .0) h b
+signed-lowest (x ∷ s) o a b h z = with-none (length (x ∷ s)) _ z ∙ signed-set x s (o .0) h b
 
 pub signed-minus : (s : List ℕ) → Octets s → 0 < length s → length s ≤ 8 → 128 ≤ getD s 0 0 → (number s - lowest (length s) ≡ 0 → ⊥)
-    → Value (negℤ (pos (number s - lowest (length s)))) ≡ signed s
+    → negℤ (pos (number s - lowest (length s))) ≡ signed s
 unfolding Octets
 signed-minus [] o a b h z = absurd (omega arith)
-signed-minus (x ∷ s) o a b h z = ap Value (with-some (length (x ∷ s)) _ z) ∙ signed-set x s (o .0) h b
-
--- What the machine makes of `1 << (8 * n - 1)`.
-pub lowest-is : (n : ℕ) → 0 < n → n ≤ 8 → (1 * 2 ^ (8 * n - 1)) % 2 ^ 64 ≡ lowest n
-unfolding lowest
-lowest-is n a b = let h = lowest-bounds n a b in rw (one-mul (2 ^ (8 * n - 1))) (mod-eq-of-lt (omega arith))
+signed-minus (x ∷ s) o a b h z = with-some (length (x ∷ s)) _ z ∙ signed-set x s (o .0) h b
 
 -- What the machine makes of `-1 - d` with d one less than k.
 minus-step : (j : ℕ) → negsuc 0 -ℤ pos j ≡ negsuc j

@@ -1,28 +1,13 @@
-// Reading octets: numbers, signed numbers, text and control parts. Each public function takes every slice and answers what one
-// definition of octets says of it.
+// Reading octets: numbers, signed numbers and control parts. Each public function takes every slice and answers what one definition of
+// octets says of it.
 use octets::Control;
-use octets::Signed;
-use octets::Unsigned;
 ghost use mathlib.Core.Path.{_≡_};
-ghost use mathlib.Core.Bool.{cond, false};
-ghost use mathlib.Core.List.{List, _∷_};
-ghost use Prim.Native.Nat.{ℕ, _+_, _<_, _≤_, _^_};
-ghost use lib.Dec.{ltb};
-ghost use lib.ListN.{length, take, drop};
+ghost use Prim.Native.Nat.{_+_, _<_, _≤_, _^_};
+ghost use lib.ListN.{length, take};
 ghost use lib.IntN.{pos, negℤ};
 ghost use Rattle.octets.specs.Number.{number, unsigned};
 ghost use Rattle.octets.specs.Signed.{signed, lowest};
-ghost use Rattle.octets.specs.Text.{text as text-of, textAfter};
 ghost use Rattle.octets.specs.Control.{control as control-of, controlOf, following, coded, tagCode, lengthCode};
-ghost use Rattle.octets_read.specs.Last.{toCome};
-ghost use Rattle.octets_read.specs.Group.{follow, groupSize};
-
-// An octet as a number. As a function it spares each caller the proof that the octet fits.
-fn wide(x: u8) -> u64
-    ensures { λ r. ⌜ r ≡ x ⌝ }
-{
-    x as u64
-}
 
 // The number that the octet at i and those before it hold, where v is what those before it hold. More than eight octets could hold one
 // too large for the result.
@@ -31,7 +16,7 @@ fn one_more(s: &[u8], i: usize, v: u64) -> u64
     requires { ⌜ v ≡ number (take i (now s)) ⌝ }
     ensures { λ r. ⌜ r ≡ number (take (i + 1) (now (s .entry))) ⌝ }
 {
-    v * 256 + wide(s[i])
+    v * 256 + numbers::wide(s[i])
 }
 
 // The number that a few octets hold.
@@ -48,15 +33,11 @@ fn big_endian(s: &[u8]) -> u64
     v
 }
 
-// The unsigned number that octets hold, or that they are more than eight.
-pub fn uint(s: &[u8]) -> Unsigned
+// The unsigned number that at most eight octets hold, 0 for more.
+pub fn uint(s: &[u8]) -> u64
     ensures { λ r. ⌜ r ≡ unsigned (now (s .entry)) ⌝ }
 {
-    if s.len() <= 8 {
-        Unsigned::Value(big_endian(s))
-    } else {
-        Unsigned::Long
-    }
+    if s.len() <= 8 { big_endian(s) } else { 0 }
 }
 
 // Minus k. The step by one keeps each number on the way within range where k is the largest magnitude.
@@ -76,194 +57,25 @@ fn sign_bit(n: usize) -> u64
     1u64 << (8 * n - 1)
 }
 
-// The signed number that octets hold, or that they are more than eight. With the sign set, a magnitude of 0 stands for the lowest
-// number: there is no minus zero.
-pub fn int(s: &[u8]) -> Signed
+// The signed number that at most eight octets hold, 0 for more. With the sign set, a magnitude of 0 stands for the lowest number:
+// there is no minus zero.
+pub fn int(s: &[u8]) -> i64
     ensures { λ r. ⌜ r ≡ signed (now (s .entry)) ⌝ }
 {
     let n = s.len();
     if n > 8 {
-        return Signed::Long;
+        return 0;
     }
     if n == 0 {
-        return Signed::Value(0);
+        return 0;
     }
     let v = big_endian(s);
     if s[0] < 128 {
-        return Signed::Value(v as i64);
+        return v as i64;
     }
     let low = sign_bit(n);
     let m = v - low;
-    if m == 0 {
-        Signed::Value(minus(low))
-    } else {
-        Signed::Value(minus(m))
-    }
-}
-
-// A number of octets at the front that all stand alone, eight at once. In most texts every octet does, and one by one takes longer.
-fn plain_front(s: &[u8]) -> usize
-    ensures { λ r. ⌜ r ≤ length (now (s .entry)) ⌝ }
-    ensures { λ r. ⌜ text-of (now (s .entry)) ≡ textAfter 0 (drop r (now (s .entry))) ⌝ }
-{
-    let mut i = 0;
-    while 8 <= s.len() - i {
-        let a = s[i] | s[i + 1] | s[i + 2] | s[i + 3];
-        let b = s[i + 4] | s[i + 5] | s[i + 6] | s[i + 7];
-        if 0x80 <= (a | b) {
-            return i;
-        }
-        i += 8;
-    }
-    i
-}
-
-// All octets at the front that stand alone. A short text mostly ends here.
-fn plain_run(s: &[u8]) -> usize
-    ensures { λ r. ⌜ r ≤ length (now (s .entry)) ⌝ }
-    ensures { λ r. ⌜ text-of (now (s .entry)) ≡ textAfter 0 (drop r (now (s .entry))) ⌝ }
-{
-    let mut i = plain_front(s);
-    while i < s.len() {
-        if 0x80 <= s[i] {
-            return i;
-        }
-        i += 1;
-    }
-    i
-}
-
-// Whether the last three octets, of which c is the last, want more octets: one of them leads a group that reaches past c.
-fn wanting(a: u8, b: u8, c: u8) -> bool
-    ensures { λ r. ⌜ r ≡ ltb 0 (toCome a b c) ⌝ }
-{
-    (0xc0 <= c) | (0xe0 <= b) | (0xf0 <= a)
-}
-
-// Whether x cannot stand after these three octets.
-fn wrong(a: u8, b: u8, c: u8, x: u8) -> bool
-    ensures { λ r. ⌜ ((s : List ℕ) → textAfter (toCome a b c) (x ∷ s) ≡ cond r false (textAfter (toCome b c x) s)) ⌝ }
-{
-    let follows = (0x80 <= x) & (x < 0xc0);
-    (wanting(a, b, c) ^ follows) | (0xf8 <= x)
-}
-
-// Whether octets are text, of which those before `from` are whole groups. Each octet is judged by the three before it alone, and no
-// turn leaves the loop, so that the machine can take many octets at once.
-fn long_text(s: &[u8], from: usize) -> bool
-    requires { ⌜ from ≤ length (now s) ⌝ }
-    requires { ⌜ text-of (now s) ≡ textAfter 0 (drop from (now s)) ⌝ }
-    ensures { λ r. ⌜ r ≡ text-of (now (s .entry)) ⌝ }
-{
-    let mut i = from;
-    let mut a: u8 = 0;
-    let mut b: u8 = 0;
-    let mut c: u8 = 0;
-    let mut bad = false;
-    while i < s.len() {
-        let x = s[i];
-        bad = bad | wrong(a, b, c, x);
-        a = b;
-        b = c;
-        c = x;
-        i += 1;
-    }
-    !(bad | wanting(a, b, c))
-}
-
-// Whether an octet that follows a lead stands at i.
-fn one_follows(s: &[u8], i: usize) -> bool
-    ensures { λ r. ⌜ r ≡ follow 1 (drop i (now (s .entry))) ⌝ }
-{
-    if s.len() <= i {
-        return false;
-    }
-    let x = s[i];
-    (0x80 <= x) & (x < 0xc0)
-}
-
-// Whether two such octets stand at i and after it.
-fn two_follow(s: &[u8], i: usize) -> bool
-    ensures { λ r. ⌜ r ≡ follow 2 (drop i (now (s .entry))) ⌝ }
-{
-    if one_follows(s, i) {
-        return one_follows(s, i + 1);
-    }
-    false
-}
-
-// Whether three such octets stand at i and after it.
-fn three_follow(s: &[u8], i: usize) -> bool
-    ensures { λ r. ⌜ r ≡ follow 3 (drop i (now (s .entry))) ⌝ }
-{
-    if one_follows(s, i) {
-        return two_follow(s, i + 1);
-    }
-    false
-}
-
-// How many octets the group at i has, 0 where none stands there.
-fn group(s: &[u8], i: usize) -> usize
-    requires { ⌜ i < length (now s) ⌝ }
-    ensures { λ r. ⌜ r ≡ groupSize (drop i (now (s .entry))) ⌝ }
-{
-    let x = s[i];
-    if x < 0x80 {
-        return 1;
-    }
-    if x < 0xc0 {
-        return 0;
-    }
-    if x < 0xe0 {
-        if one_follows(s, i + 1) {
-            return 2;
-        }
-        return 0;
-    }
-    if x < 0xf0 {
-        if two_follow(s, i + 1) {
-            return 3;
-        }
-        return 0;
-    }
-    if 0xf8 <= x {
-        return 0;
-    }
-    if three_follow(s, i + 1) {
-        return 4;
-    }
-    0
-}
-
-// The same as `long_text`, group by group, which takes fewer steps where few octets are left.
-fn short_text(s: &[u8], from: usize) -> bool
-    requires { ⌜ from ≤ length (now s) ⌝ }
-    requires { ⌜ text-of (now s) ≡ textAfter 0 (drop from (now s)) ⌝ }
-    ensures { λ r. ⌜ r ≡ text-of (now (s .entry)) ⌝ }
-{
-    let mut i = from;
-    while i < s.len() {
-        let n = group(s, i);
-        if n == 0 {
-            return false;
-        }
-        i += n;
-    }
-    true
-}
-
-// Whether octets are text. Where each octet stands alone, nothing is left to read after the first run.
-pub fn text(s: &[u8]) -> bool
-    ensures { λ r. ⌜ r ≡ text-of (now (s .entry)) ⌝ }
-{
-    let i = plain_run(s);
-    if i == s.len() {
-        return true;
-    }
-    if s.len() - i < 64 {
-        return short_text(s, i);
-    }
-    long_text(s, i)
+    if m == 0 { minus(low) } else { minus(m) }
 }
 
 // How many octets of a tag follow its lead: one after 14, two after 15.
@@ -366,8 +178,8 @@ pub fn control(s: &[u8]) -> Control
         return Control::Absent;
     }
     let c = s[0];
-    let t = wide(c >> 4);
-    let l = wide(c & 15);
+    let t = numbers::wide(c >> 4);
+    let l = numbers::wide(c & 15);
     if t < 14 && l < 12 {
         return Control::Whole {
             tag: t,

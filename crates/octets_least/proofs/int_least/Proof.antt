@@ -1,26 +1,26 @@
 -- `octets_least::int_least` meets its contract.
 use mathlib.Core.Path.{_≡_, sym, ap, _∙_}
 use lib.IntN.{negsuc}
-use mir.Syntax.{w64}
-use mir.ValLaws.{toZ-ofZ}
 use Rattle.octets.specs.Signed.{intWidthBits}
-use Rattle.octets_least.proofs.Signs.{from-zero, above-is}
+use Rattle.numbers.proofs.Signs.{below-zero-is, from-zero}
+use Rattle.octets_least.proofs.Signs.{above-is}
 use borrow.Author.Needs.{needs}
 use Rattle.octets_least.proofs.int_least.Statement.{statement}
 use Rattle.octets_least.proofs.int_least.Tie as tie
 
--- what the machine reads back from the bits of z is z
-under : (c : tie.After-under-zero) → c .before .before .args .z ≡ negsuc (c .under-zero .result)
-under c = sym (toZ-ofZ w64 (c .before .before .args .z) (c .before .before .fits .z)) ∙ c .under-zero .ensures
+-- A number below zero is the one that stands that far below.
+below : (c : tie.After-below-zero) → c .before .before .args .z ≡ negsuc (c .below-zero .result)
+below c =
+    below-zero-is (c .before .before .args .z) (c .below-zero .result) (c .before .before .fits .z) (c .before .if1 .taken) (c .below-zero .ensures)
 
-under-zero-requires : tie.Need-under-zero-requires
-under-zero-requires c κs = search needs
+below-zero-requires : tie.Need-below-zero-requires
+below-zero-requires c κs = search needs
 
 least-below-requires : tie.Need-least-below-requires
-least-below-requires c κs = (rw (under c) at (c .before .before .fits .z)) .sfits
+least-below-requires c κs = (rw (below c) at (c .before .before .fits .z)) .sfits
 
 returns : tie.Need-returns
-returns c = c .least-below .ensures ∙ ap intWidthBits (sym (under (c .before)))
+returns c = c .least-below .ensures ∙ ap intWidthBits (sym (below (c .before)))
 
 cast-v : tie.Need-cast-v
 cast-v c = from-zero (c .before .args .z) (c .before .fits .z) (c .if1 .left) .cast
@@ -40,7 +40,7 @@ pub int-least-spec : {M : Type 1} → statement M
 int-least-spec =
     tie.close
     (tie.spec
-    under-zero-requires
+    below-zero-requires
     least-below-requires
     returns
     cast-v

@@ -1,14 +1,14 @@
 -- `octets_read::int` meets its contract.
-use mathlib.Core.Path.{ap, _∙_}
+use mathlib.Core.Path.{_∙_}
 use Prim.Native.Nat.{_<_}
 use lib.ListN.{length}
 use mir.Syntax.{w64}
 use mir.ValLaws.{toZ-ofZ, toZ-pos}
 use Rattle.octets.specs.Number.{Octets}
-use Rattle.octets.specs.declared.Signed.the-variants.{Value}
+use Rattle.octets.proofs.Integer.{lowest-bounds}
 use native.Mathlib.Omega.{arith}
-use Rattle.octets_read.proofs.Numbers.{octets-of-slice}
-use Rattle.octets_read.proofs.Signs.{lowest-bounds, clear-bound, set-bounds, signed-long, signed-none, signed-clear, signed-lowest, signed-minus}
+use Rattle.octets.proofs.Number.{octets-of-slice}
+use Rattle.octets_read.proofs.Signs.{clear-bound, set-bounds, signed-long, signed-none, signed-clear, signed-lowest, signed-minus}
 use borrow.Author.Needs.{needs}
 use Rattle.octets_read.proofs.int.Statement.{statement}
 use Rattle.octets_read.proofs.int.Tie as tie
@@ -31,8 +31,8 @@ big-endian-requires c κs = search needs
 shared-slice-read-if3 : tie.Need-shared-slice-read-if3
 shared-slice-read-if3 c = search needs
 
-cast-t9 : tie.Need-cast-t9
-cast-t9 c =
+cast-result : tie.Need-cast-result
+cast-result c =
     let k = c .before .before .before in
     let s = k .before .before .before .args .s .now in
     rw (c .before .before .big-endian .ensures)
@@ -42,7 +42,7 @@ returns-3 : tie.Need-returns-3
 returns-3 c =
     let k = c .before .before .before in
     let s = k .before .before .before .args .s .now in
-    ap Value (toZ-pos w64 _ (cast-t9 c .sfits)) ∙ rw (c .before .before .big-endian .ensures)
+    toZ-pos w64 _ (cast-result c .sfits) ∙ rw (c .before .before .big-endian .ensures)
     (signed-clear s (nonempty k) (k .before .if1 .left) (c .if3 .taken))
 
 sign-bit-requires : tie.Need-sign-bit-requires
@@ -75,7 +75,7 @@ returns-4 c =
     let k = a .before .before .before .before in
     let s = k .before .before .before .args .s .now in
     let z = rw (a .before .before .before .big-endian .ensures, a .sign-bit .ensures) at (c .before .if4 .taken) in
-    ap Value (toZ-ofZ w64 (c .minus .result) (record { sfits = c .minus .ok }) ∙ c .minus .ensures)
+    toZ-ofZ w64 (c .minus .result) (record { sfits = c .minus .ok }) ∙ c .minus .ensures
     ∙ rw (a .sign-bit .ensures) (signed-lowest s (octets (k .before .before)) (nonempty k) (k .before .if1 .left) (a .before .if3 .left) z)
 
 returns-5 : tie.Need-returns-5
@@ -84,7 +84,7 @@ returns-5 c =
     let k = a .before .before .before .before in
     let s = k .before .before .before .args .s .now in
     let z = rw (a .before .before .before .big-endian .ensures, a .sign-bit .ensures) at (c .before .if4 .left) in
-    ap Value (toZ-ofZ w64 (c .minus2 .result) (record { sfits = c .minus2 .ok }) ∙ c .minus2 .ensures)
+    toZ-ofZ w64 (c .minus2 .result) (record { sfits = c .minus2 .ok }) ∙ c .minus2 .ensures
     ∙ rw (a .before .before .before .big-endian .ensures, a .sign-bit .ensures)
     (signed-minus s (octets (k .before .before)) (nonempty k) (k .before .if1 .left) (a .before .if3 .left) z)
 
@@ -96,7 +96,7 @@ int-spec =
     returns-2
     big-endian-requires
     shared-slice-read-if3
-    cast-t9
+    cast-result
     returns-3
     sign-bit-requires
     sub-m

@@ -2,7 +2,8 @@
 use Prim.Native.Nat.{_+_, _*_, _^_, _<_}
 use native.Mathlib.Omega.{arith}
 use borrow.Author.Needs.{needs}
-use Rattle.octets_read.proofs.Numbers.{octets-of-slice, room, next-held}
+use Rattle.octets.proofs.Number.{octets-of-slice}
+use Rattle.octets_read.proofs.Numbers.{room, next-held}
 use Rattle.octets_read.proofs.one_more.Statement.{statement}
 use Rattle.octets_read.proofs.one_more.Tie as tie
 

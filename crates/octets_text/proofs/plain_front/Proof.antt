@@ -1,0 +1,113 @@
+-- `octets_text::plain_front` meets its contract: the octets passed stand alone, so that the rest decides.
+use Prim.Native.Nat.{_-_}
+use borrow.Author.Needs.{needs}
+use native.Mathlib.Omega.{arith}
+use lib.ListN.{length}
+use Rattle.octets_text.proofs.Groups.{Here, start, eight-plain}
+use Rattle.octets_text.proofs.plain_front.Statement.{statement}
+use Rattle.octets_text.proofs.plain_front.Tie as tie
+
+abbrev Inv-loop : tie.InvT-loop
+Inv-loop s i₀ i = Here s i
+
+abbrev μ-loop : tie.MeasureT-loop
+μ-loop s i₀ i = length s - i
+
+loop-holds : tie.Need-loop-holds Inv-loop μ-loop
+loop-holds c = start (c .args .s .now)
+
+sub-loop : tie.Need-sub-loop Inv-loop μ-loop
+sub-loop c = search needs
+
+shared-slice-read-a : tie.Need-shared-slice-read-a Inv-loop μ-loop
+shared-slice-read-a c = search needs
+
+add-a : tie.Need-add-a Inv-loop μ-loop
+add-a c = search needs
+
+shared-slice-read-a-2 : tie.Need-shared-slice-read-a-2 Inv-loop μ-loop
+shared-slice-read-a-2 c = search needs
+
+add-a-2 : tie.Need-add-a-2 Inv-loop μ-loop
+add-a-2 c = search needs
+
+shared-slice-read-a-3 : tie.Need-shared-slice-read-a-3 Inv-loop μ-loop
+shared-slice-read-a-3 c = search needs
+
+add-a-3 : tie.Need-add-a-3 Inv-loop μ-loop
+add-a-3 c = search needs
+
+shared-slice-read-a-4 : tie.Need-shared-slice-read-a-4 Inv-loop μ-loop
+shared-slice-read-a-4 c = search needs
+
+add-b : tie.Need-add-b Inv-loop μ-loop
+add-b c = search needs
+
+shared-slice-read-b : tie.Need-shared-slice-read-b Inv-loop μ-loop
+shared-slice-read-b c = search needs
+
+add-b-2 : tie.Need-add-b-2 Inv-loop μ-loop
+add-b-2 c = search needs
+
+shared-slice-read-b-2 : tie.Need-shared-slice-read-b-2 Inv-loop μ-loop
+shared-slice-read-b-2 c = search needs
+
+add-b-3 : tie.Need-add-b-3 Inv-loop μ-loop
+add-b-3 c = search needs
+
+shared-slice-read-b-3 : tie.Need-shared-slice-read-b-3 Inv-loop μ-loop
+shared-slice-read-b-3 c = search needs
+
+add-b-4 : tie.Need-add-b-4 Inv-loop μ-loop
+add-b-4 c = search needs
+
+shared-slice-read-b-4 : tie.Need-shared-slice-read-b-4 Inv-loop μ-loop
+shared-slice-read-b-4 c = search needs
+
+returns : tie.Need-returns Inv-loop μ-loop
+returns c =
+    let b = c .before .before .before .before .before .before .before .before .before .before in
+    (b .loop .inv .inside, b .loop .inv .same)
+
+add-i : tie.Need-add-i Inv-loop μ-loop
+add-i c = search needs
+
+loop-less : tie.Need-loop-less Inv-loop μ-loop
+loop-less c = omega arith
+
+loop-again : tie.Need-loop-again Inv-loop μ-loop
+loop-again c =
+    let b = c .before .before .before .before .before .before .before .before .before in
+    eight-plain (b .before .before .args .s .now) (b .before .loop .i) (b .before .loop .inv) (b .loop-test .taken) (c .if1 .left)
+
+returns-2 : tie.Need-returns-2 Inv-loop μ-loop
+returns-2 c = (c .before .loop .inv .inside, c .before .loop .inv .same)
+
+pub plain-front-spec : {M : Type 1} → statement M
+plain-front-spec =
+    tie.close
+    (tie.spec
+    Inv-loop
+    μ-loop
+    loop-holds
+    sub-loop
+    shared-slice-read-a
+    add-a
+    shared-slice-read-a-2
+    add-a-2
+    shared-slice-read-a-3
+    add-a-3
+    shared-slice-read-a-4
+    add-b
+    shared-slice-read-b
+    add-b-2
+    shared-slice-read-b-2
+    add-b-3
+    shared-slice-read-b-3
+    add-b-4
+    shared-slice-read-b-4
+    returns
+    add-i
+    loop-less
+    loop-again
+    returns-2)
