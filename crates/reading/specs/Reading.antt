@@ -1,0 +1,26 @@
+-- What reading a message of any format comes to.
+use Prim.Native.Nat.{ℕ}
+use mathlib.Core.Path.{_≡_}
+
+-- The limit of a message, in octets (document 01, Limits).
+abbrev pub messageLimit : ℕ
+messageLimit = 65536
+
+-- A message that is accepted is divided into its fields; A is what the format's divisions are. Any other has a refusal's number and place.
+pub data Reading (A : Type 0) : Type 0 where
+  accepted : A → Reading A
+  refused : ℕ → ℕ → Reading A
+
+-- A reading with something done to its division.
+unfoldable pub onAccepted : {A B : Type 0} → (A → B) → Reading A → Reading B
+onAccepted f (accepted x) = accepted (f x)
+onAccepted f (refused number place) = refused number place
+
+-- Two readings, one after the other: the first refusal decides.
+unfoldable pub inOrder : {A B C : Type 0} → (A → B → C) → Reading A → Reading B → Reading C
+inOrder f (accepted x) later = onAccepted (f x) later
+inOrder f (refused number place) later = refused number place
+
+-- A reading that accepts.
+unfoldable pub IsAccepted : {A : Type 0} → Reading A → Type 0
+IsAccepted {A} r = (x : A) × (r ≡ accepted x)
