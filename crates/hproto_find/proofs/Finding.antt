@@ -2,7 +2,7 @@
 use Prim.Native.Nat.{ℕ, suc, _+_, _*_, _/_, _%_, _^_, _≤_, _<_, min}
 use native.Mathlib.Omega.{arith}
 use mathlib.Core.Path.{_≡_, refl, sym, _∙_}
-use mathlib.Core.Bool.{Bool, true, false, _&&_}
+use mathlib.Core.Bool.{Bool, true, false, _&&_, and-false}
 use mathlib.Core.List.{List, [], _∷_, map}
 use lib.ListN.{length, take, drop, getD, length-take}
 use lib.Seq.{getD-take}
@@ -66,11 +66,7 @@ fits-not number tag w d = go (eqb (w / 4294967296) number) refl (eqb (w / 65536 
 
 fits-tag : (number tag w : ℕ) → 65535 < tag → fits number tag w ≡ false
 unfolding fits entry
-fits-tag number tag w h = fits-off (eqb (w / 4294967296) number) (ne-eqb (w / 65536 % 65536) tag (λ e. omega arith))
-  where
-    fits-off : (a : Bool) {b : Bool} → b ≡ false → a && b ≡ false
-    fits-off true e = e
-    fits-off false e = refl
+fits-tag number tag w h = rw (ne-eqb (w / 65536 % 65536) tag (λ e. omega arith)) (and-false (eqb (w / 4294967296) number))
 
 fits-number : (number tag w : ℕ) → 4294967295 < number → w < 2 ^ 64 → fits number tag w ≡ false
 unfolding fits entry

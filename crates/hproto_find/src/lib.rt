@@ -2,8 +2,7 @@
 use hproto_table::Meaning;
 ghost use mathlib.Core.Path.{_≡_};
 ghost use mathlib.Core.List.{map};
-ghost use Prim.Native.Nat.{_+_, _*_, _≤_, _<_, min};
-ghost use lib.ListN.{length, take};
+ghost use lib.ListN.{take};
 ghost use Rattle.hproto_table.specs.Entry.{entry, find as find-of, kindNumber, meaning as meaning-of};
 
 // What the entry in a word means.
@@ -21,17 +20,11 @@ pub fn meaning(w: u64) -> Meaning
     }
 }
 
-fn least(a: usize, b: usize) -> usize
-    ensures { λ r. ⌜ r ≡ min a b ⌝ }
-{
-    if a < b { a } else { b }
-}
-
 // The first words of a table.
 pub fn first(words: &[u64], count: usize) -> &[u64]
     ensures { λ r. ⌜ now r ≡ take count (now (words .entry)) ⌝ }
 {
-    let n = least(count, words.len());
+    let n = numbers::smaller(count, words.len());
     &words[0..n]
 }
 
@@ -47,7 +40,7 @@ pub fn find(words: &[u64], count: usize, number: u64, tag: u64) -> Meaning
         return Meaning::Raw;
     }
     let key = number * 65536 + tag;
-    let n = least(count, words.len());
+    let n = numbers::smaller(count, words.len());
     let mut i = 0;
     while i < n {
         let w = words[i];

@@ -3,29 +3,28 @@ use Prim.Native.Nat.{ℕ, zero, suc, _+_, _*_, _-_, _/_, _%_, _≤_, _<_}
 use native.Mathlib.Numerals.{add-one}
 use native.Mathlib.Omega.{arith}
 use mathlib.Core.Path.{_≡_, refl, sym, _∙_, subst}
-use mathlib.Core.Bool.{Bool, true, false, cond, _&&_}
+use mathlib.Core.Bool.{Bool, true, false, cond, _&&_, true≢false}
 use mathlib.Core.List.{List, [], _∷_, _++_, map}
-use lib.ListN.{length, take, drop, getD, replicate}
+use lib.ListN.{length, take, getD, replicate}
 use lib.Seq.{take-length}
-use lib.Dec.{eqb, leb, ltb}
+use lib.Dec.{eqb, ltb}
 use borrow.Author.Tests.{ltb-true, lt-ltb, eqb-true, eqb-false}
 use Rattle.octets.specs.Number.{number}
 use Rattle.hproto_table.specs.Entry.{entry, entries, find, meaning}
-use Rattle.hproto_table.specs.Load.{inRange, recordAt, wordAt, sound, wordsBefore, accepted, load}
+use Rattle.hproto_table.specs.Load.{inRange, recordAt, wordAt, wellFormed, wordsBefore, accepted, load}
 use Rattle.hproto_table.specs.Repeat.{distinct, firstRepeat}
-use Rattle.hproto_table.specs.Valid.{allInRange, allZero, valid}
+use Rattle.hproto_table.specs.Valid.{allInRange, valid}
 use Rattle.hproto_table.specs.declared.Table.{Table}
 use Rattle.hproto_table.specs.declared.Meaning.the-variants.{Raw}
 use Rattle.hproto_table.proofs.Bools.{and-left, and-right}
 use Rattle.hproto_table.proofs.Lists.{take-more}
-use Rattle.hproto_table.proofs.Load.{length-words, load-whole}
+use Rattle.hproto_table.proofs.Load.{length-words, load-whole, wellFormed-range}
 use Rattle.hproto_table.proofs.Repeat.{distinct-is}
 use Rattle.hproto_table.proofs.Records.{loaded-entries}
-use Rattle.hproto_table.proofs.Valid.{distinct-snoc}
-use Rattle.hproto_table.proofs.SameFinds.{SameFinds}
+use Rattle.hproto_table.proofs.Valid.{distinct-snoc, range-at, parts}
+use Rattle.hproto_table.specs.SameFinds.{SameFinds}
 use Rattle.hproto_find.proofs.Finding.{fits}
 use Rattle.hproto_index.specs.Slots.{hasSlot, small, slotOf, free, notedBefore, taken, takenFrom, listed}
-use Rattle.hproto_index.proofs.Noting.{true-false}
 use Rattle.hproto_index.proofs.Finding.{listed-slot, listed-rest}
 use Rattle.hproto_index.proofs.Showing.{code-finds, wordsOf, shown, Shows, shows, free-unseen}
 
@@ -45,8 +44,8 @@ module _ (slots ws rest : List ℕ) (shown : Shows slots ws) where
 
       go : (a : Bool) → ltb n 16 ≡ a → (b : Bool) → ltb t 16 ≡ b → find (listed slots rest) n t ≡ find (map entry ws) n t
       go true p true q = by-slot n t (ltb-true n 16 p) (ltb-true t 16 q)
-      go true p false q = beyond (λ h l. true-false (sym (lt-ltb t 16 l) ∙ q))
-      go false p b q = beyond (λ h l. true-false (sym (lt-ltb n 16 h) ∙ p))
+      go true p false q = beyond (λ h l. true≢false (sym (lt-ltb t 16 l) ∙ q))
+      go false p b q = beyond (λ h l. true≢false (sym (lt-ltb n 16 h) ∙ p))
 
 -- ---- from octets
 
@@ -69,12 +68,6 @@ taken-each s slots (suc left) i j h l = go (taken s slots i) refl l (eqb i j) re
     go false e m b q rest = absurd (omega arith)
     go true e m true q rest = rw (← eqb-true i j q) e
     go true e m false q rest = rest (omega (arith, eqb-false i j q)) m
-
-sound-range : (s : List ℕ) (j : ℕ) → sound (recordAt s j) ≡ true → inRange (entry (wordAt s j)) ≡ true
-unfolding sound wordAt
-sound-range s j e =
-    let r = recordAt s j in
-    and-right (eqb (length r) 8 && eqb (getD r 0 0) 1 && eqb (number (take 2 (drop 1 r))) 5) (inRange (entry (number (drop 3 r)))) e
 
 words-are : (s : List ℕ) (k : ℕ) → wordsOf (wordAt s) k ≡ wordsBefore s k
 unfolding wordsOf wordsBefore
@@ -119,16 +112,16 @@ module _ (s : List ℕ) (n : ℕ) (count : n ≡ takenFrom s (replicate 256 0) 0
   each : (j : ℕ) → j < n → taken s (replicate 256 0) j ≡ true
   each j l = taken-each s (replicate 256 0) 64 0 j (omega arith) (omega arith)
 
-  formed : (j : ℕ) → j < n → sound (recordAt s j) ≡ true
+  formed : (j : ℕ) → j < n → wellFormed (recordAt s j) ≡ true
   unfolding taken
-  formed j l = and-left (sound (recordAt s j)) (free (wordAt s j) (shown (wordAt s) j)) (each j l)
+  formed j l = and-left (wellFormed (recordAt s j)) (free (wordAt s j) (shown (wordAt s) j)) (each j l)
 
   freed : (j : ℕ) → j < n → free (wordAt s j) (shown (wordAt s) j) ≡ true
   unfolding taken
-  freed j l = and-right (sound (recordAt s j)) (free (wordAt s j) (shown (wordAt s) j)) (each j l)
+  freed j l = and-right (wellFormed (recordAt s j)) (free (wordAt s j) (shown (wordAt s) j)) (each j l)
 
   ranges : (j : ℕ) → j < n → inRange (entry (wordAt s j)) ≡ true
-  ranges j l = sound-range s j (formed j l)
+  ranges j l = wellFormed-range s j (formed j l)
 
   small-each : (j : ℕ) → j < n → small (wordAt s j) ≡ true
   unfolding free
@@ -174,12 +167,6 @@ unfolding wordsOf
 words-taken words zero h = refl
 words-taken words (suc k) h = rw (words-taken words k (omega arith), ← add-one k) (sym (take-more words k (omega arith)))
 
-range-at : (ws : List ℕ) (j : ℕ) → allInRange ws ≡ true → j < length ws → inRange (entry (getD ws j 0)) ≡ true
-unfolding allInRange
-range-at [] j e l = absurd (omega arith)
-range-at (w ∷ ws) zero e l = and-left (inRange (entry w)) (allInRange ws) e
-range-at (w ∷ ws) (suc j) e l = range-at ws j (and-right (inRange (entry w)) (allInRange ws) e) (omega arith)
-
 -- The words of a table, all in range: the slots, and the words themselves for what has no slot.
 module _ (words : List ℕ) (in-range : allInRange words ≡ true) where
   word-range : (j : ℕ) → j < length words → inRange (entry (getD words j 0)) ≡ true
@@ -193,17 +180,8 @@ module _ (words : List ℕ) (in-range : allInRange words ≡ true) where
       (λ n t d. refl)
 
 -- A table value that the loader can give.
-valid-range : (t : Table) → valid t ≡ true → allInRange (take (t .count) (t .words)) ≡ true
-unfolding valid
-valid-range t e =
-    let used = take (t .count) (t .words) in
-    let a = leb (t .count) 64 in
-    let b = allInRange used in
-    let c = distinct used in
-    and-right a b (and-left (a && b) c (and-left (a && b && c) (allZero (drop (t .count) (t .words))) e))
-
 pub table-same : (t : Table) (slots ws : List ℕ) → valid t ≡ true → ws ≡ take (t .count) (t .words)
     → slots ≡ notedBefore (λ i. getD ws i 0) (replicate 256 0) (length ws) → SameFinds (listed slots ws) (entries t)
 unfolding entries
 table-same t slots ws v e f =
-    rw (f, e) (words-same (take (t .count) (t .words)) (valid-range t v))
+    rw (f, e) (words-same (take (t .count) (t .words)) (parts t v .range))

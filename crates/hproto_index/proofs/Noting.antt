@@ -3,20 +3,17 @@ use Prim.Native.Nat.{ℕ, suc, _+_, _*_, _-_, _/_, _%_, _≤_, _<_}
 use native.Mathlib.Numerals.{add-one}
 use native.Mathlib.Omega.{arith}
 use mathlib.Core.Path.{_≡_, refl, sym, _∙_}
-use mathlib.Core.Bool.{Bool, true, false}
+use mathlib.Core.Bool.{Bool, true, false, true≢false}
 use mathlib.Core.List.{List}
 use lib.ListN.{take, drop, getD, set}
 use lib.Dec.{ltb}
 use borrow.Author.Tests.{ltb-true, lt-ltb, le-ltb, eq-eqb, ne-eqb}
-use Rattle.hproto_table.specs.Load.{recordAt, wordAt, sound}
+use Rattle.hproto_table.specs.Load.{recordAt, wordAt, wellFormed}
 use Rattle.hproto_table.proofs.Bools.{and-left, and-right}
-use Rattle.hproto_load.specs.Pass.{recordOf}
-use Rattle.hproto_load.specs.declared.Record.the-variants.{Word, Wrong}
-use Rattle.hproto_load.proofs.RecordLaws.{place-is, recordOf-word, recordOf-wrong}
+use Rattle.hproto_record.specs.Record.{recordOf}
+use Rattle.hproto_record.specs.declared.Record.the-variants.{Word, Wrong}
+use Rattle.hproto_record.proofs.RecordLaws.{place-is, recordOf-word, recordOf-wrong}
 use Rattle.hproto_index.specs.Slots.{hasSlot, small, slotOf, free, noted, notedBefore, taken, takenFrom}
-
-pub true-false : true ≡ false → ⊥
-true-false e = let z : _≡_ {A = ℕ} 0 1 = cc in absurd (omega arith)
 
 -- ---- one word
 
@@ -34,7 +31,7 @@ slot-numbers n t e = (ltb-true n 16 (and-left (ltb n 16) (ltb t 16) e), ltb-true
 
 pub slot-not : (n t : ℕ) → hasSlot n t ≡ false → n < 16 → t < 16 → ⊥
 unfolding hasSlot
-slot-not n t e h l = true-false (sym (rw (lt-ltb n 16 h, lt-ltb t 16 l) refl) ∙ e)
+slot-not n t e h l = true≢false (sym (rw (lt-ltb n 16 h, lt-ltb t 16 l) refl) ∙ e)
 
 pub slot-below : (n t : ℕ) → hasSlot n t ≡ true → n * 16 + t < 256
 slot-below n t e = omega (arith, slot-numbers n t e .0, slot-numbers n t e .1)
@@ -92,11 +89,11 @@ module _ (s slots₀ : List ℕ) (n : ℕ) (slots : List ℕ) (k : Noting s slot
     pub noting-wrong : Wrong ≡ recordOf (take 8 (drop (n * 8) s)) → Ends
     unfolding taken
     noting-wrong e =
-        let q : sound (recordAt s n) ≡ false = rw (← place-is s n) (recordOf-wrong (take 8 (drop (n * 8) s)) e) in
+        let q : wellFormed (recordAt s n) ≡ false = rw (← place-is s n) (recordOf-wrong (take 8 (drop (n * 8) s)) e) in
         stops (rw q refl)
 
     module _ (w : ℕ) (e : Word w ≡ recordOf (take 8 (drop (n * 8) s))) where
-      formed : (sound (recordAt s n) ≡ true) × (w ≡ wordAt s n)
+      formed : (wellFormed (recordAt s n) ≡ true) × (w ≡ wordAt s n)
       unfolding wordAt
       formed = recordOf-word (recordAt s n) w (rw (← place-is s n) e)
 

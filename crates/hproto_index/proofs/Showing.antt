@@ -2,20 +2,20 @@
 use Prim.Native.Nat.{ℕ, zero, suc, _+_, _*_, _/_, _%_, _^_, _≤_, _<_}
 use native.Mathlib.Omega.{arith}
 use mathlib.Core.Path.{_≡_, refl, sym, _∙_}
-use mathlib.Core.Bool.{Bool, true, false, cond, _&&_, _||_}
+use mathlib.Core.Bool.{Bool, true, false, cond, _||_, true≢false}
 use mathlib.Core.List.{List, [], _∷_, _++_, map}
 use lib.ListN.{length, getD, set, replicate, length-set, length-replicate, getD-replicate}
 use lib.Seq.{getD-set-same, getD-set-other}
-use lib.Dec.{eqb, ltb, leb}
-use borrow.Author.Tests.{ltb-true, lt-ltb, leb-true, eqb-true, eqb-false, eq-eqb, ne-eqb}
+use lib.Dec.{eqb, ltb}
+use borrow.Author.Tests.{ltb-true, lt-ltb, eqb-true, eqb-false, eq-eqb, ne-eqb}
 use Rattle.hproto_table.specs.Entry.{entry, find, meaning}
 use Rattle.hproto_table.specs.Load.{inRange, pair, seen}
 use Rattle.hproto_table.specs.declared.Meaning.the-variants.{Raw}
 use Rattle.hproto_table.proofs.Bools.{and-left, and-right, or-left, or-right, or-neither}
 use Rattle.hproto_table.proofs.Repeat.{seen-append, seen-one}
+use Rattle.hproto_table.proofs.Valid.{numbers-small}
 use Rattle.hproto_find.proofs.Finding.{fits-key, fits-not, find-here, find-past}
 use Rattle.hproto_index.specs.Slots.{hasSlot, small, slotOf, free, noted, notedBefore}
-use Rattle.hproto_index.proofs.Noting.{true-false}
 
 -- ---- the kind and the inner number of the first word with a pair, as one number
 
@@ -88,13 +88,9 @@ wordsOf word (suc k) = wordsOf word k ++ (word k ∷ [])
 
 -- A word that is in range has a kind.
 range-code : (w : ℕ) → inRange (entry w) ≡ true → w % 65536 ≡ 0 → ⊥
-unfolding inRange entry
+unfolding entry
 range-code w e z =
-    let a = ltb (w / 4294967296) 16 in
-    let b = leb 1 (w / 256 % 256) in
-    let c = leb (w / 256 % 256) 5 in
-    let d = cond (eqb (w / 256 % 256) 5) (ltb (w % 256) 16) (eqb (w % 256) 0) in
-    let k : 1 ≤ w / 256 % 256 = leb-true 1 (w / 256 % 256) (and-right a b (and-left (a && b) c (and-left (a && b && c) d e))) in
+    let k : 1 ≤ w / 256 % 256 = numbers-small (entry w) e .1 in
     omega arith
 
 module _ (word : ℕ → ℕ) where
@@ -112,7 +108,7 @@ module _ (word : ℕ → ℕ) where
 
       go : (a : Bool) → seen p (wordsOf word k) ≡ a → (code (wordsOf word k) p ≡ 0 → seen p (wordsOf word k) ≡ false)
           → seen p (wordsOf word k ++ (word k ∷ [])) ≡ false
-      go true q rest = let z : _≡_ {A = Bool} true false = sym q ∙ rest (sym (code-old (wordsOf word k) (word k) p q) ∙ e) in absurd (true-false z)
+      go true q rest = let z : _≡_ {A = Bool} true false = sym q ∙ rest (sym (code-old (wordsOf word k) (word k) p q) ∙ e) in absurd (true≢false z)
       go false q rest =
           seen-append p (wordsOf word k) (word k ∷ [])
           ∙ or-neither (seen p (wordsOf word k)) (seen p (word k ∷ [])) q (seen-one p (word k) ∙ ne-eqb (pair (word k)) p (last q))
@@ -147,7 +143,7 @@ module _ (w : ℕ) (slots ws : List ℕ) (long : length slots ≡ 256) (before :
       large q =
           let a : w / 4294967296 < 16 = omega arith in
           let b : w / 65536 % 65536 < 16 = omega arith in
-          true-false (sym (rw (lt-ltb (w / 4294967296) 16 a, lt-ltb (w / 65536 % 65536) 16 b) refl) ∙ e)
+          true≢false (sym (rw (lt-ltb (w / 4294967296) 16 a, lt-ltb (w / 65536 % 65536) 16 b) refl) ∙ e)
 
   module _ (e : small w ≡ true) where
     numbers : (w / 4294967296 < 16) × (w / 65536 % 65536 < 16)

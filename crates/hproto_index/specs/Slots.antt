@@ -1,12 +1,12 @@
 -- The index of a field table: 256 slots, one for each message number and each tag below 16. It serves the code: what the calls answer is
--- said of the entries of a table, and proofs/Finding.antt shows that an index has the same ones.
+-- said of the entries of a table, and proofs/Loaded.antt shows that an index has the same ones.
 use Prim.Native.Nat.{ℕ, zero, suc, _+_, _*_, _/_, _%_, _^_}
 use mathlib.Core.Bool.{Bool, cond, _&&_}
 use mathlib.Core.List.{List, [], _∷_, _++_, map}
 use lib.ListN.{getD, set}
 use lib.Dec.{eqb, ltb}
 use Rattle.hproto_table.specs.Entry.{Entry, entry}
-use Rattle.hproto_table.specs.Load.{recordAt, wordAt, sound}
+use Rattle.hproto_table.specs.Load.{recordAt, wordAt, wellFormed}
 
 -- Whether there is a slot for a message number and a tag.
 unfoldable pub hasSlot : ℕ → ℕ → Bool
@@ -34,7 +34,7 @@ notedBefore word slots (suc n) = noted (word n) (notedBefore word slots n)
 
 -- Whether the record at i is of the right form and its slot is free after those before it.
 unfoldable pub taken : List ℕ → List ℕ → ℕ → Bool
-taken s slots i = sound (recordAt s i) && free (wordAt s i) (notedBefore (wordAt s) slots i)
+taken s slots i = wellFormed (recordAt s i) && free (wordAt s i) (notedBefore (wordAt s) slots i)
 
 -- The place of the first record from i on that is not taken, or that is `left` records further.
 unfoldable pub takenFrom : List ℕ → List ℕ → ℕ → ℕ → ℕ

@@ -1,6 +1,6 @@
 // The index of a field table: for each message number and each tag below 16 a slot with the kind and the inner number, so that such a
 // tag is found at once. Greater tags are looked for among the words of the table.
-use hproto_load::Record;
+use hproto_record::Record;
 use hproto_table::Meaning;
 ghost use mathlib.Core.Path.{_≡_};
 ghost use lib.ListN.{length, getD};
@@ -41,7 +41,7 @@ pub fn index(s: &[u8], slots: &mut [u16; 256]) -> usize
 {
     let mut n: usize = 0;
     while n < 64 {
-        let r = hproto_load::record_at(s, n * 8);
+        let r = hproto_record::record_at(s, n * 8);
         let Record::Word(w) = r else {
             return n;
         };

@@ -1,3 +1,1 @@
-pub mod Ranges
-pub mod RecordLaws
-pub mod Skipping
+pub mod Loading

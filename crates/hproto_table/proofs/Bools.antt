@@ -14,6 +14,12 @@ pub and-right : (a b : Bool) → a && b ≡ true → b ≡ true
 and-right true b e = e
 and-right false b e = absurd (false≢true e)
 
+pub and-four : (a b c d : Bool) → a && b && c && d ≡ true → a ≡ true × b ≡ true × c ≡ true × d ≡ true
+and-four a b c d e =
+    let h = and-left (a && b && c) d e in
+    let k = and-left (a && b) c h in
+    (and-left a b k, and-right a b k, and-right (a && b) c h, and-right (a && b && c) d e)
+
 pub and-both : (a b : Bool) → a ≡ true → b ≡ true → a && b ≡ true
 and-both a b p q = rw (p, q) refl
 

@@ -5,4 +5,3 @@ pub mod Load
 pub mod Valid
 pub mod Placed
 pub mod Records
-pub mod SameFinds

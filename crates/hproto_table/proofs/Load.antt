@@ -3,7 +3,7 @@ use Prim.Native.Nat.{ℕ, zero, suc, _+_, _*_, _-_, _≤_, _<_}
 use native.Mathlib.Nat.{zero-add, add-zero, add-suc, suc-add}
 use native.Mathlib.Omega.{arith}
 use mathlib.Core.Path.{_≡_, refl, sym, ap, _∙_}
-use mathlib.Core.Bool.{Bool, true, false, cond, not, _&&_, _||_}
+use mathlib.Core.Bool.{Bool, true, false, cond, not, _||_, or-false}
 use mathlib.Core.List.{List, [], _∷_, _++_, append-nil}
 use lib.ListN.{length, take, drop, getD, length-append, length-take, length-drop}
 use lib.Seq.{append-snoc}
@@ -11,10 +11,10 @@ use lib.Dec.{eqb, leb, ltb}
 use borrow.Author.Tests.{eqb-true, le-leb, lt-leb, lt-ltb, le-ltb}
 use Rattle.octets.specs.Number.{number}
 use Rattle.hproto_table.specs.Entry.{entry}
-use Rattle.hproto_table.specs.Load.{inRange, recordAt, wordAt, sound, wordsBefore, pair, seen, faulty, accepted, refused, loadFrom, load}
+use Rattle.hproto_table.specs.Load.{inRange, recordAt, wordAt, wellFormed, wordsBefore, pair, seen, faulty, accepted, refused, loadFrom, load}
 use Rattle.hproto_table.specs.declared.Loaded.{Loaded}
 use Rattle.hproto_table.specs.Repeat.{repeatAfter, firstRepeat}
-use Rattle.hproto_table.proofs.Bools.{and-left, or-second}
+use Rattle.hproto_table.proofs.Bools.{and-four, or-second}
 
 -- The words of k records from the one at i on.
 unfoldable wordsFrom : List ℕ → ℕ → ℕ → List ℕ
@@ -32,31 +32,42 @@ unfolding wordsBefore
 length-words s zero = refl
 length-words s (suc n) = simp length-append (omega (arith, length-words s n))
 
--- A record of the right form has all its octets.
-pub sound-whole : (s : List ℕ) (i : ℕ) → sound (recordAt s i) ≡ true → 8 * i + 8 ≤ length s
-unfolding sound recordAt
-sound-whole s i e =
-    let r = take 8 (drop (8 * i) s) in
-    let a = eqb (length r) 8 in
-    let b = eqb (getD r 0 0) 1 in
-    let c = eqb (number (take 2 (drop 1 r))) 5 in
-    let d = inRange (entry (number (drop 3 r))) in
-    let h : length r ≡ 8 = eqb-true (length r) 8 (and-left a b (and-left (a && b) c (and-left (a && b && c) d e))) in
-    omega (arith, simp (length-take, length-drop) at h)
+-- What a well-formed record is, part by part.
+pub record Form (r : List ℕ) : Type 0 where
+  pub whole : length r ≡ 8
+  pub tag : getD r 0 0 ≡ 1
+  pub size : number (take 2 (drop 1 r)) ≡ 5
+  pub range : inRange (entry (number (drop 3 r))) ≡ true
+
+pub form : (r : List ℕ) → wellFormed r ≡ true → Form r
+unfolding wellFormed
+form r e =
+    let h = and-four (eqb (length r) 8) (eqb (getD r 0 0) 1) (eqb (number (take 2 (drop 1 r))) 5) (inRange (entry (number (drop 3 r)))) e in
+    record {
+      whole = eqb-true (length r) 8 (h .0);
+      tag = eqb-true (getD r 0 0) 1 (h .1);
+      size = eqb-true (number (take 2 (drop 1 r))) 5 (h .2);
+      range = h .3;
+    }
+
+-- It has all its octets, and its entry is in range.
+pub wellFormed-whole : (s : List ℕ) (i : ℕ) → wellFormed (recordAt s i) ≡ true → 8 * i + 8 ≤ length s
+unfolding recordAt
+wellFormed-whole s i e = omega (arith, simp (length-take, length-drop) at (form (recordAt s i) e .whole))
+
+pub wellFormed-range : (s : List ℕ) (i : ℕ) → wellFormed (recordAt s i) ≡ true → inRange (entry (wordAt s i)) ≡ true
+unfolding wordAt
+wellFormed-range s i e = form (recordAt s i) e .range
 
 -- Of a record of the right form that is not the 65th, the pair decides.
-faulty-pair : (s : List ℕ) (i : ℕ) → i < 64 → sound (recordAt s i) ≡ true → faulty s i ≡ seen (pair (wordAt s i)) (wordsBefore s i)
+faulty-pair : (s : List ℕ) (i : ℕ) → i < 64 → wellFormed (recordAt s i) ≡ true → faulty s i ≡ seen (pair (wordAt s i)) (wordsBefore s i)
 unfolding faulty
-faulty-pair s i h e = rw (e, lt-leb 64 i h) (go (seen (pair (wordAt s i)) (wordsBefore s i)))
-  where
-    go : (t : Bool) → false || t || false ≡ t
-    go true = refl
-    go false = refl
+faulty-pair s i h e = rw (e, lt-leb 64 i h) (or-false (seen (pair (wordAt s i)) (wordsBefore s i)))
 
-load-on : (s : List ℕ) (left i : ℕ) → i < 64 → sound (recordAt s i) ≡ true
+load-on : (s : List ℕ) (left i : ℕ) → i < 64 → wellFormed (recordAt s i) ≡ true
     → loadFrom (suc left) i s ≡ cond (seen (pair (wordAt s i)) (wordsBefore s i)) (refused (8 * i)) (loadFrom left (suc i) s)
 unfolding loadFrom
-load-on s left i h e = rw (lt-leb (length s) (8 * i) (omega (arith, sound-whole s i e)), faulty-pair s i h e) refl
+load-on s left i h e = rw (lt-leb (length s) (8 * i) (omega (arith, wellFormed-whole s i e)), faulty-pair s i h e) refl
 
 -- A repeat at f, before n, decides; else what stands at n.
 unfoldable decided : List ℕ → ℕ → ℕ → ℕ → Loaded
@@ -71,7 +82,7 @@ unfolding decided
 decided-none s n left f h = rw (le-ltb f n h) refl
 
 -- Where the records from i to n have the right form, the first repeat among their words decides, or what stands at n.
-module _ (s : List ℕ) (n : ℕ) (few : n ≤ 64) (formed : (j : ℕ) → j < n → sound (recordAt s j) ≡ true) where
+module _ (s : List ℕ) (n : ℕ) (few : n ≤ 64) (formed : (j : ℕ) → j < n → wellFormed (recordAt s j) ≡ true) where
   load-runs : (k i left : ℕ) → k + i ≡ n → loadFrom (k + left) i s ≡ decided s n left (repeatAfter (wordsBefore s i) (wordsFrom s i k))
   unfolding wordsFrom repeatAfter wordsBefore
   load-runs zero i left e =
@@ -116,11 +127,11 @@ module _ (s : List ℕ) (n : ℕ) (few : n ≤ 64) (formed : (j : ℕ) → j < n
   load-fault e h b = none e ∙ rw (lt-leb (length s) (8 * n) h, b) refl
 
 -- A record of a wrong form is faulty, and so is the 65th.
-pub faulty-form : (s : List ℕ) (i : ℕ) → sound (recordAt s i) ≡ false → faulty s i ≡ true
+pub faulty-form : (s : List ℕ) (i : ℕ) → wellFormed (recordAt s i) ≡ false → faulty s i ≡ true
 unfolding faulty
 faulty-form s i e = rw e refl
 
 pub faulty-late : (s : List ℕ) (i : ℕ) → 64 ≤ i → faulty s i ≡ true
 unfolding faulty
 faulty-late s i h =
-    or-second (not (sound (recordAt s i)) || seen (pair (wordAt s i)) (wordsBefore s i)) (leb 64 i) (le-leb 64 i h)
+    or-second (not (wellFormed (recordAt s i)) || seen (pair (wordAt s i)) (wordsBefore s i)) (leb 64 i) (le-leb 64 i h)

@@ -4,31 +4,30 @@ use Prim.Native.Nat.{ℕ, zero, suc, _+_, _*_, _-_, _/_, _%_, _^_, _≤_, _<_}
 use native.Mathlib.Omega.{arith}
 use mathlib.Core.Path.{_≡_, refl, sym, ap, ap₂, _∙_, subst}
 use mathlib.Core.Logic.{_↔_}
-use mathlib.Core.Bool.{Bool, true, false, cond, _&&_}
+use mathlib.Core.Bool.{Bool, true, false, cond}
 use mathlib.Core.List.{List, [], _∷_, _++_, map, append-nil, append-assoc}
-use lib.ListN.{length, take, drop, getD, replicate, take-append-drop}
+use lib.ListN.{length, take, drop, replicate, take-append-drop}
 use lib.Seq.{take-add, take-at, take-all}
-use lib.Dec.{eqb, leb}
-use borrow.Author.Tests.{eqb-true, eqb-false, leb-true}
+use lib.Dec.{leb}
+use borrow.Author.Count.{below-more}
+use borrow.Author.Tests.{leb-true}
 use Rattle.octets.specs.Number.{Octets, number, octetsOf}
 use Rattle.octets.proofs.Number.{octets-octetsOf, number-octetsOf, length-octetsOf, number-injective, number-below, octets-before, octets-after}
 use Rattle.hproto_table.specs.Entry.{entry, entries}
-use Rattle.hproto_table.specs.Load.{inRange, recordAt, wordAt, sound, wordsBefore, faulty, tableOf, accepted, refused, loadFrom, load, Loadable}
+use Rattle.hproto_table.specs.Load.{inRange, recordAt, wordAt, wellFormed, wordsBefore, faulty, tableOf, accepted, refused, loadFrom, load, Loadable}
 use Rattle.hproto_table.specs.Repeat.{distinct}
-use Rattle.hproto_table.specs.Valid.{allInRange, allZero, valid}
+use Rattle.hproto_table.specs.Valid.{allInRange, valid}
 use Rattle.hproto_table.specs.Records.{recordFor, recordsFor, IsTable}
-use Rattle.hproto_table.specs.declared.Table.{Table}
 use Rattle.hproto_table.specs.declared.Loaded.{Loaded}
-use Rattle.hproto_table.proofs.Bools.{and-left, and-right}
-use Rattle.hproto_table.proofs.Load.{length-words, sound-whole}
-use Rattle.hproto_table.proofs.Valid.{sound-of, number-small, load-records, loadable-valid}
+use Rattle.hproto_table.proofs.Load.{form}
+use Rattle.hproto_table.proofs.Valid.{wellFormed-of, numbers-small, parts, load-records, loadable-valid}
 
 -- An entry's numbers as a record has them: the message number, the field tag on two octets, the kind, the inner number.
 pub record-in-order : (w : ℕ) → inRange (entry w) ≡ true
     → recordFor w ≡ 1 ∷ 0 ∷ 5 ∷ entry w .number ∷ (octetsOf 2 (entry w .tag) ++ (entry w .kind ∷ entry w .inner ∷ []))
 unfolding recordFor octetsOf entry
 record-in-order w e =
-    let h : w / 4294967296 < 16 = number-small (entry w) e in
+    let h : w / 4294967296 < 16 = numbers-small (entry w) e .0 in
     let number : w / 4294967296 % 256 ≡ w / 4294967296 = omega arith in
     let high : w / 16777216 % 256 ≡ w / 65536 % 65536 / 256 % 256 = omega arith in
     let low : w / 65536 % 256 ≡ w / 65536 % 65536 / 1 % 256 = omega arith in
@@ -44,21 +43,17 @@ pub loaded-entries : (ws : List ℕ) → entries (tableOf ws) ≡ map entry ws
 unfolding entries tableOf
 loaded-entries ws = ap (map entry) (take-at ws (replicate (64 - length ws) 0) (length ws) refl)
 
--- A sound record is the record of its word.
-sound-record : (r : List ℕ) → Octets r → sound r ≡ true → r ≡ recordFor (number (drop 3 r))
-unfolding sound recordFor Octets number
-sound-record [] o e = let z : _≡_ {A = ℕ} 0 1 = cc in absurd (omega arith)
-sound-record (a ∷ []) o e = let z : _≡_ {A = ℕ} 0 1 = cc in absurd (omega arith)
-sound-record (a ∷ b ∷ []) o e = let z : _≡_ {A = ℕ} 0 1 = cc in absurd (omega arith)
-sound-record (a ∷ b ∷ c ∷ t) o e =
-    let r = a ∷ b ∷ c ∷ t in
-    let p = eqb (length r) 8 in
-    let q = eqb a 1 in
-    let u = eqb (number (b ∷ c ∷ [])) 5 in
-    let v = inRange (entry (number t)) in
-    let h : length r ≡ 8 = eqb-true (length r) 8 (and-left p q (and-left (p && q) u (and-left (p && q && u) v e))) in
-    let x : a ≡ 1 = eqb-true a 1 (and-right p q (and-left (p && q) u (and-left (p && q && u) v e))) in
-    let y : number (b ∷ c ∷ []) ≡ 5 = eqb-true (number (b ∷ c ∷ [])) 5 (and-right (p && q) u (and-left (p && q && u) v e)) in
+-- A well-formed record is the record of its word.
+wellFormed-record : (r : List ℕ) → Octets r → wellFormed r ≡ true → r ≡ recordFor (number (drop 3 r))
+unfolding wellFormed recordFor Octets number
+wellFormed-record [] o e = let z : _≡_ {A = ℕ} 0 1 = cc in absurd (omega arith)
+wellFormed-record (a ∷ []) o e = let z : _≡_ {A = ℕ} 0 1 = cc in absurd (omega arith)
+wellFormed-record (a ∷ b ∷ []) o e = let z : _≡_ {A = ℕ} 0 1 = cc in absurd (omega arith)
+wellFormed-record (a ∷ b ∷ c ∷ t) o e =
+    let f = form (a ∷ b ∷ c ∷ t) e in
+    let h : length (a ∷ b ∷ c ∷ t) ≡ 8 = f .whole in
+    let x : a ≡ 1 = f .tag in
+    let y : number (b ∷ c ∷ []) ≡ 5 = f .size in
     let l : length t ≡ 5 = omega arith in
     let b0 : b ≡ 0 = omega (arith, y, o .1 .0, o .1 .1 .0) in
     let c5 : c ≡ 5 = omega (arith, y, o .1 .0, o .1 .1 .0) in
@@ -79,25 +74,25 @@ unfolding recordsFor
 records-snoc [] w = append-nil (recordFor w)
 records-snoc (x ∷ ws) w = ap (λ (l : List ℕ). recordFor x ++ l) (records-snoc ws w) ∙ sym (append-assoc (recordFor x) (recordsFor ws) (recordFor w))
 
--- Every record before the one at n is sound.
-abbrev Sounds : List ℕ → ℕ → Type 0
-Sounds s n = (i : ℕ) → i < n → sound (recordAt s i) ≡ true
+-- Every record before the one at n is well-formed.
+abbrev WellFormedBefore : List ℕ → ℕ → Type 0
+WellFormedBefore s n = (i : ℕ) → i < n → wellFormed (recordAt s i) ≡ true
 
-sound-front : (s : List ℕ) → Octets s → (n : ℕ) → Sounds s n → take (8 * n) s ≡ recordsFor (wordsBefore s n)
+wellFormed-front : (s : List ℕ) → Octets s → (n : ℕ) → WellFormedBefore s n → take (8 * n) s ≡ recordsFor (wordsBefore s n)
 unfolding recordsFor wordsBefore wordAt recordAt
-sound-front s o zero h = refl
-sound-front s o (suc n) h =
+wellFormed-front s o zero h = refl
+wellFormed-front s o (suc n) h =
     let e : 8 * suc n ≡ 8 * n + 8 = omega arith in
     rw (e, take-add (8 * n) 8 s)
-    (ap₂ (λ (a b : List ℕ). a ++ b) (sound-front s o n (λ i k. h i (omega arith))) (sound-record (recordAt s n) (record-octets s n o) (h n (omega arith)))
+    (ap₂ (λ (a b : List ℕ). a ++ b) (wellFormed-front s o n (λ i k. h i (omega arith))) (wellFormed-record (recordAt s n) (record-octets s n o) (h n (omega arith)))
     ∙ sym (records-snoc (wordsBefore s n) (wordAt s n)))
 
--- Where the loader accepts, the octets end after records that are sound, and it gives their words.
+-- Where the loader accepts, the octets end after records that are well-formed, and it gives their words.
 record Ended (s ws : List ℕ) : Type 0 where
   pub count : ℕ
   pub limit : count ≤ 64
   pub end : length s ≤ 8 * count
-  pub sounds : Sounds s count
+  pub well-formed : WellFormedBefore s count
   pub words : wordsBefore s count ≡ ws
 
 accepted-words : (a b : List ℕ) → accepted a ≡ accepted b → a ≡ b
@@ -107,27 +102,23 @@ accepted-words a b e =
     ∙ ap (λ (l : Loaded). take (l .table .count) (l .table .words)) e
     ∙ take-at b (replicate (64 - length b) 0) (length b) refl
 
-accepted-ended : (s ws : List ℕ) (left i : ℕ) → i + left ≤ 65 → Sounds s i → loadFrom left i s ≡ accepted ws → Ended s ws
+accepted-ended : (s ws : List ℕ) (left i : ℕ) → i + left ≤ 65 → WellFormedBefore s i → loadFrom left i s ≡ accepted ws → Ended s ws
 unfolding loadFrom refused accepted
 accepted-ended s ws zero i few h e = let z : _≡_ {A = ℕ} 2 0 = ap (λ (l : Loaded). l .refusal) e in absurd (omega arith)
 accepted-ended s ws (suc left) i few h e = go (leb (length s) (8 * i)) (faulty s i) refl refl e (accepted-ended s ws left (suc i) (omega arith))
   where
-    more : faulty s i ≡ false → Sounds s (suc i)
-    more f j k = cases (eqb j i) refl
-      where
-        cases : (t : Bool) → eqb j i ≡ t → sound (recordAt s j) ≡ true
-        cases true q = rw (eqb-true j i q) (sound-of s i f)
-        cases false q = h j (omega (arith, eqb-false j i q))
+    more : faulty s i ≡ false → WellFormedBefore s (suc i)
+    more f j k = below-more (λ (x : ℕ). wellFormed (recordAt s x) ≡ true) i h (wellFormed-of s i f) j (omega arith)
 
     go : (a b : Bool) → leb (length s) (8 * i) ≡ a → faulty s i ≡ b
         → cond a (accepted (wordsBefore s i)) (cond b (refused (8 * i)) (loadFrom left (suc i) s)) ≡ accepted ws
-        → (Sounds s (suc i) → loadFrom left (suc i) s ≡ accepted ws → Ended s ws) → Ended s ws
+        → (WellFormedBefore s (suc i) → loadFrom left (suc i) s ≡ accepted ws → Ended s ws) → Ended s ws
     go true b p f q on =
         record {
           count = i;
           limit = omega arith;
           end = leb-true (length s) (8 * i) p;
-          sounds = h;
+          well-formed = h;
           words = accepted-words (wordsBefore s i) ws q;
         }
     go false true p f q on = let z : _≡_ {A = ℕ} 2 0 = ap (λ (l : Loaded). l .refusal) q in absurd (omega arith)
@@ -141,16 +132,13 @@ module _ (s : List ℕ) (o : Octets s) (ws : List ℕ) where
       let n = d .count in
       let v : valid (tableOf ws) ≡ true = loadable-valid (tableOf ws) (s, o, e) in
       let used : take (length ws) (ws ++ replicate (64 - length ws) 0) ≡ ws = take-at ws (replicate (64 - length ws) 0) (length ws) refl in
-      let a = leb (length ws) 64 in
-      let b = allInRange (take (length ws) (ws ++ replicate (64 - length ws) 0)) in
-      let c = distinct (take (length ws) (ws ++ replicate (64 - length ws) 0)) in
-      let z = allZero (drop (length ws) (ws ++ replicate (64 - length ws) 0)) in
+      let p = parts (tableOf ws) v in
       let l = d .end in
       record {
-        joined = sym (take-all (8 * n) s (d .end)) ∙ sound-front s o n (d .sounds) ∙ ap recordsFor (d .words);
-        few = leb-true (length ws) 64 (and-left a b (and-left (a && b) c (and-left (a && b && c) z v)));
-        in-range = sym (ap allInRange used) ∙ and-right a b (and-left (a && b) c (and-left (a && b && c) z v));
-        apart = sym (ap distinct used) ∙ and-right (a && b) c (and-left (a && b && c) z v);
+        joined = sym (take-all (8 * n) s (d .end)) ∙ wellFormed-front s o n (d .well-formed) ∙ ap recordsFor (d .words);
+        few = p .few;
+        in-range = sym (ap allInRange used) ∙ p .range;
+        apart = sym (ap distinct used) ∙ p .apart;
       }
 
   -- Octets load exactly where they are the records of words, at most 64, in range and apart; the words given are these.

@@ -4,7 +4,7 @@ use native.Mathlib.Nat.{zero-add}
 use native.Mathlib.Numerals.{add-one}
 use native.Mathlib.Omega.{arith}
 use mathlib.Core.Path.{_≡_, refl, sym, ap, _∙_}
-use mathlib.Core.Bool.{Bool, true, false, cond, not, _&&_, _||_}
+use mathlib.Core.Bool.{Bool, true, false, cond, not, _&&_, _||_, and-assoc, or-assoc, or-false}
 use mathlib.Core.List.{List, [], _∷_, _++_}
 use lib.ListN.{length, take, drop, getD, length-append}
 use lib.Seq.{length-take-le, getD-take}
@@ -20,19 +20,11 @@ use Rattle.hproto_table.proofs.Lists.{front, front-end, take-more, take
 pub seen-append : (p : ℕ) (a b : List ℕ) → seen p (a ++ b) ≡ seen p a || seen p b
 unfolding seen
 seen-append p [] b = refl
-seen-append p (w ∷ a) b = ap (λ (t : Bool). eqb (pair w) p || t) (seen-append p a b) ∙ go (eqb (pair w) p)
-  where
-    go : (t : Bool) → t || (seen p a || seen p b) ≡ t || seen p a || seen p b
-    go true = refl
-    go false = refl
+seen-append p (w ∷ a) b = ap (λ (t : Bool). eqb (pair w) p || t) (seen-append p a b) ∙ sym (or-assoc (eqb (pair w) p) (seen p a) (seen p b))
 
 pub seen-one : (p w : ℕ) → seen p (w ∷ []) ≡ eqb (pair w) p
 unfolding seen
-seen-one p w = go (eqb (pair w) p)
-  where
-    go : (t : Bool) → t || false ≡ t
-    go true = refl
-    go false = refl
+seen-one p w = or-false (eqb (pair w) p)
 
 -- ---- how the first repeat is found, word by word
 
@@ -131,10 +123,6 @@ distinct-after before (w ∷ ws) = go (seen (pair w) before) (distinct-after (be
     more : length (before ++ (w ∷ [])) + length ws ≡ length before + suc (length ws)
     more = simp length-append (omega arith)
 
-    swap : (a b c : Bool) → a && b && c ≡ a && (b && c)
-    swap true b c = refl
-    swap false b c = refl
-
     go : (t : Bool)
         → eqb (repeatAfter (before ++ (w ∷ [])) ws) (length (before ++ (w ∷ [])) + length ws) ≡ clear (before ++ (w ∷ [])) ws && distinct ws
         → eqb (cond t (length before) (repeatAfter (before ++ (w ∷ [])) ws)) (length before + suc (length ws))
@@ -142,7 +130,7 @@ distinct-after before (w ∷ ws) = go (seen (pair w) before) (distinct-after (be
     go true e = ne-eqb (length before) (length before + suc (length ws)) (λ h. omega (arith, h))
     go false e =
         rw (← more)
-        (e ∙ ap (λ (t : Bool). t && distinct ws) (clear-snoc before w ws) ∙ swap (clear before ws) (not (seen (pair w) ws)) (distinct ws))
+        (e ∙ ap (λ (t : Bool). t && distinct ws) (clear-snoc before w ws) ∙ and-assoc (clear before ws) (not (seen (pair w) ws)) (distinct ws))
 
 pub distinct-is : (ws : List ℕ) → distinct ws ≡ eqb (firstRepeat ws) (length ws)
 unfolding firstRepeat

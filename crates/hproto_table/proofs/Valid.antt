@@ -1,9 +1,9 @@
 -- The table values that `valid` accepts are the ones that the loader can give.
-use Prim.Native.Nat.{ℕ, zero, suc, _+_, _*_, _-_, _/_, _%_, _^_, _≤_, _<_}
+use Prim.Native.Nat.{ℕ, zero, suc, _+_, _*_, _-_, _/_, _^_, _≤_, _<_}
 use native.Mathlib.Omega.{arith}
 use mathlib.Core.Path.{_≡_, refl, sym, ap, subst, _∙_}
 use mathlib.Core.Logic.{_↔_}
-use mathlib.Core.Bool.{Bool, true, false, cond, not, _&&_, _||_}
+use mathlib.Core.Bool.{Bool, true, false, cond, not, _||_}
 use mathlib.Core.List.{List, [], _∷_, _++_}
 use lib.ListN.{length, take, drop, getD, replicate, take-append-drop, length-drop}
 use lib.Seq.{drop-append-add, take-at, drop-at, take-suc, take-length, length-take-le}
@@ -12,15 +12,15 @@ use borrow.Author.Tests.{eqb-true, le-leb, leb-true, ltb-true, not-true, not-fal
 use Rattle.octets.specs.Number.{Octets, number, octetsOf}
 use Rattle.octets.proofs.Number.{octets-append, octets-octetsOf, number-octetsOf, length-octetsOf}
 use Rattle.hproto_table.specs.Entry.{Entry, entry}
-use Rattle.hproto_table.specs.Load.{inRange, recordAt, wordAt, sound, wordsBefore, pair, seen, faulty, tableOf, accepted, refused, loadFrom, load, Loadable}
+use Rattle.hproto_table.specs.Load.{inRange, recordAt, wordAt, wellFormed, wordsBefore, pair, seen, faulty, tableOf, accepted, refused, loadFrom, load, Loadable}
 use Rattle.hproto_table.specs.Repeat.{distinct, firstRepeat}
 use Rattle.hproto_table.specs.Valid.{allInRange, allZero, valid}
 use Rattle.hproto_table.specs.Records.{recordFor, recordsFor}
 use Rattle.hproto_table.specs.declared.Table.{Table}
 use Rattle.hproto_table.specs.declared.Loaded.{Loaded}
-use Rattle.hproto_table.proofs.Bools.{and-left, and-right, and-both, or-left, or-right, or-neither, not-of-false, eqb-swap}
+use Rattle.hproto_table.proofs.Bools.{and-left, and-right, and-four, and-both, or-left, or-right, or-neither, not-of-false, eqb-swap}
 use Rattle.hproto_table.proofs.Repeat.{seen-append, seen-one, distinct-is}
-use Rattle.hproto_table.proofs.Load.{length-words, load-whole}
+use Rattle.hproto_table.proofs.Load.{length-words, load-whole, wellFormed-range}
 
 -- ---- a table that is loaded is valid
 
@@ -63,24 +63,18 @@ valid-table ws h r d =
     )
     (zeros (64 - length ws))
 
-sound-range : (s : List ℕ) (i : ℕ) → sound (recordAt s i) ≡ true → inRange (entry (wordAt s i)) ≡ true
-unfolding sound wordAt
-sound-range s i e =
-    let r = recordAt s i in
-    and-right (eqb (length r) 8 && eqb (getD r 0 0) 1 && eqb (number (take 2 (drop 1 r))) 5) (inRange (entry (number (drop 3 r)))) e
-
 -- A record that is not faulty.
-pub sound-of : (s : List ℕ) (i : ℕ) → faulty s i ≡ false → sound (recordAt s i) ≡ true
+pub wellFormed-of : (s : List ℕ) (i : ℕ) → faulty s i ≡ false → wellFormed (recordAt s i) ≡ true
 unfolding faulty
-sound-of s i e =
-    let a = not (sound (recordAt s i)) in
+wellFormed-of s i e =
+    let a = not (wellFormed (recordAt s i)) in
     let b = seen (pair (wordAt s i)) (wordsBefore s i) in
-    not-false (sound (recordAt s i)) (or-left a b (or-left (a || b) (leb 64 i) e))
+    not-false (wellFormed (recordAt s i)) (or-left a b (or-left (a || b) (leb 64 i) e))
 
 unseen-of : (s : List ℕ) (i : ℕ) → faulty s i ≡ false → seen (pair (wordAt s i)) (wordsBefore s i) ≡ false
 unfolding faulty
 unseen-of s i e =
-    let a = not (sound (recordAt s i)) in
+    let a = not (wellFormed (recordAt s i)) in
     let b = seen (pair (wordAt s i)) (wordsBefore s i) in
     or-right a b (or-left (a || b) (leb 64 i) e)
 
@@ -107,7 +101,7 @@ loaded-valid s t (suc left) i few r d e = go (leb (length s) (8 * i)) (faulty s 
         subst (λ (x : Table). valid x ≡ true) same (valid-table (wordsBefore s i) (omega (arith, length-words s i)) r d)
     go false true p q on = absurd (refused-not (8 * i) t q)
     go false false p q on =
-        on (range-snoc (wordsBefore s i) (wordAt s i) r (sound-range s i (sound-of s i p)))
+        on (range-snoc (wordsBefore s i) (wordAt s i) r (wellFormed-range s i (wellFormed-of s i p)))
         (distinct-snoc (wordsBefore s i) (wordAt s i) d (unseen-of s i p)) q
 
 -- ---- a table that is valid can be loaded, from the records of its words
@@ -131,36 +125,33 @@ records-at (w ∷ ws) (suc i) h =
     let e : 8 * suc i ≡ 8 + 8 * i = omega arith in
     rw (e, drop-append-add (recordFor w) (recordsFor ws) (8 * i)) (records-at ws i (omega arith))
 
-range-at : (ws : List ℕ) (i : ℕ) → allInRange ws ≡ true → i < length ws → inRange (entry (getD ws i 0)) ≡ true
+pub range-at : (ws : List ℕ) (i : ℕ) → allInRange ws ≡ true → i < length ws → inRange (entry (getD ws i 0)) ≡ true
 unfolding allInRange
 range-at [] i e h = absurd (omega arith)
 range-at (w ∷ ws) zero e h = and-left (inRange (entry w)) (allInRange ws) e
 range-at (w ∷ ws) (suc i) e h = range-at ws i (and-right (inRange (entry w)) (allInRange ws) e) (omega arith)
 
--- The message number of an entry in range.
-pub number-small : (e : Entry) → inRange e ≡ true → e .number < 16
+-- The message number and the kind of an entry in range.
+pub numbers-small : (e : Entry) → inRange e ≡ true → e .number < 16 × 1 ≤ e .kind
 unfolding inRange
-number-small e h =
-    let a = ltb (e .number) 16 in
-    let b = leb 1 (e .kind) in
-    let c = leb (e .kind) 5 in
-    let d = cond (eqb (e .kind) 5) (ltb (e .inner) 16) (eqb (e .inner) 0) in
-    ltb-true (e .number) 16 (and-left a b (and-left (a && b) c (and-left (a && b && c) d h)))
+numbers-small e h =
+    let p = and-four (ltb (e .number) 16) (leb 1 (e .kind)) (leb (e .kind) 5) (cond (eqb (e .kind) 5) (ltb (e .inner) 16) (eqb (e .inner) 0)) h in
+    (ltb-true (e .number) 16 (p .0), leb-true 1 (e .kind) (p .1))
 
 -- A word whose entry is in range fits five octets.
 word-small : (w : ℕ) → inRange (entry w) ≡ true → w < 256 ^ 5
 unfolding inRange entry
 word-small w e =
-    let h : w / 4294967296 < 16 = number-small (entry w) e in
+    let h : w / 4294967296 < 16 = numbers-small (entry w) e .0 in
     omega arith
 
-for-sound : (w : ℕ) → inRange (entry w) ≡ true → sound (recordFor w) ≡ true
-unfolding sound recordFor number
-for-sound w e = rw (length-octetsOf 5 w, number-octetsOf 5 w (word-small w e)) e
+for-wellFormed : (w : ℕ) → inRange (entry w) ≡ true → wellFormed (recordFor w) ≡ true
+unfolding wellFormed recordFor number
+for-wellFormed w e = rw (length-octetsOf 5 w, number-octetsOf 5 w (word-small w e)) e
 
 module _ (ws : List ℕ) (range : allInRange ws ≡ true) where
-  records-sound : (i : ℕ) → i < length ws → sound (recordAt (recordsFor ws) i) ≡ true
-  records-sound i h = rw (records-at ws i h) (for-sound (getD ws i 0) (range-at ws i range h))
+  records-wellFormed : (i : ℕ) → i < length ws → wellFormed (recordAt (recordsFor ws) i) ≡ true
+  records-wellFormed i h = rw (records-at ws i h) (for-wellFormed (getD ws i 0) (range-at ws i range h))
 
   records-word : (i : ℕ) → i < length ws → wordAt (recordsFor ws) i ≡ getD ws i 0
   unfolding wordAt recordFor
@@ -175,7 +166,7 @@ module _ (ws : List ℕ) (range : allInRange ws ≡ true) where
   load-records few d =
       let all : wordsBefore (recordsFor ws) (length ws) ≡ ws = records-words (length ws) (omega arith) ∙ take-length ws in
       let none : firstRepeat ws ≡ length ws = eqb-true (firstRepeat ws) (length ws) (sym (distinct-is ws) ∙ d) in
-      load-whole (recordsFor ws) (length ws) few records-sound (ap firstRepeat all ∙ none) (omega (arith, records-length ws)) ∙ ap accepted all
+      load-whole (recordsFor ws) (length ws) few records-wellFormed (ap firstRepeat all ∙ none) (omega (arith, records-length ws)) ∙ ap accepted all
 
 zeros-are : (l : List ℕ) → allZero l ≡ true → l ≡ replicate (length l) 0
 unfolding allZero
@@ -186,29 +177,38 @@ zeros-are (x ∷ l) e =
 
 -- ---- the law
 
+-- What a valid table is, part by part.
+pub record Parts (t : Table) : Type 0 where
+  pub few : t .count ≤ 64
+  pub range : allInRange (take (t .count) (t .words)) ≡ true
+  pub apart : distinct (take (t .count) (t .words)) ≡ true
+  pub unused : allZero (drop (t .count) (t .words)) ≡ true
+
+pub parts : (t : Table) → valid t ≡ true → Parts t
+unfolding valid
+parts t v =
+    let used = take (t .count) (t .words) in
+    let h = and-four (leb (t .count) 64) (allInRange used) (distinct used) (allZero (drop (t .count) (t .words))) v in
+    record { few = leb-true (t .count) 64 (h .0); range = h .1; apart = h .2; unused = h .3 }
+
 module _ (t : Table) where
   pub loadable-valid : Loadable t → valid t ≡ true
   unfolding Loadable load wordsBefore allInRange distinct
   loadable-valid l = loaded-valid (l .0) t 65 0 (omega arith) refl refl (l .2)
 
   pub valid-loadable : length (t .words) ≡ 64 → valid t ≡ true → Loadable t
-  unfolding Loadable valid accepted tableOf
+  unfolding Loadable accepted tableOf
   valid-loadable size v =
       let n = t .count in
       let used = take n (t .words) in
       let rest = drop n (t .words) in
-      let a = leb n 64 in
-      let b = allInRange used in
-      let c = distinct used in
-      let d = allZero rest in
-      let few : n ≤ 64 = leb-true n 64 (and-left a b (and-left (a && b) c (and-left (a && b && c) d v))) in
-      let range : b ≡ true = and-right a b (and-left (a && b) c (and-left (a && b && c) d v)) in
-      let apart : c ≡ true = and-right (a && b) c (and-left (a && b && c) d v) in
+      let p = parts t v in
+      let few : n ≤ 64 = p .few in
       let len : length used ≡ n = length-take-le n (t .words) (omega arith) in
       let left : length rest ≡ 64 - n = rw (length-drop n (t .words), size) refl in
       let filled : used ++ replicate (64 - n) 0 ≡ t .words =
-      rw (← left, ← zeros-are rest (and-right (a && b && c) d v)) (take-append-drop n (t .words)) in
-      (recordsFor used, records-octets used, load-records used range (omega arith) apart ∙ rw (len, filled) refl)
+      rw (← left, ← zeros-are rest (p .unused)) (take-append-drop n (t .words)) in
+      (recordsFor used, records-octets used, load-records used (p .range) (omega arith) (p .apart) ∙ rw (len, filled) refl)
 
   -- A table value is valid exactly when the loader can give it. Every table value of the code has 64 words, so that premise limits nothing.
   pub valid-exactly : length (t .words) ≡ 64 → (valid t ≡ true) ↔ Loadable t

@@ -23,8 +23,8 @@ unfoldable pub wordAt : List ℕ → ℕ → ℕ
 wordAt s i = number (drop 3 (recordAt s i))
 
 -- Whether a record is whole, its tag and length are right and its entry is in range.
-unfoldable pub sound : List ℕ → Bool
-sound r = eqb (length r) 8 && eqb (getD r 0 0) 1 && eqb (number (take 2 (drop 1 r))) 5 && inRange (entry (number (drop 3 r)))
+unfoldable pub wellFormed : List ℕ → Bool
+wellFormed r = eqb (length r) 8 && eqb (getD r 0 0) 1 && eqb (number (take 2 (drop 1 r))) 5 && inRange (entry (number (drop 3 r)))
 
 -- The words of the records before the one at n.
 unfoldable pub wordsBefore : List ℕ → ℕ → List ℕ
@@ -42,7 +42,7 @@ seen p (w ∷ ws) = eqb (pair w) p || seen p ws
 
 -- Whether the record at i is faulty: of a wrong form, or with a pair seen before, or the 65th.
 unfoldable pub faulty : List ℕ → ℕ → Bool
-faulty s i = not (sound (recordAt s i)) || seen (pair (wordAt s i)) (wordsBefore s i) || leb 64 i
+faulty s i = not (wellFormed (recordAt s i)) || seen (pair (wordAt s i)) (wordsBefore s i) || leb 64 i
 
 -- The table that holds words.
 unfoldable pub tableOf : List ℕ → Table

@@ -3,7 +3,7 @@ use Prim.Native.Nat.{ℕ, suc, _+_, _≤_, _<_}
 use native.Mathlib.Numerals.{add-one}
 use native.Mathlib.Omega.{arith}
 use mathlib.Core.Path.{_≡_, refl, sym, ap, _∙_}
-use mathlib.Core.Bool.{Bool, true, false, _&&_}
+use mathlib.Core.Bool.{Bool, true, false, _&&_, and-true, and-assoc}
 use mathlib.Core.List.{List, [], _∷_}
 use lib.ListN.{length, take, drop, getD, drop-of-length-le}
 use lib.Seq.{drop-cons, length-take-le}
@@ -75,21 +75,14 @@ or-zero a b = go (eqb a 0) refl (eqb b 0) refl
 
 pub zero-ends : (words : List ℕ) (i bits : ℕ) → length words ≤ i → eqb bits 0 && allZero (drop i words) ≡ eqb bits 0
 unfolding allZero
-zero-ends words i bits l = rw (drop-of-length-le words {i = i} l) (go (eqb bits 0))
-  where
-    go : (t : Bool) → t && true ≡ t
-    go true = refl
-    go false = refl
+zero-ends words i bits l = rw (drop-of-length-le words {i = i} l) (and-true (eqb bits 0))
 
 pub zero-moves : (words : List ℕ) (i bits : ℕ) → i < length words
     → eqb bits 0 && allZero (drop i words) ≡ eqb (bitOr bits (getD words i 0)) 0 && allZero (drop (i + 1) words)
 unfolding allZero
 zero-moves words i bits l =
-    rw (drop-cons words i 0 l, or-zero bits (getD words i 0), add-one i) (go (eqb bits 0) (eqb (getD words i 0) 0) (allZero (drop (suc i) words)))
-  where
-    go : (a b c : Bool) → a && (b && c) ≡ a && b && c
-    go true b c = refl
-    go false b c = refl
+    rw (drop-cons words i 0 l, or-zero bits (getD words i 0), add-one i)
+    (sym (and-assoc (eqb bits 0) (eqb (getD words i 0) 0) (allZero (drop (suc i) words))))
 
 -- ---- together
 

@@ -21,7 +21,7 @@ fn rises_in_range(words: &[u64], n: usize) -> bool
         if p < low {
             return false;
         }
-        if !hproto_load::in_range(w) {
+        if !hproto_record::in_range(w) {
             return false;
         }
         low = p + 1;
@@ -36,7 +36,7 @@ fn all_in_range(words: &[u64], n: usize) -> bool
 {
     let mut i = 0;
     while i < n {
-        if !hproto_load::in_range(words[i]) {
+        if !hproto_record::in_range(words[i]) {
             return false;
         }
         i += 1;
@@ -55,10 +55,10 @@ fn used(words: &[u64], n: usize) -> bool
     if !all_in_range(words, n) {
         return false;
     }
-    hproto_load::first_repeat(words, n) == n
+    hproto_repeat::first_repeat(words, n) == n
 }
 
-// Whether the words from n on are all 0. No test in the loop, so that the compiler looks at several words at once.
+// Whether the words from n on are all 0. There is no test in the loop, so that the compiler can make it one over several words at once.
 fn unused(words: &[u64], n: usize) -> bool
     ensures { λ r. ⌜ r ≡ allZero (drop n (now (words .entry))) ⌝ }
 {

@@ -33,13 +33,13 @@ mul-key c = omega arith
 add-key : tie.Need-add-key Inv-loop μ-loop
 add-key c = omega arith
 
-least-requires : tie.Need-least-requires Inv-loop μ-loop
-least-requires c κs = tt
+smaller-requires : tie.Need-smaller-requires Inv-loop μ-loop
+smaller-requires c κs = tt
 
 loop-holds : tie.Need-loop-holds Inv-loop μ-loop
 loop-holds c =
     let a = c .before .before .before .before .args in
-    left-starts (a .words .now) (a .count) (a .number) (a .tag) (c .least .result) (c .least .ensures)
+    left-starts (a .words .now) (a .count) (a .number) (a .tag) (c .smaller .result) (c .smaller .ensures)
 
 mul-w : tie.Need-mul-w Inv-loop μ-loop
 mul-w c = omega arith
@@ -54,7 +54,7 @@ returns-3 : tie.Need-returns-3 Inv-loop μ-loop
 returns-3 c =
     let a = c .before .before .before .before .before .before .before .before .before .args in
     let l = c .before .before .before .before .loop in
-    let n = c .before .before .before .before .before .least .result in
+    let n = c .before .before .before .before .before .smaller .result in
     c .meaning .ensures
     ∙ sym (l .inv ∙ left-here (a .words .now) n (a .number) (a .tag) (l .i) (omega arith) (omega arith) (omega arith) (c .before .if3 .taken))
 
@@ -68,14 +68,14 @@ loop-again : tie.Need-loop-again Inv-loop μ-loop
 loop-again c =
     let a = c .before .before .before .before .before .before .before .before .args in
     let l = c .before .before .before .loop in
-    let n = c .before .before .before .before .least .result in
+    let n = c .before .before .before .before .smaller .result in
     l .inv ∙ left-past (a .words .now) n (a .number) (a .tag) (l .i) (omega arith) (omega arith) (c .if3 .left)
 
 returns-4 : tie.Need-returns-4 Inv-loop μ-loop
 returns-4 c =
     let a = c .before .before .before .before .before .before .args in
     let l = c .before .loop in
-    let n = c .before .before .least .result in
+    let n = c .before .before .smaller .result in
     sym (l .inv ∙ left-ends (a .words .now) n (a .number) (a .tag) (l .i) (omega arith) (omega arith))
 
 pub find-spec : {M : Type 1} → statement M
@@ -88,7 +88,7 @@ find-spec =
     returns-2
     mul-key
     add-key
-    least-requires
+    smaller-requires
     loop-holds
     mul-w
     shared-slice-read-w

@@ -8,8 +8,8 @@ use borrow.Author.Needs.{needs}
 use Rattle.hproto_find.proofs.first.Statement.{statement}
 use Rattle.hproto_find.proofs.first.Tie as tie
 
-least-requires : tie.Need-least-requires
-least-requires c κs = search needs
+smaller-requires : tie.Need-smaller-requires
+smaller-requires c κs = search needs
 
 sub-result : tie.Need-sub-result
 sub-result c = search needs
@@ -23,9 +23,9 @@ part-result-end c = search needs
 returns : tie.Need-returns
 returns c =
     let a = c .before .before .before .args in
-    let e : c .before .least .result - 0 ≡ min (a .count) (length (a .words .now)) = omega (arith, c .before .least .ensures) in
+    let e : c .before .smaller .result - 0 ≡ min (a .count) (length (a .words .now)) = omega (arith, c .before .smaller .ensures) in
     rw e (take-min (a .count) (a .words .now))
 
 pub first-spec : {M : Type 1} → statement M
 first-spec =
-    tie.close (tie.spec least-requires sub-result part-result-start part-result-end returns)
+    tie.close (tie.spec smaller-requires sub-result part-result-start part-result-end returns)

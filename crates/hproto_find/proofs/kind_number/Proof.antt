@@ -2,8 +2,6 @@ use Rattle.hproto_table.specs.Entry.{kindNumber}
 use borrow.Author.Needs.{needs}
 use Rattle.hproto_find.proofs.kind_number.Statement.{statement}
 use Rattle.hproto_find.proofs.kind_number.Tie as tie
-use Rattle.hproto_find.proofs.kind_number.Reads as reads
-use Rattle.hproto_find.proofs.kind_number.Lts as lts
 
 enum-told : tie.Need-enum-told
 enum-told c = search needs

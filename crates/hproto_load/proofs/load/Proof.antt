@@ -1,6 +1,6 @@
 -- `load` gives what the definition says: the first repeat among the records of the right form decides, or what stands after them.
 use native.Mathlib.Omega.{arith}
-use Rattle.hproto_load.proofs.RecordLaws.{repeated, faulted, loaded}
+use Rattle.hproto_load.proofs.Loading.{repeated, faulted, loaded}
 use borrow.Author.Needs.{needs}
 use Rattle.hproto_load.proofs.load.Statement.{statement}
 use Rattle.hproto_load.proofs.load.Tie as tie

@@ -3,7 +3,7 @@ use mathlib.Core.Path.{sym, _∙_}
 use borrow.Author.Needs.{needs}
 use Prim.Native.Nat.{_-_}
 use native.Mathlib.Omega.{arith}
-use Rattle.hproto_load.proofs.RecordLaws.{Taken, taken-none, taken-more, taken-stops, taken-all}
+use Rattle.hproto_load.proofs.Loading.{Taken, taken-none, taken-more, taken-stops, taken-all}
 use Rattle.hproto_load.proofs.records.Statement.{statement}
 use Rattle.hproto_load.proofs.records.Tie as tie
 

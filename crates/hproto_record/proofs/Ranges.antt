@@ -1,8 +1,8 @@
 -- When the entry in a word is in range, by the numbers that the function compares.
 use Prim.Native.Nat.{ℕ, _/_, _%_, _≤_, _<_}
 use native.Mathlib.Omega.{arith}
-use mathlib.Core.Path.{_≡_, refl}
-use mathlib.Core.Bool.{Bool, true, false, cond, _&&_}
+use mathlib.Core.Path.{_≡_, refl, sym}
+use mathlib.Core.Bool.{Bool, true, false, cond, _&&_, and-false}
 use lib.Dec.{eqb, leb, ltb}
 use borrow.Author.Tests.{ne-eqb, le-leb, leb-true, leb-false, lt-ltb, le-ltb}
 use Rattle.hproto_table.specs.Entry.{entry}
@@ -31,12 +31,7 @@ module _ (w : ℕ) where
   high h = rw (test-is w, le-ltb N 16 (omega arith)) refl
 
   pub unwanted : N ≤ 15 → (I ≡ 0 → ⊥) → (K ≡ 5 → ⊥) → false ≡ inRange (entry w)
-  unwanted h d e = rw (test-is w, lt-ltb N 16 (omega arith), ne-eqb K 5 e, ne-eqb I 0 d) (go (leb 1 K) (leb K 5))
-    where
-      go : (a b : Bool) → false ≡ a && b && false
-      go true true = refl
-      go true false = refl
-      go false b = refl
+  unwanted h d e = rw (test-is w, lt-ltb N 16 (omega arith), ne-eqb K 5 e, ne-eqb I 0 d) (sym (and-false (leb 1 K && leb K 5)))
 
   pub inner : N ≤ 15 → K ≡ 5 → ltb I 16 ≡ inRange (entry w)
   inner h e = rw (test-is w, lt-ltb N 16 (omega arith), e) refl

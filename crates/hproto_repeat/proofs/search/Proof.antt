@@ -3,15 +3,15 @@
 use lib.ListN.{getD}
 use Prim.Native.Nat.{_-_, _/_, _≤_}
 use native.Mathlib.Omega.{arith}
-use mathlib.Core.Path.{_≡_, refl, sym, _∙_}
+use mathlib.Core.Path.{_≡_, sym, _∙_}
 use mathlib.Core.Bool.{false}
 use lib.ListN.{take}
 use Rattle.hproto_table.specs.Load.{pair, seen}
 use Rattle.hproto_table.specs.Repeat.{firstRepeat}
 use Rattle.hproto_table.proofs.Repeat.{searched, search-starts, search-ends, search-hits, search-moves, seen-more}
-use Rattle.hproto_load.proofs.Skipping.{seen-none}
-use Rattle.hproto_load.proofs.search.Statement.{statement}
-use Rattle.hproto_load.proofs.search.Tie as tie
+use Rattle.hproto_repeat.proofs.Skipping.{seen-none}
+use Rattle.hproto_repeat.proofs.search.Statement.{statement}
+use Rattle.hproto_repeat.proofs.search.Tie as tie
 
 abbrev Inv-loop : tie.InvT-loop
 Inv-loop words n later p earlier₀ earlier = (earlier ≤ later) × (seen p (take earlier words) ≡ false)

@@ -1,10 +1,10 @@
 -- `record_at` gives what the definition says, at each return by the octets looked at before it.
 use native.Mathlib.Omega.{arith}
 use mathlib.Core.Path.{sym, _∙_}
-use Rattle.hproto_load.proofs.RecordLaws.{record-cut, wrong-tag, wrong-high, wrong-low, right, wrong-range}
+use Rattle.hproto_record.proofs.RecordLaws.{record-cut, wrong-tag, wrong-high, wrong-low, right, wrong-range}
 use borrow.Author.Needs.{needs}
-use Rattle.hproto_load.proofs.record_at.Statement.{statement}
-use Rattle.hproto_load.proofs.record_at.Tie as tie
+use Rattle.hproto_record.proofs.record_at.Statement.{statement}
+use Rattle.hproto_record.proofs.record_at.Tie as tie
 
 returns : tie.Need-returns
 returns c = record-cut (c .before .before .args .s .now) (c .before .before .args .at) (omega arith)

@@ -1,26 +1,21 @@
--- A record's octets, one by one, and the words of a table that are filled from records.
-use Prim.Native.Nat.{ℕ, suc, _+_, _*_, _-_, _≤_, _<_}
+-- A record's octets, one by one.
+use Prim.Native.Nat.{ℕ, suc, _+_, _*_, _≤_, _<_}
 use native.Mathlib.Nat.{mul-comm}
 use native.Mathlib.Numerals.{add-one}
 use native.Mathlib.Omega.{arith}
-use mathlib.Core.Path.{_≡_, refl, sym, ap, _∙_}
+use mathlib.Core.Path.{_≡_, refl}
 use mathlib.Core.Bool.{Bool, true, false, cond, _&&_}
-use mathlib.Core.List.{List, _∷_, _++_}
-use lib.ListN.{length, take, drop, getD, set, replicate, length-take, length-drop}
-use lib.Seq.{drop-cons, set-at, take-at, append-snoc}
-use borrow.Author.Count.{below-more}
+use mathlib.Core.List.{List, _∷_}
+use lib.ListN.{length, take, drop, getD, length-take, length-drop}
+use lib.Seq.{drop-cons}
 use lib.Dec.{eqb}
 use borrow.Author.Tests.{ne-eqb}
 use Rattle.octets.specs.Number.{number}
 use Rattle.hproto_table.specs.Entry.{entry}
-use Rattle.hproto_table.specs.Load.{inRange, sound, recordAt, wordAt, wordsBefore, refused, accepted, tableOf, load}
-use Rattle.hproto_table.specs.Repeat.{firstRepeat}
-use Rattle.hproto_table.specs.declared.Loaded.{Loaded}
-use Rattle.hproto_table.proofs.Load.{length-words, faulty-form, faulty-late, load-repeat, load-whole, load-fault}
-use Rattle.hproto_table.proofs.Repeat.{repeat-least}
-use Rattle.hproto_load.specs.Pass.{recordOf, Passed}
-use Rattle.hproto_load.specs.declared.Record.{Record}
-use Rattle.hproto_load.specs.declared.Record.the-variants.{Word, Wrong}
+use Rattle.hproto_table.specs.Load.{inRange, wellFormed, recordAt}
+use Rattle.hproto_record.specs.Record.{recordOf}
+use Rattle.hproto_record.specs.declared.Record.{Record}
+use Rattle.hproto_record.specs.declared.Record.the-variants.{Word, Wrong}
 
 -- A part of a list that has more than nothing begins with the element there.
 next : (s : List ℕ) (k at after : ℕ) → at < length s → at + 1 ≡ after → take (suc k) (drop at s) ≡ getD s at 0 ∷ take k (drop after s)
@@ -50,7 +45,7 @@ five-read s at a b c d e h p q r t u = rw (p, q, r, t, u) (five-octets s at h)
 -- ---- a record
 
 pub record-cut : (s : List ℕ) (at : ℕ) → length s < at + 8 → Wrong ≡ recordOf (take 8 (drop at s))
-unfolding recordOf sound
+unfolding recordOf wellFormed
 record-cut s at h =
     let e : length (take 8 (drop at s)) < 8 = simp (length-take, length-drop) (omega arith) in
     rw (ne-eqb (length (take 8 (drop at s))) 8 (λ q. omega arith)) refl
@@ -62,7 +57,7 @@ answer t w = cond t (Word w) Wrong
 module _ (s : List ℕ) (at : ℕ) (whole : at + 8 ≤ length s) where
   record-is : recordOf (take 8 (drop at s))
       ≡ answer (eqb (getD s at 0) 1 && eqb (getD s (at + 1) 0 * 256 + getD s (at + 2) 0) 5 && inRange (entry (number (take 5 (drop (at + 3) s))))) (number (take 5 (drop (at + 3) s)))
-  unfolding recordOf sound number answer
+  unfolding recordOf wellFormed number answer
   record-is =
       let e : length (take 5 (drop (at + 3) s)) ≡ 5 = simp (length-take, length-drop) (omega arith) in
       rw (
@@ -106,89 +101,25 @@ module _ (s : List ℕ) (at : ℕ) (whole : at + 8 ≤ length s) where
     unfolding answer
     wrong-range e = rw (formed-is, ← e) refl
 
--- ---- the words that are read
+-- ---- what an answer says of a record
 
--- The state of the first pass at the record n.
-pub record Taken (s : List ℕ) (n : ℕ) (words : List ℕ) : Type 0 where
-  pub few : n ≤ 64
-  pub formed : (j : ℕ) → j < n → sound (recordAt s j) ≡ true
-  pub filled : words ≡ wordsBefore s n ++ replicate (64 - n) 0
-
-pub taken-none : (s : List ℕ) → Taken s 0 (replicate 64 0)
-unfolding wordsBefore
-taken-none s = record { few = omega arith; formed = λ j h. absurd (omega arith); filled = refl }
-
--- The octets of the record n, by the place that the function counts.
+-- The octets of the record n, by the place that a function counts.
 pub place-is : (s : List ℕ) (n : ℕ) → take 8 (drop (n * 8) s) ≡ recordAt s n
 unfolding recordAt
 place-is s n = rw (mul-comm n 8) refl
 
-pub recordOf-word : (r : List ℕ) (w : ℕ) → Word w ≡ recordOf r → (sound r ≡ true) × (w ≡ number (drop 3 r))
+pub recordOf-word : (r : List ℕ) (w : ℕ) → Word w ≡ recordOf r → (wellFormed r ≡ true) × (w ≡ number (drop 3 r))
 unfolding recordOf
-recordOf-word r w e = go (sound r) e
+recordOf-word r w e = go (wellFormed r) e
   where
     go : (t : Bool) → Word w ≡ cond t (Word (number (drop 3 r))) Wrong → (t ≡ true) × (w ≡ number (drop 3 r))
     go true q = (refl, cc)
     go false q = let z : _≡_ {A = ℕ} 0 1 = cc in absurd (omega arith)
 
-pub recordOf-wrong : (r : List ℕ) → Wrong ≡ recordOf r → sound r ≡ false
+pub recordOf-wrong : (r : List ℕ) → Wrong ≡ recordOf r → wellFormed r ≡ false
 unfolding recordOf
-recordOf-wrong r e = go (sound r) e
+recordOf-wrong r e = go (wellFormed r) e
   where
     go : (t : Bool) → Wrong ≡ cond t (Word (number (drop 3 r))) Wrong → t ≡ false
     go true q = let z : _≡_ {A = ℕ} 0 1 = cc in absurd (omega arith)
     go false q = refl
-
-pub taken-more : (s : List ℕ) (n w : ℕ) (words : List ℕ) → Taken s n words → n < 64 → Word w ≡ recordOf (take 8 (drop (n * 8) s))
-    → Taken s (n + 1) (set words n w)
-unfolding wordsBefore wordAt
-taken-more s n w words k l e =
-    let q : (sound (recordAt s n) ≡ true) × (w ≡ number (drop 3 (recordAt s n))) = recordOf-word (recordAt s n) w (rw (← place-is s n) e) in
-    let now : 64 - n ≡ suc (63 - n) = omega arith in
-    let then : 64 - suc n ≡ 63 - n = omega arith in
-    record {
-      few = omega arith;
-      formed = below-more (λ (j : ℕ). sound (recordAt s j) ≡ true) n (k .formed) (q .0);
-      filled =
-          rw (k .filled, now, add-one n, then)
-          (set-at (wordsBefore s n) 0 (replicate (63 - n) 0) w n (length-words s n)
-          ∙ rw (q .1) (sym (append-snoc (wordsBefore s n) (wordAt s n) (replicate (63 - n) 0))));
-    }
-
-pub taken-stops : (s : List ℕ) (n : ℕ) (words : List ℕ) → Taken s n words → Wrong ≡ recordOf (take 8 (drop (n * 8) s)) → Passed s n words
-taken-stops s n words k e =
-    record {
-      few = k .few;
-      formed = k .formed;
-      filled = k .filled;
-      stopped = λ h. faulty-form s n (rw (← place-is s n) (recordOf-wrong (take 8 (drop (n * 8) s)) e));
-    }
-
-pub taken-all : (s : List ℕ) (n : ℕ) (words : List ℕ) → Taken s n words → 64 ≤ n → Passed s n words
-taken-all s n words k l = record { few = k .few; formed = k .formed; filled = k .filled; stopped = λ h. faulty-late s n l }
-
--- ---- the whole
-
-module _ (s words : List ℕ) (n first : ℕ) (passed : Passed s n words) (repeat : first ≡ firstRepeat (take n words)) where
-  words-read : take n words ≡ wordsBefore s n
-  words-read = rw (passed .filled) (take-at (wordsBefore s n) (replicate (64 - n) 0) n (length-words s n))
-
-  repeat-read : firstRepeat (wordsBefore s n) ≡ first
-  repeat-read = ap firstRepeat (sym words-read) ∙ sym repeat
-
-  at-end : n ≤ first → firstRepeat (wordsBefore s n) ≡ n
-  at-end h = repeat-read ∙ omega (arith, repeat-least (wordsBefore s n), repeat-read, length-words s n)
-
-  pub repeated : {r : Loaded} → first < n → r ≡ refused (first * 8) → r ≡ load s
-  repeated h e = e ∙ ap refused (mul-comm first 8) ∙ sym (load-repeat s n (passed .few) (passed .formed) first repeat-read h)
-
-  pub faulted : {r : Loaded} → n ≤ first → n * 8 < length s → r ≡ refused (n * 8) → r ≡ load s
-  faulted h l e =
-      e
-      ∙ ap refused (mul-comm n 8)
-      ∙ sym (load-fault s n (passed .few) (passed .formed) (at-end h) (omega arith) (passed .stopped (omega arith)))
-
-  pub loaded : n ≤ first → length s ≤ n * 8 → record { refusal = 0; place = 0; table = record { count = n; words = words } } ≡ load s
-  unfolding accepted tableOf
-  loaded h l =
-      rw (load-whole s n (passed .few) (passed .formed) (at-end h) (omega arith), length-words s n, passed .filled) refl

@@ -3,8 +3,8 @@ use native.Mathlib.Omega.{arith}
 use Prim.Native.Nat.{_/_}
 use borrow.Author.Needs.{needs}
 use lib.Bits.{xor-lt}
-use Rattle.hproto_load.proofs.apart.Statement.{statement}
-use Rattle.hproto_load.proofs.apart.Tie as tie
+use Rattle.hproto_repeat.proofs.apart.Statement.{statement}
+use Rattle.hproto_repeat.proofs.apart.Tie as tie
 
 add-result : tie.Need-add-result
 add-result c = omega (arith, xor-lt 48 (c .args .w / 65536) (c .args .p) (omega arith) (omega arith))

@@ -1,15 +1,14 @@
 -- Words none of which has a pair, eight at once.
-use Prim.Native.Nat.{ℕ, zero, suc, _+_, _*_, _/_, _≤_, _<_}
+use Prim.Native.Nat.{ℕ, zero, suc, _+_, _/_, _≤_, _<_}
 use native.Mathlib.Nat.{add-zero}
-use native.Mathlib.Numerals.{add-one}
 use native.Mathlib.Omega.{arith}
-use mathlib.Core.Path.{_≡_, refl, sym, _∙_}
+use mathlib.Core.Path.{_≡_, refl}
 use mathlib.Core.List.{List}
 use borrow.Author.Count.{below-more}
+use borrow.Enum.Match.{each-below}
 use lib.Bits.{bitXor, bitAnd, and-le-l, and-le-r, xor-self}
-use lib.ListN.{length, getD}
 use mathlib.Core.Bool.{false}
-use lib.ListN.{take}
+use lib.ListN.{length, take, getD}
 use Rattle.hproto_table.specs.Load.{pair, seen}
 use Rattle.hproto_table.proofs.Repeat.{seen-more}
 
@@ -33,17 +32,6 @@ and-above a b m h =
     let r = and-le-r a b in
     (omega arith, omega arith)
 
-each : (P : ℕ → Type 0) → P 0 → P 1 → P 2 → P 3 → P 4 → P 5 → P 6 → P 7 → (k : ℕ) → k < 8 → P k
-each P a b c d e f g h zero l = a
-each P a b c d e f g h (suc zero) l = b
-each P a b c d e f g h (suc (suc zero)) l = c
-each P a b c d e f g h (suc (suc (suc zero))) l = d
-each P a b c d e f g h (suc (suc (suc (suc zero)))) l = e
-each P a b c d e f g h (suc (suc (suc (suc (suc zero))))) l = f
-each P a b c d e f g h (suc (suc (suc (suc (suc (suc zero)))))) l = g
-each P a b c d e f g h (suc (suc (suc (suc (suc (suc (suc zero))))))) l = h
-each P a b c d e f g h (suc (suc (suc (suc (suc (suc (suc (suc k)))))))) l = absurd (omega arith)
-
 more : (words : List ℕ) (key i n : ℕ) → None words key i → ((k : ℕ) → k < n → getD words (i + k) 0 / 65536 ≡ key → ⊥) → None words key (i + n)
 more words key i zero p f = rw (add-zero i) p
 more words key i (suc n) p f =
@@ -66,10 +54,16 @@ module _ (words : List ℕ) (key i : ℕ) where
       let cd = and-above c d m (w .1) in
       let ef = and-above e f m (v .1) in
       let gh = and-above g h m (u .1) in
+      let n0 : getD words (i + 0) 0 / 65536 ≡ key → ⊥ = rw (add-zero i) (apart-not (getD words i 0) key a qa (ab .0)) in
+      let n1 = apart-not (getD words (i + 1) 0) key b qb (ab .1) in
+      let n2 = apart-not (getD words (i + 2) 0) key c qc (cd .0) in
+      let n3 = apart-not (getD words (i + 3) 0) key d qd (cd .1) in
+      let n4 = apart-not (getD words (i + 4) 0) key e qe (ef .0) in
+      let n5 = apart-not (getD words (i + 5) 0) key f qf (ef .1) in
+      let n6 = apart-not (getD words (i + 6) 0) key g qg (gh .0) in
+      let n7 = apart-not (getD words (i + 7) 0) key h qh (gh .1) in
       more words key i 8 p
-      (each (λ (k : ℕ). getD words (i + k) 0 / 65536 ≡ key → ⊥) (rw (add-zero i) (apart-not (getD words i 0) key a qa (ab .0))) (apart-not (getD words (i + 1) 0) key b qb (ab .1))
-      (apart-not (getD words (i + 2) 0) key c qc (cd .0)) (apart-not (getD words (i + 3) 0) key d qd (cd .1)) (apart-not (getD words (i + 4) 0) key e qe (ef .0))
-      (apart-not (getD words (i + 5) 0) key f qf (ef .1)) (apart-not (getD words (i + 6) 0) key g qg (gh .0)) (apart-not (getD words (i + 7) 0) key h qh (gh .1)))
+      (each-below 8 (λ (k : ℕ). getD words (i + k) 0 / 65536 ≡ key → ⊥) (n7, (n6, (n5, (n4, (n3, (n2, (n1, (n0, tt)))))))))
 
 -- A pair that none of the words has is not seen among them.
 pub seen-none : (words : List ℕ) (key r : ℕ) → r ≤ length words → None words key r → seen key (take r words) ≡ false

@@ -6,8 +6,8 @@ use lib.ListN.{take, drop}
 use Rattle.hproto_table.specs.Load.{pair}
 use Rattle.hproto_table.specs.Repeat.{rising}
 use Rattle.hproto_table.proofs.Repeat.{rise-ends, rise-breaks, rise-moves}
-use Rattle.hproto_load.proofs.rises.Statement.{statement}
-use Rattle.hproto_load.proofs.rises.Tie as tie
+use Rattle.hproto_repeat.proofs.rises.Statement.{statement}
+use Rattle.hproto_repeat.proofs.rises.Tie as tie
 
 abbrev Inv-loop : tie.InvT-loop
 Inv-loop words n low₀ i₀ low i = (i ≤ n) × (rising 0 (take n words) ≡ rising low (drop i (take n words)))

@@ -2,12 +2,9 @@
 use Prim.Native.Nat.{_-_, _≤_}
 use native.Mathlib.Omega.{arith}
 use borrow.Author.Needs.{needs}
-use Rattle.hproto_load.proofs.Skipping.{None, none-yet, eight}
-use Rattle.hproto_load.proofs.skip.Statement.{statement}
-use Rattle.hproto_load.proofs.skip.Tie as tie
-use Rattle.hproto_load.proofs.skip.Reads as reads
-use Rattle.hproto_load.proofs.skip.Lts as lts
-use Rattle.hproto_load.proofs.apart.Reads as apart-reads
+use Rattle.hproto_repeat.proofs.Skipping.{None, none-yet, eight}
+use Rattle.hproto_repeat.proofs.skip.Statement.{statement}
+use Rattle.hproto_repeat.proofs.skip.Tie as tie
 
 abbrev Inv-loop : tie.InvT-loop
 Inv-loop words n p i₀ i = (i ≤ n) × None words p i

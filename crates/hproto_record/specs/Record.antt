@@ -1,0 +1,13 @@
+-- What a record of a field table says.
+use Prim.Native.Nat.{ℕ}
+use mathlib.Core.Bool.{cond}
+use mathlib.Core.List.{List}
+use lib.ListN.{drop}
+use Rattle.octets.specs.Number.{number}
+use Rattle.hproto_table.specs.Load.{wellFormed}
+use Rattle.hproto_record.specs.declared.Record.{Record}
+use Rattle.hproto_record.specs.declared.Record.the-variants.{Word, Wrong}
+
+-- A record's word, where the record is of the right form.
+unfoldable pub recordOf : List ℕ → Record
+recordOf r = cond (wellFormed r) (Word (number (drop 3 r))) Wrong

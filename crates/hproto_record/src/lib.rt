@@ -1,0 +1,82 @@
+// One record of a field table's octets.
+ghost use mathlib.Core.Path.{_≡_};
+ghost use Prim.Native.Nat.{_+_, _≤_, _<_};
+ghost use lib.ListN.{length, take, drop, getD};
+ghost use Rattle.octets.specs.Number.{number};
+ghost use Rattle.hproto_table.specs.Entry.{entry};
+ghost use Rattle.hproto_table.specs.Load.{inRange};
+ghost use Rattle.hproto_record.specs.Record.{recordOf};
+
+// A record's word, or that the record is not of the right form.
+pub enum Record {
+    Word(u64),
+    Wrong,
+}
+
+// Whether the entry in a word is in range. The inner number is looked at first: it is 0 in most entries, whatever their kind.
+pub fn in_range(w: u64) -> bool
+    ensures { λ r. ⌜ r ≡ inRange (entry w) ⌝ }
+{
+    let number = w / 4294967296;
+    let kind = w / 256 % 256;
+    let inner = w % 256;
+    if 15 < number {
+        return false;
+    }
+    if inner != 0 {
+        if kind != 5 {
+            return false;
+        }
+        return inner < 16;
+    }
+    if kind == 0 {
+        return false;
+    }
+    kind < 6
+}
+
+// The octet at a place, as a number.
+fn octet_at(s: &[u8], at: usize) -> u64
+    requires { ⌜ at < length (now s) ⌝ }
+    ensures { λ r. ⌜ (r ≡ getD (now (s .entry)) at 0) × (r < 256) ⌝ }
+{
+    numbers::wide(s[at])
+}
+
+// The number that the five octets from a place on hold.
+fn five(s: &[u8], at: usize) -> u64
+    requires { ⌜ at + 5 ≤ length (now s) ⌝ }
+    ensures { λ r. ⌜ r ≡ number (take 5 (drop at (now (s .entry)))) ⌝ }
+{
+    let a = octet_at(s, at) * 256 + octet_at(s, at + 1);
+    let b = a * 256 + octet_at(s, at + 2);
+    let c = b * 256 + octet_at(s, at + 3);
+    c * 256 + octet_at(s, at + 4)
+}
+
+// The record at a place.
+pub fn record_at(s: &[u8], at: usize) -> Record
+    ensures { λ r. ⌜ r ≡ recordOf (take 8 (drop at (now (s .entry)))) ⌝ }
+{
+    if s.len() < 8 {
+        return Record::Wrong;
+    }
+    if s.len() - 8 < at {
+        return Record::Wrong;
+    }
+    if s[at] != 1 {
+        return Record::Wrong;
+    }
+    if s[at + 1] != 0 {
+        return Record::Wrong;
+    }
+    if s[at + 2] != 5 {
+        return Record::Wrong;
+    }
+    let w = five(s, at + 3);
+    if in_range(w) {
+        Record::Word(w)
+    } else {
+        Record::Wrong
+    }
+}
