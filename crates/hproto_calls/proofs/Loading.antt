@@ -1,5 +1,5 @@
 -- A call by the octets of a table, case by case.
-use Prim.Native.Nat.{ℕ, _*_, _^_, _≤_, _<_}
+use Prim.Native.Nat.{ℕ, _*_, _≤_, _<_}
 use native.Mathlib.Omega.{arith}
 use mathlib.Core.Path.{_≡_, refl, sym, _∙_}
 use mathlib.Core.Bool.{true}
@@ -12,14 +12,15 @@ use Rattle.hproto_table.specs.Load.{wordAt, load}
 use Rattle.hproto_table.specs.Valid.{valid}
 use Rattle.hproto_table.specs.declared.Table.{Table}
 use Rattle.hproto_table.specs.declared.Loaded.{Loaded}
-use Rattle.hproto_table.proofs.SameFinds.{SameFinds}
+use Rattle.hproto_table.specs.SameFinds.{SameFinds}
 use Rattle.hproto_table.proofs.Placed.{loaded-valid}
 use Rattle.hproto_index.specs.Slots.{notedBefore, takenFrom, listed}
 use Rattle.hproto_index.proofs.Loaded.{taken-few, octets-accepted, octets-entries}
 use Rattle.hproto_check.proofs.SameFinds.{indexed-check}
 use Rattle.hproto_shorten.proofs.SameFinds.{indexed-answer, indexed-buffer}
 use Rattle.hproto_calls.specs.Calls.{withTable, checkOctets, shortenOctets, shortenBuffer}
-use Rattle.hproto_check.specs.Check as checks
+use Rattle.reading.specs.Reading.{messageLimit}
+use Rattle.reading.specs.Checks as answers
 use Rattle.hproto_check.specs.Check.{checkUnder, check}
 use Rattle.hproto_shorten.specs.Shorten as shortens
 use Rattle.hproto_shorten.specs.Shorten.{answerUnder, bufferUnder, answer, buffer}
@@ -27,16 +28,16 @@ use Rattle.hproto_shorten.specs.Shorten.{answerUnder, bufferUnder, answer, buff
 module _ {A : Type 0} (octets s : List ℕ) (under : Table → A) (refuse : ℕ → ℕ → A) where
   pub message-too-long : 65536 < length s → refuse 1 0 ≡ withTable octets s under refuse
   unfolding withTable
-  message-too-long h = rw (lt-ltb (2 ^ 16) (length s) h)
+  message-too-long h = rw (lt-ltb messageLimit (length s) h)
 
   module _ (h : length s ≤ 65536) (l : Loaded) (e : l ≡ load octets) where
     pub table-refused : (l .refusal ≡ 0 → ⊥) → refuse (l .refusal) (l .place) ≡ withTable octets s under refuse
     unfolding withTable
-    table-refused ne = rw (le-ltb (2 ^ 16) (length s) h, ← e, ne-eqb (l .refusal) 0 ne)
+    table-refused ne = rw (le-ltb messageLimit (length s) h, ← e, ne-eqb (l .refusal) 0 ne)
 
     pub table-loaded : l .refusal ≡ 0 → under (l .table) ≡ withTable octets s under refuse
     unfolding withTable
-    table-loaded z = rw (le-ltb (2 ^ 16) (length s) h, ← e, eq-eqb (l .refusal) 0 z)
+    table-loaded z = rw (le-ltb messageLimit (length s) h, ← e, eq-eqb (l .refusal) 0 z)
 
 -- An index that has all records of a table's octets: the table loads, and the calls answer under the index as under the table.
 module _ (octets s : List ℕ) (o : Octets octets) (h : length s ≤ 65536) (n : ℕ) (slots ws : List ℕ) (counted : n ≡ takenFrom octets (replicate 256 0) 0 64)
@@ -57,7 +58,7 @@ module _ (octets s : List ℕ) (o : Octets octets) (h : length s ≤ 65536) (n :
   unfolding checkOctets
   check-by-index =
       indexed-check (load octets .table) m s slots ws h good same
-      ∙ table-loaded octets s (λ (t : Table). check t m s) checks.refusal h (load octets) refl loads
+      ∙ table-loaded octets s (λ (t : Table). check t m s) answers.refusal h (load octets) refl loads
 
   pub shorten-by-index : (out : List ℕ) → answerUnder (listed slots ws) m s out ≡ shortenOctets octets m s out
   unfolding shortenOctets
@@ -80,7 +81,7 @@ counted-few octets slots n e = omega (arith, taken-few octets slots 64 0)
 module _ (octets s : List ℕ) (z : load octets .refusal ≡ 0) (h : length s ≤ 65536) (n : ℕ) where
   pub check-as-loaded : checkOctets octets n s ≡ check (load octets .table) n s
   unfolding checkOctets
-  check-as-loaded = sym (table-loaded octets s (λ (t : Table). check t n s) checks.refusal h (load octets) refl z)
+  check-as-loaded = sym (table-loaded octets s (λ (t : Table). check t n s) answers.refusal h (load octets) refl z)
 
   pub shorten-as-loaded : (out : List ℕ) → shortenOctets octets n s out ≡ answer (load octets .table) n s out
   unfolding shortenOctets

@@ -1,14 +1,16 @@
 -- What the calls answer that take a field table as its octets.
-use Prim.Native.Nat.{ℕ, _^_}
+use Prim.Native.Nat.{ℕ}
 use mathlib.Core.Bool.{cond}
 use mathlib.Core.List.{List}
 use lib.ListN.{length}
 use lib.Dec.{ltb, eqb}
+use Rattle.reading.specs.Reading.{messageLimit}
+use Rattle.reading.specs.Checks as answers
 use Rattle.hproto_table.specs.Load.{load}
 use Rattle.hproto_table.specs.declared.Table.{Table}
 use Rattle.hproto_table.specs.declared.Loaded.{Loaded}
 use Rattle.hproto_check.specs.Check as checks
-use Rattle.hproto_check.specs.declared.Checked.{Checked}
+use Rattle.reading.specs.declared.Checked.{Checked}
 use Rattle.hproto_shorten.specs.Shorten as shortens
 use Rattle.hproto_shorten.specs.declared.Shortened.{Shortened}
 use Rattle.hproto_lookup.specs.Lookup as lookups
@@ -17,11 +19,11 @@ use Rattle.hproto_lookup.specs.declared.Found.{Found}
 -- Document 01's order: 1 for a message that is too long, the loader's refusal, then what is answered under the loaded table.
 unfoldable pub withTable : {A : Type 0} → List ℕ → List ℕ → (Table → A) → (ℕ → ℕ → A) → A
 withTable octets message under refuse =
-    cond (ltb (2 ^ 16) (length message)) (refuse 1 0)
+    cond (ltb messageLimit (length message)) (refuse 1 0)
     (cond (eqb (load octets .refusal) 0) (under (load octets .table)) (refuse (load octets .refusal) (load octets .place)))
 
 unfoldable pub checkOctets : List ℕ → ℕ → List ℕ → Checked
-checkOctets octets n s = withTable octets s (λ t. checks.check t n s) checks.refusal
+checkOctets octets n s = withTable octets s (λ t. checks.check t n s) answers.refusal
 
 unfoldable pub shortenOctets : List ℕ → ℕ → List ℕ → List ℕ → Shortened
 shortenOctets octets n s out = withTable octets s (λ t. shortens.answer t n s out) shortens.refusal

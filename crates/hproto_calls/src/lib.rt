@@ -1,36 +1,23 @@
 // The calls that take a field table as its octets. A message that is too long is refused before the table is loaded, a faulty table
 // before the message number is looked at. Of most tables an index has every entry: then check and shortener make nothing else of the
 // table. Else, and for a lookup, the table is loaded.
-use hproto_check::Checked;
 use hproto_lookup::Found;
 use hproto_shorten::Shortened;
+use reading::Checked;
 ghost use mathlib.Core.Path.{_≡_};
 ghost use Prim.Native.Nat.{_≤_};
 ghost use lib.ListN.{length};
+ghost use Rattle.reading.specs.Reading.{messageLimit};
 ghost use Rattle.hproto_calls.specs.Calls.{checkOctets, shortenOctets, shortenBuffer, lookupOctets, lookupLastOctets};
-ghost use Rattle.hproto_check.specs.Check.{refusal as check-refusal};
-ghost use Rattle.hproto_shorten.specs.Shorten.{refusal as shorten-refusal};
-ghost use Rattle.hproto_lookup.specs.Lookup.{refusal as lookup-refusal};
-
-fn unchecked(number: u64, place: u64) -> Checked
-    ensures { λ r. ⌜ r ≡ check-refusal number place ⌝ }
-{
-    Checked {
-        refusal: number,
-        place,
-        fields: 0,
-        depth: 0,
-    }
-}
 
 // The check of a message that is not too long, by loading the whole table.
 fn check_loaded(table: &[u8], number: u64, message: &[u8]) -> Checked
-    requires { ⌜ length (now message) ≤ 65536 ⌝ }
+    requires { ⌜ length (now message) ≤ messageLimit ⌝ }
     ensures { λ r. ⌜ r ≡ checkOctets (now (table .entry)) number (now (message .entry)) ⌝ }
 {
     let l = hproto_load::load(table);
     if l.refusal != 0 {
-        return unchecked(l.refusal, l.place);
+        return reading::refused(l.refusal, l.place);
     }
     hproto_check::check(l.table, number, message)
 }
@@ -40,7 +27,7 @@ pub fn check(table: &[u8], number: u64, message: &[u8]) -> Checked
     ensures { λ r. ⌜ r ≡ checkOctets (now (table .entry)) number (now (message .entry)) ⌝ }
 {
     if 65536 < message.len() {
-        return unchecked(1, 0);
+        return reading::refused(1, 0);
     }
     let mut slots = [0u16; 256];
     let n = hproto_index::index(table, &mut slots);
@@ -52,25 +39,15 @@ pub fn check(table: &[u8], number: u64, message: &[u8]) -> Checked
     hproto_check::check_under(&slots, hproto_find::first(&none, 0), number, message)
 }
 
-fn unshortened(number: u64, place: u64) -> Shortened
-    ensures { λ r. ⌜ r ≡ shorten-refusal number place ⌝ }
-{
-    Shortened {
-        refusal: number,
-        place,
-        length: 0,
-    }
-}
-
 // The shortener of a message that is not too long, by loading the whole table.
 fn shorten_loaded(table: &[u8], number: u64, message: &[u8], out: &mut [u8]) -> Shortened
-    requires { ⌜ length (now message) ≤ 65536 ⌝ }
+    requires { ⌜ length (now message) ≤ messageLimit ⌝ }
     ensures { λ r. ⌜ r ≡ shortenOctets (now (table .entry)) number (now (message .entry)) (now (out .entry)) ⌝ }
     ensures { λ r. ⌜ now (out .exit) ≡ shortenBuffer (now (table .entry)) number (now (message .entry)) (now (out .entry)) ⌝ }
 {
     let l = hproto_load::load(table);
     if l.refusal != 0 {
-        return unshortened(l.refusal, l.place);
+        return hproto_shorten::refused(l.refusal, l.place);
     }
     hproto_shorten::shorten(l.table, number, message, out)
 }
@@ -81,7 +58,7 @@ pub fn shorten(table: &[u8], number: u64, message: &[u8], out: &mut [u8]) -> Sho
     ensures { λ r. ⌜ now (out .exit) ≡ shortenBuffer (now (table .entry)) number (now (message .entry)) (now (out .entry)) ⌝ }
 {
     if 65536 < message.len() {
-        return unshortened(1, 0);
+        return hproto_shorten::refused(1, 0);
     }
     let mut slots = [0u16; 256];
     let n = hproto_index::index(table, &mut slots);
@@ -93,30 +70,16 @@ pub fn shorten(table: &[u8], number: u64, message: &[u8], out: &mut [u8]) -> Sho
     hproto_shorten::shorten_under(&slots, hproto_find::first(&none, 0), number, message, out)
 }
 
-fn unfound(number: u64, place: u64) -> Found
-    ensures { λ r. ⌜ r ≡ lookup-refusal number place ⌝ }
-{
-    Found {
-        refusal: number,
-        place,
-        kind: 0,
-        number: 0,
-        signed: 0,
-        start: 0,
-        length: 0,
-    }
-}
-
 // The k-th of the outermost fields with a tag.
 pub fn lookup(table: &[u8], number: u64, message: &[u8], tag: u64, k: u64) -> Found
     ensures { λ r. ⌜ r ≡ lookupOctets (now (table .entry)) number (now (message .entry)) tag k ⌝ }
 {
     if 65536 < message.len() {
-        return unfound(1, 0);
+        return hproto_lookup::refused(1, 0);
     }
     let l = hproto_load::load(table);
     if l.refusal != 0 {
-        return unfound(l.refusal, l.place);
+        return hproto_lookup::refused(l.refusal, l.place);
     }
     hproto_lookup::lookup(l.table, number, message, tag, k)
 }
@@ -126,11 +89,11 @@ pub fn lookup_last(table: &[u8], number: u64, message: &[u8], tag: u64) -> Found
     ensures { λ r. ⌜ r ≡ lookupLastOctets (now (table .entry)) number (now (message .entry)) tag ⌝ }
 {
     if 65536 < message.len() {
-        return unfound(1, 0);
+        return hproto_lookup::refused(1, 0);
     }
     let l = hproto_load::load(table);
     if l.refusal != 0 {
-        return unfound(l.refusal, l.place);
+        return hproto_lookup::refused(l.refusal, l.place);
     }
     hproto_lookup::lookup_last(l.table, number, message, tag)
 }

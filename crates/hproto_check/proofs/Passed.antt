@@ -1,5 +1,5 @@
 -- A message that the check does not refuse is short enough, and its reading is a cut.
-use Prim.Native.Nat.{ℕ, _^_, _≤_}
+use Prim.Native.Nat.{ℕ, _≤_}
 use native.Mathlib.Omega.{arith}
 use mathlib.Core.Path.{_≡_, refl}
 use mathlib.Core.Bool.{Bool, true, false, cond}
@@ -11,35 +11,37 @@ use Rattle.hproto_table.specs.Entry.{Entry, entries}
 use Rattle.hproto_table.specs.Valid.{valid}
 use Rattle.hproto_table.specs.declared.Table.{Table}
 use Rattle.hproto_message.specs.Cut.{Cut}
-use Rattle.hproto_message.specs.Reading.{Reading, accepted, refused, reading}
+use Rattle.reading.specs.Reading.{Reading, accepted, refused, messageLimit}
+use Rattle.reading.specs.Checks.{refusal, counts}
+use Rattle.reading.specs.declared.Checked.{Checked}
+use Rattle.hproto_message.specs.Reading.{reading}
 use Rattle.hproto_message.proofs.Refusals.{refusal-positive}
-use Rattle.hproto_check.specs.Check.{refusal, counts, check, checkUnder}
-use Rattle.hproto_check.specs.declared.Checked.{Checked}
+use Rattle.hproto_check.specs.Check.{treeCounts, check, checkUnder}
 
 pub under-passed : (es : List Entry) (n : ℕ) (s : List ℕ) → checkUnder es n s .refusal ≡ 0
     → (length s ≤ 65536) × ((cut : Cut) × (reading es n s ≡ accepted cut))
-unfolding checkUnder refusal counts reading
-under-passed es n s e = long (ltb (2 ^ 16) (length s)) refl e
+unfolding checkUnder refusal treeCounts counts reading
+under-passed es n s e = long (ltb messageLimit (length s)) refl e
   where
-    read : (r : Reading) → reading es n s ≡ r → counts es n r .refusal ≡ 0 → (cut : Cut) × (reading es n s ≡ accepted cut)
+    read : (r : Reading Cut) → reading es n s ≡ r → treeCounts es n r .refusal ≡ 0 → (cut : Cut) × (reading es n s ≡ accepted cut)
     read (accepted cut) f e = (cut, f)
     read (refused number place) f e = let h = refusal-positive es 8 n 0 0 s number place f in absurd (omega arith)
 
-    bad : (b : Bool) → length s ≤ 65536 → cond b (refusal 2 0) (counts es n (reading es n s)) .refusal ≡ 0
+    bad : (b : Bool) → length s ≤ 65536 → cond b (refusal 2 0) (treeCounts es n (reading es n s)) .refusal ≡ 0
         → (length s ≤ 65536) × ((cut : Cut) × (reading es n s ≡ accepted cut))
     bad true h e = absurd (omega arith)
     bad false h e = (h, read (reading es n s) refl e)
 
-    long : (b : Bool) → ltb (2 ^ 16) (length s) ≡ b
-        → cond b (refusal 1 0) (cond (ltb 15 n) (refusal 2 0) (counts es n (reading es n s))) .refusal ≡ 0
+    long : (b : Bool) → ltb messageLimit (length s) ≡ b
+        → cond b (refusal 1 0) (cond (ltb 15 n) (refusal 2 0) (treeCounts es n (reading es n s))) .refusal ≡ 0
         → (length s ≤ 65536) × ((cut : Cut) × (reading es n s ≡ accepted cut))
     long true f e = absurd (omega arith)
-    long false f e = bad (ltb 15 n) (ltb-false (2 ^ 16) (length s) f) e
+    long false f e = bad (ltb 15 n) (ltb-false messageLimit (length s) f) e
 
 -- A refusal of the entries' check is one of the table's.
 passed-under : (t : Table) (n : ℕ) (s : List ℕ) → check t n s .refusal ≡ 0 → checkUnder (entries t) n s .refusal ≡ 0
 unfolding check refusal
-passed-under t n s e = long (ltb (2 ^ 16) (length s)) e
+passed-under t n s e = long (ltb messageLimit (length s)) e
   where
     good : (v : Bool) → cond v (checkUnder (entries t) n s) (refusal 2 0) .refusal ≡ 0 → checkUnder (entries t) n s .refusal ≡ 0
     good true e = e

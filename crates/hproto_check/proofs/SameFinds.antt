@@ -7,16 +7,19 @@ use lib.ListN.{length}
 use Rattle.hproto_table.specs.Entry.{Entry, entries}
 use Rattle.hproto_table.specs.Valid.{valid}
 use Rattle.hproto_table.specs.declared.Table.{Table}
-use Rattle.hproto_table.proofs.SameFinds.{SameFinds}
+use Rattle.hproto_table.specs.SameFinds.{SameFinds}
 use Rattle.hproto_index.specs.Slots.{listed}
-use Rattle.hproto_message.specs.Reading.{Reading, accepted, refused, reading}
+use Rattle.reading.specs.Reading.{Reading, accepted, refused}
+use Rattle.reading.specs.Checks.{counts}
+use Rattle.hproto_message.specs.Cut.{Cut}
+use Rattle.hproto_message.specs.Reading.{reading}
 use Rattle.hproto_message.proofs.SameFinds.{reading-same, tree-same}
-use Rattle.hproto_check.specs.Check.{counts, checkUnder, check}
+use Rattle.hproto_check.specs.Check.{treeCounts, checkUnder, check}
 use Rattle.hproto_check.proofs.Counts.{under-valid}
 
 module _ (es fs : List Entry) (same : SameFinds es fs) where
-  counts-same : (n : ℕ) (r : Reading) → counts es n r ≡ counts fs n r
-  unfolding counts
+  counts-same : (n : ℕ) (r : Reading Cut) → treeCounts es n r ≡ treeCounts fs n r
+  unfolding treeCounts counts
   counts-same n (accepted cut) = rw (tree-same es fs same n cut) refl
   counts-same n (refused number place) = refl
 

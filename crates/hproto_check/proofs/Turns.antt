@@ -1,28 +1,25 @@
 -- The state of the walk through the fields of one message, and what each turn of its loop does to it.
 use Prim.Native.Nat.{ℕ, zero, suc, _+_, _-_, _≤_, _<_, max}
-use native.Mathlib.Nat.{add-zero, add-assoc}
+use native.Mathlib.Nat.{add-zero}
 use native.Mathlib.Omega.{arith}
 use mathlib.Core.Path.{_≡_, refl, sym, ap, ap₂, _∙_, subst}
-use mathlib.Core.List.{List, [], _∷_, _++_}
+use mathlib.Core.List.{List}
 use lib.ListN.{length, take, drop, length-append, length-drop}
 use lib.Seq.{drop-drop, length-take-le}
 use Rattle.hproto_table.specs.Entry.{Entry}
-use Rattle.hproto_message.specs.Cut.{Cut, end, leaf, nested, depth, joined, Allowed, Good}
+use Rattle.hproto_message.specs.Cut.{Cut, end, leaf, nested, depth, joined, Allowed}
 use Rattle.hproto_message.specs.declared.Step.{Step}
 use Rattle.hproto_message.specs.declared.Step.the-variants.{Done, Fault, Over, Into}
-use Rattle.hproto_message.specs.Reading.{Reading, accepted, refused, onCut, inOrder, Inner, step, afterStep, fieldsFrom, messageFrom}
+use Rattle.reading.specs.Reading.{Reading, accepted, refused}
+use Rattle.hproto_message.specs.Reading.{Inner, step, afterStep, fieldsFrom, messageFrom}
 use Rattle.hproto_message.proofs.Steps.{StepMeans, step-means}
 use Rattle.hproto_message.proofs.Accepted.{accepted-good, depth-positive, field-size}
 use Rattle.hproto_check.specs.Walks.{fields, walk}
-use Rattle.hproto_check.specs.declared.Walk.{Walk}
-use Rattle.hproto_check.specs.declared.Walk.the-variants.{Accepted, Refused}
-use Rattle.hproto_check.proofs.Adding.{after, after-after, walk-leaf, walk-nested, walk-refused}
-
--- Every message has depth 1 or more.
-after-first : (r : Reading) → after 0 1 (walk r) ≡ walk r
-unfolding after walk
-after-first (accepted cut) = let h = depth-positive cut in ap₂ Accepted (omega arith) (omega arith)
-after-first (refused number place) = refl
+use Rattle.reading.specs.declared.Walk.{Walk}
+use Rattle.reading.specs.declared.Walk.the-variants.{Accepted, Refused}
+use Rattle.reading.specs.Checks.{walkOf}
+use Rattle.reading.proofs.Adding.{after, after-after, after-none}
+use Rattle.hproto_check.proofs.Adding.{walk-leaf, walk-nested, walk-refused}
 
 -- The sizes that a step names lie within the octets.
 pub step-inside : (es : List Entry) (n : ℕ) (s : List ℕ) (k l : ℕ) → step es n s ≡ Over k l → (1 ≤ k) × (k + l ≤ length s)
@@ -54,7 +51,7 @@ module _ (es : List Entry) (inner : Inner) (n at : ℕ) (s : List ℕ) where
         enough = omega arith;
         few = omega arith;
         deep = omega arith;
-        same = rw (add-zero at) (sym (after-first (fieldsFrom es inner n (suc (length s)) at s)));
+        same = rw (add-zero at) (sym (after-none fields depth depth-positive (fieldsFrom es inner n (suc (length s)) at s)));
       }
 
   module _ (i f d : ℕ) (now : State i f d) where
@@ -69,11 +66,11 @@ module _ (es : List Entry) (inner : Inner) (n at : ℕ) (s : List ℕ) where
         go (suc left) h e = let k : suc left - 1 ≡ left = omega arith in rw k e
 
     pub at-end : step es n (drop i s) ≡ Done → whole ≡ Accepted f d
-    unfolding afterStep walk after fields depth
+    unfolding afterStep walkOf after fields depth
     at-end e = let h = now .deep in looks ∙ rw e (ap₂ Accepted (omega arith) (omega arith))
 
     pub at-fault : (k : ℕ) → step es n (drop i s) ≡ Fault k → whole ≡ Refused k (at + i)
-    unfolding afterStep walk after
+    unfolding afterStep walkOf after
     at-fault k e = looks ∙ rw e
 
     -- The place and the octets after a step, counted from the message's start.
@@ -102,7 +99,7 @@ module _ (es : List Entry) (inner : Inner) (n at : ℕ) (s : List ℕ) where
           same =
               same
               ∙ after-after f d g e (walk (fieldsFrom es inner n (now .left - 1) (at + i + k + l) (drop (k + l) (drop i s))))
-              ∙ ap (λ (r : Reading). after (f + g) (max d e) (walk r)) (moved k l (now .left - 1));
+              ∙ ap (λ (r : Reading Cut). after (f + g) (max d e) (walk r)) (moved k l (now .left - 1));
         }
 
     pub over-leaf : (k l : ℕ) → step es n (drop i s) ≡ Over k l → State (i + k + l) (f + 1) d
@@ -196,10 +193,10 @@ fields-few es (nested c inside rest) n a =
 -- The counts of an accepted message are small.
 pub counts-small : (es : List Entry) (levels n field at : ℕ) (s : List ℕ) (f d : ℕ) → walk (messageFrom es levels n field at s) ≡ Accepted f d
     → (f ≤ length s) × (d ≤ levels)
-unfolding walk
+unfolding walkOf
 counts-small es levels n field at s f d e = go (messageFrom es levels n field at s) refl e
   where
-    go : (r : Reading) → messageFrom es levels n field at s ≡ r → walk r ≡ Accepted f d → (f ≤ length s) × (d ≤ levels)
+    go : (r : Reading Cut) → messageFrom es levels n field at s ≡ r → walk r ≡ Accepted f d → (f ≤ length s) × (d ≤ levels)
     go (accepted cut) h w =
         let g = accepted-good es levels n field at s cut h in
         let p : fields cut ≡ f = cc in

@@ -29,7 +29,7 @@ pub enum Holds {
 }
 
 // The tag of a whole field and the sizes of its control part and of its contents, or that there is none.
-enum Extent {
+pub enum Extent {
     None,
     Found(u64, usize, usize),
 }
@@ -49,7 +49,7 @@ fn number_field(size: usize, n: usize) -> Step
 fn text_field(size: usize, contents: &[u8]) -> Step
     ensures { λ r. ⌜ r ≡ cond (text (now (contents .entry))) (Step.Over size (length (now (contents .entry)))) (Step.Fault 7) ⌝ }
 {
-    if octets_read::text(contents) {
+    if octets_text::text(contents) {
         Step::Over(size, contents.len())
     } else {
         Step::Fault(7)

@@ -1,31 +1,29 @@
 -- The answer of a lookup, case by case.
-use Prim.Native.Nat.{ℕ, _+_, _-_, _^_, _≤_}
+use Prim.Native.Nat.{ℕ, _+_, _-_, _≤_}
 use native.Mathlib.Omega.{arith}
 use mathlib.Core.Path.{_≡_, refl, sym, ap, _∙_}
-use mathlib.Core.Bool.{Bool, true, false, cond, not, _||_}
+use mathlib.Core.Bool.{false}
 use mathlib.Core.List.{List}
 use mathlib.Core.Option.{Option, none, some, Option·map}
 use lib.ListN.{length, take, drop, length-drop}
 use lib.Seq.{length-take-le}
-use lib.Dec.{ltb, eqb}
+use lib.Dec.{eqb}
 use borrow.Author.Tests.{le-leb, eq-eqb, ne-eqb}
 use Rattle.octets.specs.Number.{unsigned}
 use Rattle.octets.specs.Signed.{signed}
 use Rattle.hproto_table.specs.Entry.{Entry, find, entries, kindNumber}
-use Rattle.hproto_table.specs.Valid.{valid}
 use Rattle.hproto_table.specs.declared.Meaning.{Meaning}
 use Rattle.hproto_table.specs.declared.Meaning.the-variants.{Raw, Uint, Int, String, Text, Message}
 use Rattle.hproto_table.specs.declared.Table.{Table}
 use Rattle.hproto_message.specs.Cut.{Cut, Contents, Good}
 use Rattle.hproto_message.specs.Tree.{value}
-use Rattle.hproto_message.specs.Reading.{Reading, accepted, refused, reading}
+use Rattle.reading.specs.Reading.{accepted}
+use Rattle.hproto_message.specs.Reading.{reading}
 use Rattle.hproto_message.proofs.Accepted.{accepted-good}
-use Rattle.hproto_message.proofs.Refusals.{refusal-positive}
-use Rattle.hproto_check.specs.Check as checks
-use Rattle.hproto_check.specs.Check.{check, counts}
-use Rattle.hproto_check.specs.declared.Checked.{Checked}
+use Rattle.hproto_check.specs.Check.{check}
+use Rattle.reading.specs.declared.Checked.{Checked}
 use Rattle.hproto_lookup.specs.Lookup.{Item, Outer, outermost, itemTag, withTag, chosen, itemKind, uintOf, intOf, refusal, found, foundIn, answer}
-use Rattle.hproto_lookup.specs.Spots.{places, spotOf, nthSpot, lastSpot, chosenSpot, uintOr, intOr, uintIn, intIn, read}
+use Rattle.hproto_lookup.specs.Spots.{places, spotOf, nthSpot, lastSpot, chosenSpot, uintIn, intIn, read}
 use Rattle.hproto_lookup.specs.declared.Occurrence.{Occurrence}
 use Rattle.hproto_lookup.specs.declared.Occurrence.the-variants.{Nth, Last}
 use Rattle.hproto_lookup.specs.declared.Spot.{Spot}
@@ -37,7 +35,7 @@ use Rattle.hproto_check.proofs.Passed.{check-passed}
 -- Contents that are allowed for a kind are answered with the kind's number and their value.
 read-leaf : (k : Meaning) (t start : ℕ) (b : List ℕ) → Contents k b
     → read (kindNumber k) start b ≡ found (some (record { item = Item.leaf t (value k b); start = start; length = length b }))
-unfolding read kindNumber uintIn intIn uintOr intOr unsigned signed found itemKind uintOf intOf value Contents
+unfolding read kindNumber uintIn intIn unsigned signed found itemKind uintOf intOf value Contents
 read-leaf Raw t start b h = refl
 read-leaf Uint t start b h = rw (le-leb (length b) 8 h)
 read-leaf Int t start b h = rw (le-leb (length b) 8 h)
@@ -45,20 +43,20 @@ read-leaf String t start b h = refl
 read-leaf Text t start b h = refl
 read-leaf (Message m) t start b h = absurd h
 
-read-item : (es : List Entry) (room n : ℕ) (i : Item) (start : ℕ) (b : List ℕ) → Shows es room n b i
+read-item : (es : List Entry) (levels n : ℕ) (i : Item) (start : ℕ) (b : List ℕ) → Shows es levels n b i
     → read (kindNumber (find es n (itemTag i))) start b ≡ found (some (record { item = i; start = start; length = length b }))
 unfolding Shows itemTag read kindNumber uintIn intIn found itemKind uintOf intOf
-read-item es room n (Item.leaf t v) start b h = rw (h .0) (read-leaf (find es n t) t start b (h .1))
-read-item es room n (Item.nested t inside) start b h = rw (h .2)
+read-item es levels n (Item.leaf t v) start b h = rw (h .0) (read-leaf (find es n t) t start b (h .1))
+read-item es levels n (Item.nested t inside) start b h = rw (h .2)
 
 -- What was found is read from the octets at its place.
-read-outer : (es : List Entry) (room n : ℕ) (s : List ℕ) (o : Outer) (t : ℕ) → Held es room n s o → itemTag (o .item) ≡ t
+read-outer : (es : List Entry) (levels n : ℕ) (s : List ℕ) (o : Outer) (t : ℕ) → Held es levels n s o → itemTag (o .item) ≡ t
     → read (kindNumber (find es n t)) (o .start) (take (o .length) (drop (o .start) s)) ≡ found (some o)
 unfolding found
-read-outer es room n s o t h e =
+read-outer es levels n s o t h e =
     let k = h .inside in
     let l = length-take-le (o .length) (drop (o .start) s) (simp length-drop (omega arith)) in
-    let r = read-item es room n (o .item) (o .start) (take (o .length) (drop (o .start) s)) (h .shows) in
+    let r = read-item es levels n (o .item) (o .start) (take (o .length) (drop (o .start) s)) (h .shows) in
     rw (← e) (r ∙ rw l)
 
 chosen-spot : (t : ℕ) (w : Occurrence) (s : List ℕ) → chosenSpot t w s ≡ spotOf (chosen w (places t s))

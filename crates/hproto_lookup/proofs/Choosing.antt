@@ -4,19 +4,19 @@ use native.Mathlib.Omega.{arith}
 use mathlib.Core.Path.{_≡_, refl, ap}
 use mathlib.Core.Bool.{Bool, true, false, cond}
 use mathlib.Core.List.{List, [], _∷_, map}
+use lib.ListN.{getElem?}
 use mathlib.Core.Option.{Option, none, some, Option·map}
 use lib.Dec.{eqb}
 use borrow.Author.Tests.{eqb-true, ne-eqb}
-use Rattle.hproto_lookup.specs.Lookup.{Item, itemTag, withTag, kth, lastOr, chosen}
+use Rattle.hproto_lookup.specs.Lookup.{Item, itemTag, withTag, lastOr, chosen}
 use Rattle.hproto_lookup.specs.declared.Occurrence.{Occurrence}
 use Rattle.hproto_lookup.specs.declared.Occurrence.the-variants.{Nth, Last}
 
 module _ {A B : Type 0} (f : A → B) where
-  kth-map : (k : ℕ) (l : List A) → kth k (map f l) ≡ Option·map f (kth k l)
-  unfolding kth
-  kth-map k [] = refl
-  kth-map zero (x ∷ l) = refl
-  kth-map (suc k) (x ∷ l) = kth-map k l
+  getElem-map : (k : ℕ) (l : List A) → getElem? (map f l) k ≡ Option·map f (getElem? l k)
+  getElem-map k [] = refl
+  getElem-map zero (x ∷ l) = refl
+  getElem-map (suc k) (x ∷ l) = getElem-map k l
 
   last-map : (o : Option A) (l : List A) → lastOr (Option·map f o) (map f l) ≡ Option·map f (lastOr o l)
   unfolding lastOr
@@ -25,7 +25,7 @@ module _ {A B : Type 0} (f : A → B) where
 
   pub chosen-map : (w : Occurrence) (l : List A) → chosen w (map f l) ≡ Option·map f (chosen w l)
   unfolding chosen
-  chosen-map (Nth k) l = kth-map k l
+  chosen-map (Nth k) l = getElem-map k l
   chosen-map Last l = last-map none l
 
   -- A function that keeps what an element stands for keeps its tag.
@@ -61,11 +61,11 @@ module _ {A : Type 0} (P : A → Type 0) where
   Of none = Unit {0}
   Of (some x) = P x
 
-  kth-each : (k : ℕ) (l : List A) → Each l → Of (kth k l)
-  unfolding Each Of kth
-  kth-each k [] h = tt
-  kth-each zero (x ∷ l) h = h .0
-  kth-each (suc k) (x ∷ l) h = kth-each k l (h .1)
+  getElem-each : (k : ℕ) (l : List A) → Each l → Of (getElem? l k)
+  unfolding Each Of
+  getElem-each k [] h = tt
+  getElem-each zero (x ∷ l) h = h .0
+  getElem-each (suc k) (x ∷ l) h = getElem-each k l (h .1)
 
   last-each : (o : Option A) (l : List A) → Of o → Each l → Of (lastOr o l)
   unfolding Each Of lastOr
@@ -74,7 +74,7 @@ module _ {A : Type 0} (P : A → Type 0) where
 
   pub chosen-each : (w : Occurrence) (l : List A) → Each l → Of (chosen w l)
   unfolding chosen Of
-  chosen-each (Nth k) l h = kth-each k l h
+  chosen-each (Nth k) l h = getElem-each k l h
   chosen-each Last l h = last-each none l tt h
 
 -- The elements with a tag have that tag, and what each element has.
@@ -99,6 +99,6 @@ withTag-none item bound t (x ∷ l) b h =
     rw (ne-eqb (itemTag (item x)) t (λ e. omega arith)) (withTag-none item bound t l b (h .1))
 
 pub chosen-none : {A : Type 0} (w : Occurrence) → chosen {A = A} w [] ≡ none
-unfolding chosen kth lastOr
+unfolding chosen lastOr
 chosen-none (Nth k) = refl
 chosen-none Last = refl

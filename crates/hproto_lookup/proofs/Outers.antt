@@ -21,8 +21,9 @@ use Rattle.hproto_message.specs.Cut.{Cut, joined, WholeField, Contents, Allowed
 use Rattle.hproto_message.specs.Tree.{tagOf, value, tree}
 use Rattle.hproto_message.proofs.Steps.{in-three}
 use Rattle.hproto_lookup.specs.Lookup.{Item, items, Outer, outermost, itemTag, withTag}
-use Rattle.hproto_lookup.specs.Spots.{frontFrom, front, Span, afterPiece, placesFrom, places}
-use Rattle.hproto_lookup.specs.declared.Piece.the-variants.{Field}
+use Rattle.hproto_lookup.specs.Spots.{Span, afterPart, placesFrom, places}
+use Rattle.hproto_field.specs.Fronts.{partFrom, part}
+use Rattle.hproto_field.specs.declared.Extent.the-variants.{Found}
 use Rattle.hproto_lookup.proofs.Choosing.{Each, map-withTag}
 
 -- The field of the tree that an outermost field is.
@@ -43,14 +44,14 @@ items-are es n at (Cut.nested c inside rest) =
 -- What octets say of a field of the tree whose contents they are. A field that is no message has the value that they have by the kind of
 -- its tag. A nested message has them as its octets: they are joined from a good cut under the inner number, and its tree is the field's.
 unfoldable pub Shows : List Entry → ℕ → ℕ → List ℕ → Item → Type 0
-Shows es room n b (Item.leaf t v) = (v ≡ value (find es n t) b) × Contents (find es n t) b
-Shows es room n b (Item.nested t inside) =
-    (m : ℕ) × (inner : Cut) × (find es n t ≡ Message m) × Good es room m b inner × (inside ≡ tree es m inner)
+Shows es levels n b (Item.leaf t v) = (v ≡ value (find es n t) b) × Contents (find es n t) b
+Shows es levels n b (Item.nested t inside) =
+    (m : ℕ) × (inner : Cut) × (find es n t ≡ Message m) × Good es levels m b inner × (inside ≡ tree es m inner)
 
 -- The contents of an outermost field stand within the message, at its place.
-pub record Held (es : List Entry) (room n : ℕ) (s : List ℕ) (o : Outer) : Type 0 where
+pub record Held (es : List Entry) (levels n : ℕ) (s : List ℕ) (o : Outer) : Type 0 where
   pub inside : o .start + o .length ≤ length s
-  pub shows : Shows es room n (take (o .length) (drop (o .start) s)) (o .item)
+  pub shows : Shows es levels n (take (o .length) (drop (o .start) s)) (o .item)
 
 module _ (c b r : List ℕ) (t : ℕ) (w : WholeField t c b) where
   positive : 1 ≤ length c
@@ -80,9 +81,9 @@ module _ (c b r : List ℕ) (t : ℕ) (w : WholeField t c b) where
       }
 
   -- The walk finds the field.
-  front-is : front (c ++ b ++ r) ≡ Field t (length c) (length c + length b)
-  unfolding front frontFrom
-  front-is =
+  part-is : part (c ++ b ++ r) ≡ Found t (length c) (length b)
+  unfolding part partFrom
+  part-is =
       let e : control (c ++ b ++ r) ≡ Whole t (length b) (length c) =
       rw (append-assoc c b r) (control-append c (b ++ r) t (length b) (length c) (w .control-part)) in
       let l : length (c ++ b ++ r) ≡ length c + length b + length r = simp length-append (omega arith) in
@@ -94,14 +95,12 @@ module _ (c b r : List ℕ) (t : ℕ) (w : WholeField t c b) where
       ≡ cond (eqb t tag)
       (record { start = at + length c; end = at + length c + length b } ∷ placesFrom tag fuel (at + length c + length b) r)
       (placesFrom tag fuel (at + length c + length b) r)
-  unfolding placesFrom afterPiece
-  walked tag fuel at =
-      let h : at + (length c + length b) ≡ at + length c + length b = omega arith in
-      rw (front-is, h, in-three c b r .third)
+  unfolding placesFrom afterPart
+  walked tag fuel at = rw (part-is, in-three c b r .third)
 
-module _ (es : List Entry) (room n : ℕ) (s : List ℕ) where
-  pub each-held : (cut : Cut) (at : ℕ) → drop at s ≡ joined cut → Allowed es n cut → cuts.depth cut ≤ suc room
-      → Each (Held es room n s) (outermost es n at cut)
+module _ (es : List Entry) (levels n : ℕ) (s : List ℕ) where
+  pub each-held : (cut : Cut) (at : ℕ) → drop at s ≡ joined cut → Allowed es n cut → cuts.depth cut ≤ suc levels
+      → Each (Held es levels n s) (outermost es n at cut)
   unfolding Each outermost joined Allowed cuts.depth Shows innerOf
   each-held Cut.end at e a d = tt
   each-held (Cut.leaf c b rest) at e a d =
@@ -114,7 +113,7 @@ module _ (es : List Entry) (room n : ℕ) (s : List ℕ) where
       let f = a .0 .1 in
       let m = a .0 .0 in
       let p = parts c (joined inner) (joined rest) (f .tag) (f .whole) s at e in
-      let g : Good es room m (joined inner) inner = record { divides = refl; allowed = a .0 .2; shallow = omega arith } in (
+      let g : Good es levels m (joined inner) inner = record { divides = refl; allowed = a .0 .2; shallow = omega arith } in (
         record { inside = p .inside; shows = rw (p .contents, tag-is c (joined inner) (joined rest) (f .tag) (f .whole), f .allowed) (m, inner, refl, g, refl) },
         each-held rest (at + length c + length (joined inner)) (p .rest) (a .1) (omega arith),
       )
@@ -127,7 +126,7 @@ module _ (es : List Entry) (n t : ℕ) where
   -- The places of the outermost fields with a tag are those that the walk finds.
   found-at : (cut : Cut) (fuel at : ℕ) → Allowed es n cut → length (joined cut) < fuel
       → placesFrom t fuel at (joined cut) ≡ map placeOf (withTag itemOf t (outermost es n at cut))
-  unfolding placesFrom afterPiece front frontFrom outermost withTag joined Allowed itemTag
+  unfolding placesFrom afterPart part partFrom outermost withTag joined Allowed itemTag
   found-at Cut.end zero at a h = absurd (omega arith)
   found-at Cut.end (suc fuel) at a h = rw control-nil
   found-at (Cut.leaf c b rest) zero at a h = absurd (omega arith)
@@ -151,9 +150,9 @@ module _ (es : List Entry) (n t : ℕ) where
       (record { item = Item.nested (tagOf (control c)) (tree es (innerOf (find es n (tagOf (control c)))) inner); start = at + length c; length = length b })
       (outermost es n (at + length c + length b) rest)))
 
-  pub places-are : (room : ℕ) (s : List ℕ) (cut : Cut) → Good es room n s cut → places t s ≡ map placeOf (withTag itemOf t (outermost es n 0 cut))
+  pub places-are : (levels : ℕ) (s : List ℕ) (cut : Cut) → Good es levels n s cut → places t s ≡ map placeOf (withTag itemOf t (outermost es n 0 cut))
   unfolding places
-  places-are room s cut g =
+  places-are levels s cut g =
       subst (λ (r : List ℕ). placesFrom t (suc (length r)) 0 r ≡ map placeOf (withTag itemOf t (outermost es n 0 cut))) (g .divides)
       (found-at cut (suc (length (joined cut))) 0 (g .allowed) (omega arith))
 

@@ -1,5 +1,5 @@
 -- What a lookup answers: the k-th, or the last, of the outermost fields of an accepted message that have a tag.
-use Prim.Native.Nat.{ℕ, zero, suc, _+_}
+use Prim.Native.Nat.{ℕ, _+_}
 use mathlib.Core.Bool.{cond}
 use mathlib.Core.List.{List, [], _∷_}
 use mathlib.Core.Option.{Option, none, some}
@@ -11,8 +11,10 @@ use Rattle.hproto_table.specs.Entry.{Entry, find, entries, innerOf}
 use Rattle.hproto_table.specs.declared.Table.{Table}
 use Rattle.hproto_message.specs.Cut.{Cut, joined}
 use Rattle.hproto_message.specs.Tree.{Value, raw, uint, int, string, text, Tree, tagOf, value, tree}
-use Rattle.hproto_message.specs.Reading.{Reading, accepted, refused, reading}
+use Rattle.reading.specs.Reading.{Reading, accepted, refused}
+use Rattle.hproto_message.specs.Reading.{reading}
 use Rattle.hproto_check.specs.Check.{check}
+use Rattle.reading.specs.declared.Checked.{Checked}
 use Rattle.hproto_lookup.specs.declared.Occurrence.{Occurrence}
 use Rattle.hproto_lookup.specs.declared.Occurrence.the-variants.{Nth, Last}
 use Rattle.hproto_lookup.specs.declared.Found.{Found}
@@ -58,19 +60,13 @@ unfoldable pub withTag : {A : Type 0} → (A → Item) → ℕ → List A → Li
 withTag item t [] = []
 withTag item t (x ∷ l) = cond (eqb (itemTag (item x)) t) (x ∷ withTag item t l) (withTag item t l)
 
--- The k-th element, from 0.
-unfoldable pub kth : {A : Type 0} → ℕ → List A → Option A
-kth k [] = none
-kth zero (x ∷ l) = some x
-kth (suc k) (x ∷ l) = kth k l
-
 -- The last element, or `o` where there is none.
 unfoldable pub lastOr : {A : Type 0} → Option A → List A → Option A
 lastOr o [] = o
 lastOr o (x ∷ l) = lastOr (some x) l
 
 unfoldable pub chosen : {A : Type 0} → Occurrence → List A → Option A
-chosen (Nth k) l = kth k l
+chosen (Nth k) l = lists.getElem? l k
 chosen Last l = lastOr none l
 
 -- Document 01's numbers for the kinds; raw is 0.
@@ -119,7 +115,7 @@ found (some o) =
     }
 
 -- What is answered for a message that was read.
-unfoldable pub foundIn : List Entry → ℕ → ℕ → Occurrence → Reading → Found
+unfoldable pub foundIn : List Entry → ℕ → ℕ → Occurrence → Reading Cut → Found
 foundIn es n t which (accepted cut) = found (chosen which (withTag (λ (o : Outer). o .item) t (outermost es n 0 cut)))
 foundIn es n t which (refused number place) = refusal number place
 

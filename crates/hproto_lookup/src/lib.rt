@@ -1,13 +1,12 @@
 // Lookup: the k-th or the last of the outermost fields of a message that have a tag.
-use hproto_table::Meaning;
+use hproto_field::Extent;
 use hproto_table::Table;
 use octets::Control;
-use octets::Signed;
-use octets::Unsigned;
 ghost use mathlib.Core.Path.{_≡_};
 ghost use lib.ListN.{length, take, drop};
+ghost use Rattle.hproto_field.specs.Fronts.{part};
 ghost use Rattle.hproto_lookup.specs.Lookup.{refusal, answer, lookup as lookup-of, lookupLast};
-ghost use Rattle.hproto_lookup.specs.Spots.{front as front-of, nthSpot, lastSpot, chosenSpot, uintIn, intIn, read};
+ghost use Rattle.hproto_lookup.specs.Spots.{nthSpot, lastSpot, chosenSpot, uintIn, intIn, read};
 
 // Which of the fields with a tag is wanted.
 enum Occurrence {
@@ -27,19 +26,14 @@ pub struct Found {
     pub length: u64,
 }
 
-// A whole field at the front of octets: its tag, and where its contents start and end.
-enum Piece {
-    Nothing,
-    Field { tag: u64, start: usize, end: usize },
-}
-
 // Where the contents of a field start and end, if there is such a field.
 enum Spot {
     Absent,
     At { start: usize, end: usize },
 }
 
-fn refused(number: u64, place: u64) -> Found
+// The answer where the message is refused, or has no such field.
+pub fn refused(number: u64, place: u64) -> Found
     ensures { λ r. ⌜ r ≡ refusal number place ⌝ }
 {
     Found {
@@ -53,27 +47,28 @@ fn refused(number: u64, place: u64) -> Found
     }
 }
 
-// What a tag means is not asked here: where a field ends does not depend on it, and the table would be searched for every field that is
-// passed.
-fn front(s: &[u8]) -> Piece
-    ensures { λ r. ⌜ r ≡ front-of (now (s .entry)) ⌝ }
+// The tag of the whole field at the front of octets and the sizes of its control part and of its contents, if there is one. `part` of
+// hproto_field is the same. It is not shared: with this caller too, the compiler would no longer put it into `field_in`, which the
+// shortener calls for each field.
+fn front(s: &[u8]) -> Extent
+    ensures { λ r. ⌜ r ≡ part (now (s .entry)) ⌝ }
 {
     match octets_read::control(s) {
-        Control::Absent => Piece::Nothing,
-        Control::Partial => Piece::Nothing,
+        Control::Absent => Extent::None,
+        Control::Partial => Extent::None,
         Control::Whole { tag, length, size } => {
             let start = size as usize;
-            let left = (s.len() - start) as u64;
-            if left < length {
-                return Piece::Nothing;
+            let rest = (s.len() - start) as u64;
+            if rest < length {
+                return Extent::None;
             }
-            let end = start + (length as usize);
-            Piece::Field { tag, start, end }
+            Extent::Found(tag, start, length as usize)
         }
     }
 }
 
-// The k-th field with a tag. Each field is passed as a whole, so none inside a nested message is looked at.
+// The k-th field with a tag. Each field is passed as a whole, so none inside a nested message is looked at. What a tag means is not asked:
+// where a field ends does not depend on it, and the table would be searched for every field that is passed.
 fn nth(s: &[u8], tag: u64, k: u64) -> Spot
     ensures { λ r. ⌜ r ≡ nthSpot tag k (now (s .entry)) ⌝ }
 {
@@ -81,12 +76,12 @@ fn nth(s: &[u8], tag: u64, k: u64) -> Spot
     let mut left = k;
     loop {
         match front(&s[i..]) {
-            Piece::Nothing => {
+            Extent::None => {
                 return Spot::Absent;
             }
-            Piece::Field { tag: t, start, end } => {
-                let a = i + start;
-                i = i + end;
+            Extent::Found(t, control, contents) => {
+                let a = i + control;
+                i = a + contents;
                 if t == tag {
                     if left == 0 {
                         return Spot::At { start: a, end: i };
@@ -106,16 +101,12 @@ fn last(s: &[u8], tag: u64) -> Spot
     let mut best = Spot::Absent;
     loop {
         match front(&s[i..]) {
-            Piece::Nothing => {
+            Extent::None => {
                 return best;
             }
-            Piece::Field {
-                tag: seen,
-                start: a,
-                end: e,
-            } => {
-                let first = i + a;
-                i = i + e;
+            Extent::Found(seen, control, contents) => {
+                let first = i + control;
+                i = first + contents;
                 if seen == tag {
                     best = Spot::At {
                         start: first,
@@ -143,10 +134,7 @@ fn unsigned(kind: u64, s: &[u8]) -> u64
     if kind != 1 {
         return 0;
     }
-    match octets_read::uint(s) {
-        Unsigned::Value(v) => v,
-        Unsigned::Long => 0,
-    }
+    octets_read::uint(s)
 }
 
 // The signed number of an int, 0 for any other kind.
@@ -156,10 +144,7 @@ fn signed(kind: u64, s: &[u8]) -> i64
     if kind != 2 {
         return 0;
     }
-    match octets_read::int(s) {
-        Signed::Value(v) => v,
-        Signed::Long => 0,
-    }
+    octets_read::int(s)
 }
 
 // What contents that start at a place say as a field of a kind.

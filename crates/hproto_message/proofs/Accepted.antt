@@ -1,8 +1,8 @@
 -- A message is accepted by the reading exactly when it has a good cut, and it has at most one.
-use Prim.Native.Nat.{ℕ, zero, suc, _+_, _-_, _≤_, _<_, max}
+use Prim.Native.Nat.{ℕ, zero, suc, _+_, _-_, _≤_, _<_}
 use native.Mathlib.Omega.{arith}
 use mathlib.Core.Path.{_≡_, refl, sym, ap, ap₂, _∙_, subst}
-use mathlib.Core.List.{List, [], _∷_, _++_}
+use mathlib.Core.List.{List, [], _++_}
 use mathlib.Core.Logic.{_↔_}
 use lib.ListN.{length, take, drop, length-append}
 use Rattle.octets.proofs.ControlPart.{control-size}
@@ -10,16 +10,17 @@ use Rattle.hproto_table.specs.Entry.{Entry}
 use Rattle.hproto_message.specs.declared.Step.{Step}
 use Rattle.hproto_message.specs.declared.Step.the-variants.{Done, Fault, Over, Into}
 use Rattle.hproto_message.specs.Cut.{Cut, end, leaf, nested, joined, depth, WholeField, LeafField, NestedField, Allowed, Good}
-use Rattle.hproto_message.specs.Reading.{step, Reading, accepted, refused, onCut, inOrder, Inner, afterStep, fieldsFrom, messageFrom, reading, Accepts}
+use Rattle.reading.specs.Reading.{Reading, accepted, refused, onAccepted, inOrder, IsAccepted}
+use Rattle.hproto_message.specs.Reading.{step, Inner, afterStep, fieldsFrom, messageFrom, reading, Accepts}
 use Rattle.hproto_message.proofs.Steps.{StepMeans, step-means, step-of-leaf, step-of-nested, step-of-end, split-in-three, in-three}
 
-module _ (es : List Entry) (room n : ℕ) (s : List ℕ) where
-  good-end : s ≡ [] → Good es (suc room) n s end
+module _ (es : List Entry) (levels n : ℕ) (s : List ℕ) where
+  good-end : s ≡ [] → Good es (suc levels) n s end
   unfolding joined Allowed depth
   good-end e = record { divides = sym e; allowed = tt; shallow = omega arith }
 
-  good-leaf : (c b rest : List ℕ) (cut : Cut) → LeafField es n c b → s ≡ c ++ b ++ rest → Good es (suc room) n rest cut
-      → Good es (suc room) n s (leaf c b cut)
+  good-leaf : (c b rest : List ℕ) (cut : Cut) → LeafField es n c b → s ≡ c ++ b ++ rest → Good es (suc levels) n rest cut
+      → Good es (suc levels) n s (leaf c b cut)
   unfolding joined Allowed depth
   good-leaf c b rest cut f e g =
       record {
@@ -28,8 +29,8 @@ module _ (es : List Entry) (room n : ℕ) (s : List ℕ) where
         shallow = g .shallow;
       }
 
-  good-nested : (m : ℕ) (c b rest : List ℕ) (inside cut : Cut) → NestedField es n m c b → s ≡ c ++ b ++ rest → Good es room m b inside
-      → Good es (suc room) n rest cut → Good es (suc room) n s (nested c inside cut)
+  good-nested : (m : ℕ) (c b rest : List ℕ) (inside cut : Cut) → NestedField es n m c b → s ≡ c ++ b ++ rest → Good es levels m b inside
+      → Good es (suc levels) n rest cut → Good es (suc levels) n s (nested c inside cut)
   unfolding joined Allowed depth
   good-nested m c b rest inside cut f e i g =
       let p = i .shallow in
@@ -41,59 +42,59 @@ module _ (es : List Entry) (room n : ℕ) (s : List ℕ) where
       }
 
 -- Where nested messages are accepted only with a good cut, so are the fields of a message.
-module _ (es : List Entry) (room : ℕ) (inner : Inner)
-    (below : (m field at : ℕ) (b : List ℕ) (cut : Cut) → inner m field at b ≡ accepted cut → Good es room m b cut) where
-  after-good : (n : ℕ) (next : ℕ → List ℕ → Reading)
-      → ((at : ℕ) (r : List ℕ) (cut : Cut) → next at r ≡ accepted cut → Good es (suc room) n r cut)
+module _ (es : List Entry) (levels : ℕ) (inner : Inner)
+    (below : (m field at : ℕ) (b : List ℕ) (cut : Cut) → inner m field at b ≡ accepted cut → Good es levels m b cut) where
+  after-good : (n : ℕ) (next : ℕ → List ℕ → Reading Cut)
+      → ((at : ℕ) (r : List ℕ) (cut : Cut) → next at r ≡ accepted cut → Good es (suc levels) n r cut)
       → (at : ℕ) (s : List ℕ) (cut : Cut) (p : Step) → StepMeans es n s p → afterStep inner next at s p ≡ accepted cut
-      → Good es (suc room) n s cut
-  unfolding afterStep StepMeans onCut inOrder
-  after-good n next later at s cut Done h e = subst (Good es (suc room) n s) (cc) (good-end es room n s h)
+      → Good es (suc levels) n s cut
+  unfolding afterStep StepMeans onAccepted inOrder
+  after-good n next later at s cut Done h e = subst (Good es (suc levels) n s) (cc) (good-end es levels n s h)
   after-good n next later at s cut (Fault number) h e = let z : _≡_ {A = ℕ} 0 1 = cc in absurd (omega arith)
   after-good n next later at s cut (Over k l) h e = go (next (at + k + l) (drop (k + l) s)) refl e
     where
-      go : (r : Reading) → next (at + k + l) (drop (k + l) s) ≡ r → onCut (leaf (take k s) (take l (drop k s))) r ≡ accepted cut
-          → Good es (suc room) n s cut
+      go : (r : Reading Cut) → next (at + k + l) (drop (k + l) s) ≡ r → onAccepted (leaf (take k s) (take l (drop k s))) r ≡ accepted cut
+          → Good es (suc levels) n s cut
       go (accepted rest) f g =
-          subst (Good es (suc room) n s) (cc)
-          (good-leaf es room n s (take k s) (take l (drop k s)) (drop (k + l) s) rest (h .0) (sym (split-in-three k l s))
+          subst (Good es (suc levels) n s) (cc)
+          (good-leaf es levels n s (take k s) (take l (drop k s)) (drop (k + l) s) rest (h .0) (sym (split-in-three k l s))
           (later (at + k + l) (drop (k + l) s) rest f))
       go (refused number place) f g = let z : _≡_ {A = ℕ} 0 1 = cc in absurd (omega arith)
   after-good n next later at s cut (Into m k l) h e =
       go (inner m at (at + k) (take l (drop k s))) refl (next (at + k + l) (drop (k + l) s)) refl e
     where
-      go : (q : Reading) → inner m at (at + k) (take l (drop k s)) ≡ q → (r : Reading) → next (at + k + l) (drop (k + l) s) ≡ r
-          → inOrder (nested (take k s)) q r ≡ accepted cut → Good es (suc room) n s cut
+      go : (q : Reading Cut) → inner m at (at + k) (take l (drop k s)) ≡ q → (r : Reading Cut) → next (at + k + l) (drop (k + l) s) ≡ r
+          → inOrder (nested (take k s)) q r ≡ accepted cut → Good es (suc levels) n s cut
       go (accepted i) d (accepted rest) f g =
-          subst (Good es (suc room) n s) (cc)
-          (good-nested es room n s m (take k s) (take l (drop k s)) (drop (k + l) s) i rest (h .0) (sym (split-in-three k l s))
+          subst (Good es (suc levels) n s) (cc)
+          (good-nested es levels n s m (take k s) (take l (drop k s)) (drop (k + l) s) i rest (h .0) (sym (split-in-three k l s))
           (below m at (at + k) (take l (drop k s)) i d) (later (at + k + l) (drop (k + l) s) rest f))
       go (accepted i) d (refused number place) f g = let z : _≡_ {A = ℕ} 0 1 = cc in absurd (omega arith)
       go (refused number place) d r f g = let z : _≡_ {A = ℕ} 0 1 = cc in absurd (omega arith)
 
-  fields-good : (n left at : ℕ) (s : List ℕ) (cut : Cut) → fieldsFrom es inner n left at s ≡ accepted cut → Good es (suc room) n s cut
+  fields-good : (n left at : ℕ) (s : List ℕ) (cut : Cut) → fieldsFrom es inner n left at s ≡ accepted cut → Good es (suc levels) n s cut
   unfolding fieldsFrom
   fields-good n zero at s cut e = let z : _≡_ {A = ℕ} 0 1 = cc in absurd (omega arith)
   fields-good n (suc left) at s cut e =
       after-good n (fieldsFrom es inner n left) (fields-good n left) at s cut (step es n s) (step-means es n s) e
 
-pub accepted-good : (es : List Entry) (room n field at : ℕ) (s : List ℕ) (cut : Cut)
-    → messageFrom es room n field at s ≡ accepted cut → Good es room n s cut
+pub accepted-good : (es : List Entry) (levels n field at : ℕ) (s : List ℕ) (cut : Cut)
+    → messageFrom es levels n field at s ≡ accepted cut → Good es levels n s cut
 unfolding messageFrom
 accepted-good es zero n field at s cut e = let z : _≡_ {A = ℕ} 0 1 = cc in absurd (omega arith)
-accepted-good es (suc room) n field at s cut e =
-    fields-good es room (messageFrom es room) (accepted-good es room) n (suc (length s)) at s cut e
+accepted-good es (suc levels) n field at s cut e =
+    fields-good es levels (messageFrom es levels) (accepted-good es levels) n (suc (length s)) at s cut e
 
 -- A whole field takes an octet or more.
 pub field-size : (tag : ℕ) (c b : List ℕ) → WholeField tag c b → 1 ≤ length c
 field-size tag c b w = control-size c tag (length b) (length c) (w .control-part) .0
 
 -- Where nested messages with a good cut are accepted, so is a message of good fields.
-module _ (es : List Entry) (room : ℕ) (inner : Inner)
-    (below : (m field at : ℕ) (b : List ℕ) (cut : Cut) → Good es room m b cut → inner m field at b ≡ accepted cut) where
-  fields-accepted : (cut : Cut) (n left at : ℕ) → Allowed es n cut → depth cut ≤ suc room → length (joined cut) < left
+module _ (es : List Entry) (levels : ℕ) (inner : Inner)
+    (below : (m field at : ℕ) (b : List ℕ) (cut : Cut) → Good es levels m b cut → inner m field at b ≡ accepted cut) where
+  fields-accepted : (cut : Cut) (n left at : ℕ) → Allowed es n cut → depth cut ≤ suc levels → length (joined cut) < left
       → fieldsFrom es inner n left at (joined cut) ≡ accepted cut
-  unfolding fieldsFrom afterStep onCut inOrder joined Allowed depth
+  unfolding fieldsFrom afterStep onAccepted inOrder joined Allowed depth
   fields-accepted end n zero at a d h = absurd (omega arith)
   fields-accepted end n (suc left) at a d h = rw (step-of-end es n)
   fields-accepted (leaf c b cut) n zero at a d h = absurd (omega arith)
@@ -120,13 +121,13 @@ depth-positive end = omega arith
 depth-positive (leaf c b cut) = depth-positive cut
 depth-positive (nested c inside cut) = omega arith
 
-pub good-accepted : (es : List Entry) (room n field at : ℕ) (s : List ℕ) (cut : Cut)
-    → Good es room n s cut → messageFrom es room n field at s ≡ accepted cut
+pub good-accepted : (es : List Entry) (levels n field at : ℕ) (s : List ℕ) (cut : Cut)
+    → Good es levels n s cut → messageFrom es levels n field at s ≡ accepted cut
 unfolding messageFrom
 good-accepted es zero n field at s cut g = let h = depth-positive cut in let k = g .shallow in absurd (omega arith)
-good-accepted es (suc room) n field at s cut g =
-    subst (λ (r : List ℕ). fieldsFrom es (messageFrom es room) n (suc (length r)) at r ≡ accepted cut) (g .divides)
-    (fields-accepted es room (messageFrom es room) (good-accepted es room) cut n (suc (length (joined cut))) at (g .allowed) (g .shallow) (omega arith))
+good-accepted es (suc levels) n field at s cut g =
+    subst (λ (r : List ℕ). fieldsFrom es (messageFrom es levels) n (suc (length r)) at r ≡ accepted cut) (g .divides)
+    (fields-accepted es levels (messageFrom es levels) (good-accepted es levels) cut n (suc (length (joined cut))) at (g .allowed) (g .shallow) (omega arith))
 
 -- The reading accepts a message with a cut exactly where that cut is good.
 pub accepted-exactly : (es : List Entry) (n : ℕ) (s : List ℕ) (cut : Cut) → (reading es n s ≡ accepted cut) ↔ Good es 8 n s cut
@@ -134,24 +135,24 @@ unfolding reading
 accepted-exactly es n s cut = (accepted-good es 8 n 0 0 s cut, good-accepted es 8 n 0 0 s cut)
 
 -- Octets have at most one good cut.
-pub good-cut-unique : (es : List Entry) (room n : ℕ) (s : List ℕ) (cut other : Cut) → Good es room n s cut → Good es room n s other → cut ≡ other
-good-cut-unique es room n s cut other g h =
-    let p = good-accepted es room n 0 0 s cut g in
-    let q = good-accepted es room n 0 0 s other h in
+pub good-cut-unique : (es : List Entry) (levels n : ℕ) (s : List ℕ) (cut other : Cut) → Good es levels n s cut → Good es levels n s other → cut ≡ other
+good-cut-unique es levels n s cut other g h =
+    let p = good-accepted es levels n 0 0 s cut g in
+    let q = good-accepted es levels n 0 0 s other h in
     cc
 
 -- ---- the same, of a message that is accepted
 
 pub accepts-good : (es : List Entry) (levels n : ℕ) (s : List ℕ) → Accepts es levels n s → (cut : Cut) × Good es levels n s cut
-unfolding Accepts
+unfolding Accepts IsAccepted
 accepts-good es levels n s a = (a .0, accepted-good es levels n 0 0 s (a .0) (a .1))
 
 pub good-accepts : (es : List Entry) (levels n : ℕ) (s : List ℕ) (cut : Cut) → Good es levels n s cut → Accepts es levels n s
-unfolding Accepts
+unfolding Accepts IsAccepted
 good-accepts es levels n s cut g = (cut, good-accepted es levels n 0 0 s cut g)
 
 -- A message that is accepted may be one deep or more.
 pub accepts-levels : (es : List Entry) (levels n : ℕ) (s : List ℕ) → Accepts es levels n s → suc (levels - 1) ≡ levels
-unfolding Accepts messageFrom
+unfolding Accepts IsAccepted messageFrom
 accepts-levels es zero n s a = let e = a .1 in let z : _≡_ {A = ℕ} 0 1 = cc in absurd (omega arith)
 accepts-levels es (suc levels) n s a = omega arith

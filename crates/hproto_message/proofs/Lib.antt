@@ -5,3 +5,4 @@ pub mod Shortened
 pub mod Next
 pub mod Refusals
 pub mod SameFinds
+pub mod Fields

@@ -1,9 +1,9 @@
 -- A refusal's number is never 0, which stands for acceptance.
-use Prim.Native.Nat.{ℕ, zero, suc, _+_, _-_, _≤_, _<_}
+use Prim.Native.Nat.{ℕ, zero, suc, _+_, _-_, _<_}
 use native.Mathlib.Omega.{arith}
-use mathlib.Core.Path.{_≡_, refl, sym, ap, _∙_, subst}
+use mathlib.Core.Path.{_≡_, subst}
 use mathlib.Core.Bool.{Bool, true, false, cond}
-use mathlib.Core.List.{List, []}
+use mathlib.Core.List.{List}
 use lib.ListN.{length, take, drop}
 use lib.Dec.{leb}
 use Rattle.octets.specs.Text.{text}
@@ -16,7 +16,8 @@ use Rattle.hproto_table.specs.declared.Meaning.the-variants.{Raw, Uint, Int, St
 use Rattle.hproto_message.specs.Cut.{Cut}
 use Rattle.hproto_message.specs.declared.Step.{Step}
 use Rattle.hproto_message.specs.declared.Step.the-variants.{Done, Fault, Over, Into}
-use Rattle.hproto_message.specs.Reading.{stepByKind, stepFrom, step, Reading, accepted, refused, onCut, inOrder, Inner, afterStep, fieldsFrom, messageFrom}
+use Rattle.reading.specs.Reading.{Reading, accepted, refused, onAccepted, inOrder}
+use Rattle.hproto_message.specs.Reading.{stepByKind, stepFrom, step, Inner, afterStep, fieldsFrom, messageFrom}
 
 -- A step that is refused has a number above 0.
 Numbered : Step → Type 0
@@ -50,27 +51,27 @@ stepFrom-numbered es n s (Whole tag len size) = go (leb len (length s - size))
     go false = omega arith
 
 -- A reading that is refused has a number above 0.
-Told : Reading → Type 0
+Told : Reading Cut → Type 0
 Told (accepted cut) = Unit {0}
 Told (refused number place) = 0 < number
 
-onCut-told : (f : Cut → Cut) (r : Reading) → Told r → Told (onCut f r)
-unfolding Told onCut
-onCut-told f (accepted cut) h = tt
-onCut-told f (refused number place) h = h
+onAccepted-told : (f : Cut → Cut) (r : Reading Cut) → Told r → Told (onAccepted f r)
+unfolding Told onAccepted
+onAccepted-told f (accepted cut) h = tt
+onAccepted-told f (refused number place) h = h
 
-inOrder-told : (f : Cut → Cut → Cut) (q r : Reading) → Told q → Told r → Told (inOrder f q r)
+inOrder-told : (f : Cut → Cut → Cut) (q r : Reading Cut) → Told q → Told r → Told (inOrder f q r)
 unfolding Told inOrder
-inOrder-told f (accepted cut) r h k = onCut-told (f cut) r k
+inOrder-told f (accepted cut) r h k = onAccepted-told (f cut) r k
 inOrder-told f (refused number place) r h k = h
 
 module _ (es : List Entry) (inner : Inner) (below : (m field at : ℕ) (b : List ℕ) → Told (inner m field at b)) where
-  after-told : (next : ℕ → List ℕ → Reading) → ((at : ℕ) (r : List ℕ) → Told (next at r)) → (at : ℕ) (s : List ℕ) (p : Step) → Numbered p
+  after-told : (next : ℕ → List ℕ → Reading Cut) → ((at : ℕ) (r : List ℕ) → Told (next at r)) → (at : ℕ) (s : List ℕ) (p : Step) → Numbered p
       → Told (afterStep inner next at s p)
   unfolding Told Numbered afterStep
   after-told next later at s Done h = tt
   after-told next later at s (Fault number) h = h
-  after-told next later at s (Over k l) h = onCut-told (Cut.leaf (take k s) (take l (drop k s))) (next (at + k + l) (drop (k + l) s)) (later (at + k + l) (drop (k + l) s))
+  after-told next later at s (Over k l) h = onAccepted-told (Cut.leaf (take k s) (take l (drop k s))) (next (at + k + l) (drop (k + l) s)) (later (at + k + l) (drop (k + l) s))
   after-told next later at s (Into m k l) h =
       inOrder-told (Cut.nested (take k s)) (inner m at (at + k) (take l (drop k s))) (next (at + k + l) (drop (k + l) s))
       (below m at (at + k) (take l (drop k s))) (later (at + k + l) (drop (k + l) s))
@@ -80,12 +81,12 @@ module _ (es : List Entry) (inner : Inner) (below : (m field at : ℕ) (b : List
   fields-told n zero at s = omega arith
   fields-told n (suc left) at s = after-told (fieldsFrom es inner n left) (fields-told n left) at s (step es n s) (stepFrom-numbered es n s (control s))
 
-message-told : (es : List Entry) (room n field at : ℕ) (s : List ℕ) → Told (messageFrom es room n field at s)
+message-told : (es : List Entry) (levels n field at : ℕ) (s : List ℕ) → Told (messageFrom es levels n field at s)
 unfolding Told messageFrom
 message-told es zero n field at s = omega arith
-message-told es (suc room) n field at s = fields-told es (messageFrom es room) (message-told es room) n (suc (length s)) at s
+message-told es (suc levels) n field at s = fields-told es (messageFrom es levels) (message-told es levels) n (suc (length s)) at s
 
-pub refusal-positive : (es : List Entry) (room n field at : ℕ) (s : List ℕ) (number place : ℕ)
-    → messageFrom es room n field at s ≡ refused number place → 0 < number
+pub refusal-positive : (es : List Entry) (levels n field at : ℕ) (s : List ℕ) (number place : ℕ)
+    → messageFrom es levels n field at s ≡ refused number place → 0 < number
 unfolding Told
-refusal-positive es room n field at s number place e = subst Told e (message-told es room n field at s)
+refusal-positive es levels n field at s number place e = subst Told e (message-told es levels n field at s)

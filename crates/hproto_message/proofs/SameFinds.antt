@@ -7,18 +7,19 @@ use Rattle.octets.specs.Control.{control}
 use Rattle.octets.specs.declared.Control.{Control}
 use Rattle.octets.specs.declared.Control.the-variants.{Absent, Partial, Whole}
 use Rattle.hproto_table.specs.Entry.{Entry, find, innerOf}
-use Rattle.hproto_table.proofs.SameFinds.{SameFinds}
+use Rattle.hproto_table.specs.SameFinds.{SameFinds}
 use Rattle.hproto_message.specs.declared.Step.{Step}
 use Rattle.hproto_message.specs.declared.Step.the-variants.{Done, Fault, Over, Into}
 use Rattle.hproto_message.specs.Cut.{Cut, end, leaf, nested}
 use Rattle.hproto_message.specs.Tree.{tree, tagOf}
-use Rattle.hproto_message.specs.Reading.{Reading, Inner, stepFrom, step, afterStep, fieldsFrom, messageFrom, reading}
+use Rattle.reading.specs.Reading.{Reading}
+use Rattle.hproto_message.specs.Reading.{Inner, stepFrom, step, afterStep, fieldsFrom, messageFrom, reading}
 
 -- Two ways to read a nested message that answer the same.
 unfoldable SameInner : Inner → Inner → Type 0
 SameInner f g = (n field at : ℕ) (s : List ℕ) → f n field at s ≡ g n field at s
 
-after-same : (f g : Inner) → SameInner f g → (next rest : ℕ → List ℕ → Reading) → ((at : ℕ) (s : List ℕ) → next at s ≡ rest at s)
+after-same : (f g : Inner) → SameInner f g → (next rest : ℕ → List ℕ → Reading Cut) → ((at : ℕ) (s : List ℕ) → next at s ≡ rest at s)
     → (at : ℕ) (s : List ℕ) (st : Step) → afterStep f next at s st ≡ afterStep g rest at s st
 unfolding afterStep SameInner
 after-same f g h next rest k at s Done = refl

@@ -5,13 +5,14 @@ use Rattle.octets.specs.Signed as signs
 use Rattle.octets.specs.Control as controls
 use Rattle.hproto_table.specs.Entry.{find, meaning, innerOf}
 use Rattle.hproto_message.specs.Tree.{tree, tagOf, value}
+use Rattle.reading.specs.Reading.{onAccepted, inOrder}
 use Rattle.hproto_message.specs.Reading as readings
 use Rattle.hproto_message.specs.Shortest.{shortest, field, leastContents}
 use Rattle.hproto_message.specs.Samples as samples
 
 pub samples-hold : samples.Hold samples.samples
 unfolding samples.Hold samples.samples samples.outcome samples.outcomeOf samples.uintOf samples.intOf samples.refusedAs samples.only samples.nestedTable
-    readings.reading readings.messageFrom readings.fieldsFrom readings.afterStep readings.onCut readings.inOrder readings.step readings.stepFrom
+    readings.reading readings.messageFrom readings.fieldsFrom readings.afterStep onAccepted inOrder readings.step readings.stepFrom
     readings.stepByKind find meaning tree tagOf innerOf value shortest field leastContents
     octets.number octets.octetsOf octets.width octets.widthWithin octets.leastUint
     signs.integer signs.withSign signs.lowest signs.leastInt signs.signedWidth signs.signedBits

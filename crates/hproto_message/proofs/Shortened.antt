@@ -1,12 +1,12 @@
 -- The shortest form of a tree that a message reads as has a good cut and the same tree, and all other octets with a good cut and that
 -- tree are more.
-use Prim.Native.Nat.{ℕ, zero, suc, _+_, _^_, _≤_, _<_, max}
+use Prim.Native.Nat.{ℕ, _+_, _≤_, _<_}
 use native.Mathlib.Omega.{arith}
-use mathlib.Core.Path.{_≡_, refl, sym, ap, ap₂, _∙_, subst}
-use mathlib.Core.List.{List, [], _∷_, _++_, append-assoc}
+use mathlib.Core.Path.{_≡_, refl, sym, ap, ap₂, subst}
+use mathlib.Core.List.{List, [], _++_}
 use lib.ListN.{length, length-append}
-use Rattle.octets.specs.Number.{Octets, number, leastUint}
-use Rattle.octets.specs.Signed.{integer, leastInt}
+use Rattle.octets.specs.Number.{Octets, number}
+use Rattle.octets.specs.Signed.{integer}
 use Rattle.octets.specs.Control.{control, leastControl}
 use Rattle.octets.specs.declared.Control.{Control}
 use Rattle.octets.specs.declared.Control.the-variants.{Absent, Partial, Whole}
@@ -167,18 +167,18 @@ short es (Cut.nested c inside rest) n a o =
     subst (Short es n (Cut.nested c inside rest)) (sym (s .is)) s
 
 -- A message accepted with a cut, and its tree.
-module _ (es : List Entry) (room n : ℕ) (s : List ℕ) (cut : Cut) (o : Octets s) (g : Good es room n s cut) where
+module _ (es : List Entry) (levels n : ℕ) (s : List ℕ) (cut : Cut) (o : Octets s) (g : Good es levels n s cut) where
   shortened : Short es n cut (tree es n cut)
   shortened = short es cut n (g .allowed) (subst Octets (sym (g .divides)) o)
 
   -- The shortest form of a tree that octets read as has a good cut with that tree.
-  pub shortest-good : (other : Cut) × Good es room n (shortest (tree es n cut)) other × (tree es n other ≡ tree es n cut)
+  pub shortest-good : (other : Cut) × Good es levels n (shortest (tree es n cut)) other × (tree es n other ≡ tree es n cut)
   shortest-good = (
     cutOf (tree es n cut),
     record {
       divides = joined-cutOf (tree es n cut);
       allowed = shortened .allowed;
-      shallow = subst (λ (d : ℕ). d ≤ room) (sym (shortened .same-depth)) (g .shallow);
+      shallow = subst (λ (d : ℕ). d ≤ levels) (sym (shortened .same-depth)) (g .shallow);
     },
     shortened .same-tree,
   )

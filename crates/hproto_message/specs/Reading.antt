@@ -1,6 +1,5 @@
 -- Reading a message: its cut, or the first refusal with its place.
 use Prim.Native.Nat.{ℕ, zero, suc, _+_, _-_}
-use mathlib.Core.Path.{_≡_}
 use mathlib.Core.Bool.{cond}
 use mathlib.Core.List.{List}
 use lib.ListN.{length, take, drop}
@@ -12,6 +11,7 @@ use Rattle.octets.specs.declared.Control.the-variants.{Absent, Partial, Whole}
 use Rattle.hproto_table.specs.Entry.{Entry, find}
 use Rattle.hproto_table.specs.declared.Meaning.{Meaning}
 use Rattle.hproto_table.specs.declared.Meaning.the-variants.{Raw, Uint, Int, String, Text, Message}
+use Rattle.reading.specs.Reading.{Reading, accepted, refused, onAccepted, inOrder, IsAccepted}
 use Rattle.hproto_message.specs.declared.Step.{Step}
 use Rattle.hproto_message.specs.declared.Step.the-variants.{Done, Fault, Over, Into}
 use Rattle.hproto_message.specs.Cut.{Cut, end, leaf, nested}
@@ -35,35 +35,20 @@ stepFrom es n s (Whole tag len size) = cond (leb len (length s - size)) (stepByK
 unfoldable pub step : List Entry → ℕ → List ℕ → Step
 step es n s = stepFrom es n s (control s)
 
--- What reading a message comes to: its cut, or a refusal's number and place.
-pub data Reading : Type 0 where
-  accepted : Cut → Reading
-  refused : ℕ → ℕ → Reading
-
--- A reading's cut with something put before it.
-unfoldable pub onCut : (Cut → Cut) → Reading → Reading
-onCut f (accepted cut) = accepted (f cut)
-onCut f (refused number place) = refused number place
-
--- A nested message is read before the fields that follow it.
-unfoldable pub inOrder : (Cut → Cut → Cut) → Reading → Reading → Reading
-inOrder f (accepted cut) rest = onCut (f cut) rest
-inOrder f (refused number place) rest = refused number place
-
 -- How a nested message is read: its number, the place of its field, the place of its contents, and its contents.
 abbrev pub Inner : Type 0
-Inner = ℕ → ℕ → ℕ → List ℕ → Reading
+Inner = ℕ → ℕ → ℕ → List ℕ → Reading Cut
 
 -- What a step at the front of octets, at a place, comes to, where `next` reads the fields that follow.
-unfoldable pub afterStep : Inner → (ℕ → List ℕ → Reading) → ℕ → List ℕ → Step → Reading
+unfoldable pub afterStep : Inner → (ℕ → List ℕ → Reading Cut) → ℕ → List ℕ → Step → Reading Cut
 afterStep inner next at s Done = accepted end
 afterStep inner next at s (Fault number) = refused number at
-afterStep inner next at s (Over k l) = onCut (leaf (take k s) (take l (drop k s))) (next (at + k + l) (drop (k + l) s))
+afterStep inner next at s (Over k l) = onAccepted (leaf (take k s) (take l (drop k s))) (next (at + k + l) (drop (k + l) s))
 afterStep inner next at s (Into m k l) =
     inOrder (nested (take k s)) (inner m at (at + k) (take l (drop k s))) (next (at + k + l) (drop (k + l) s))
 
 -- The fields of one message, from a place on. `left` bounds the fields that are still looked at.
-unfoldable pub fieldsFrom : List Entry → Inner → ℕ → ℕ → ℕ → List ℕ → Reading
+unfoldable pub fieldsFrom : List Entry → Inner → ℕ → ℕ → ℕ → List ℕ → Reading Cut
 fieldsFrom es inner n zero at s = refused 3 at
 fieldsFrom es inner n (suc left) at s = afterStep inner (fieldsFrom es inner n left) at s (step es n s)
 
@@ -74,9 +59,9 @@ messageFrom es zero n field at s = refused 5 field
 messageFrom es (suc levels) n field at s = fieldsFrom es (messageFrom es levels) n (suc (length s)) at s
 
 -- The outermost message: its cut, or the first refusal.
-unfoldable pub reading : List Entry → ℕ → List ℕ → Reading
+unfoldable pub reading : List Entry → ℕ → List ℕ → Reading Cut
 reading es n s = messageFrom es 8 n 0 0 s
 
 -- A message of a number, at most `levels` messages deep, is accepted.
 unfoldable pub Accepts : List Entry → ℕ → ℕ → List ℕ → Type 0
-Accepts es levels n s = (cut : Cut) × (messageFrom es levels n 0 0 s ≡ accepted cut)
+Accepts es levels n s = IsAccepted (messageFrom es levels n 0 0 s)

@@ -1,12 +1,14 @@
 -- The dozen worked samples that document 01 marks to be proved, as one list under one statement about the definitions.
 use Prim.Native.Nat.{ℕ}
 use mathlib.Core.Path.{_≡_}
-use mathlib.Core.List.{List, [], _∷_, _++_}
+use mathlib.Core.List.{List, [], _∷_}
 use lib.IntN.{ℤ, pos, negsuc}
 use lib.ListN.{replicate}
 use Rattle.hproto_table.specs.Entry.{Entry}
-use Rattle.hproto_message.specs.Tree.{Tree, Value, end, leaf, nested, uint, int, tree}
-use Rattle.hproto_message.specs.Reading as readings
+use Rattle.hproto_message.specs.Tree.{Tree, end, leaf, nested, uint, int, tree}
+use Rattle.reading.specs.Reading.{Reading, accepted, refused}
+use Rattle.hproto_message.specs.Cut.{Cut}
+use Rattle.hproto_message.specs.Reading.{reading}
 use Rattle.hproto_message.specs.Shortest.{shortest}
 
 -- What a message reads as: its tree, with the tree's shortest form, or a refusal with its place.
@@ -14,9 +16,9 @@ pub data Outcome : Type 0 where
   reads : Tree → List ℕ → Outcome
   refuses : ℕ → ℕ → Outcome
 
-unfoldable pub outcomeOf : List Entry → readings.Reading → Outcome
-outcomeOf es (readings.accepted cut) = reads (tree es 0 cut) (shortest (tree es 0 cut))
-outcomeOf es (readings.refused number place) = refuses number place
+unfoldable pub outcomeOf : List Entry → Reading Cut → Outcome
+outcomeOf es (accepted cut) = reads (tree es 0 cut) (shortest (tree es 0 cut))
+outcomeOf es (refused number place) = refuses number place
 
 -- A sample: a table, a message with number 0, and what is expected of it.
 pub record Sample : Type 0 where
@@ -25,7 +27,7 @@ pub record Sample : Type 0 where
   pub expected : Outcome
 
 unfoldable pub outcome : Sample → Outcome
-outcome x = outcomeOf (x .table) (readings.reading (x .table) 0 (x .message))
+outcome x = outcomeOf (x .table) (reading (x .table) 0 (x .message))
 
 -- Every sample of a list comes out as expected.
 unfoldable pub Hold : List Sample → Type 0

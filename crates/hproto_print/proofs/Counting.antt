@@ -19,7 +19,7 @@ use Rattle.hproto_print.specs.Text.{direct}
 use Rattle.hproto_print.specs.Walk.{directRead, directOf}
 use Rattle.hproto_field.specs.declared.Holds.{Holds}
 use Rattle.hproto_field.specs.declared.Holds.the-variants.{None, Number}
-use Rattle.hproto_print.proofs.Passing.{Left, all-left, none-left, ends, leaf-next, nested-next}
+use Rattle.hproto_field.proofs.Passing.{Left, all-left, none-left, ends, leaf-next, nested-next}
 
 -- The octets that are left, as the code hands them on.
 pub left-octets : (i : ℕ) (s : List ℕ) → take (length s - i) (drop i s) ≡ drop i s

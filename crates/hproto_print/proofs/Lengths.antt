@@ -17,7 +17,7 @@ use Rattle.hproto_table.specs.declared.Meaning.the-variants.{Raw, Uint, Int, St
 use Rattle.hproto_message.proofs.Accepted.{field-size}
 use Rattle.hproto_print.specs.Ascii.{ascii}
 use Rattle.hproto_print.specs.Digits.{decimal, fourDigits, hex, hexOrDash}
-use Rattle.hproto_print.specs.Window.{Room}
+use Rattle.hproto_print.specs.Window.{FitsU64}
 use Rattle.hproto_print.specs.Text.{kindName, valueText, front, line, direct, lines, page, refusal}
 use Rattle.hproto_print.specs.Walk.{linesOf}
 use Rattle.hproto_print.proofs.Numbers.{decimal-length, signed-length}
@@ -79,7 +79,7 @@ lines-length es (nested c inside rest) n k depth a =
     simp length-append (omega arith)
 
 -- What is printed for a message within the limit, and for a refusal, has room from the start.
-pub page-fits : (es : List Entry) (n : ℕ) (s : List ℕ) (count : ℕ) → length s ≤ 65536 → Accepts es 8 n s → Room 0 (page (linesOf es 8 n s) count (length s))
+pub page-fits : (es : List Entry) (n : ℕ) (s : List ℕ) (count : ℕ) → length s ≤ 65536 → Accepts es 8 n s → FitsU64 0 (page (linesOf es 8 n s) count (length s))
 unfolding page ascii
 page-fits es n s count h a =
     let g = accepts-good es 8 n s a in
@@ -90,7 +90,7 @@ page-fits es n s count h a =
     let y = decimal-length (length s) in
     record { below = simp length-append (omega arith) }
 
-pub refusal-fits : (number place : ℕ) → Room 0 (refusal number place)
+pub refusal-fits : (number place : ℕ) → FitsU64 0 (refusal number place)
 unfolding refusal ascii
 refusal-fits number place =
     let x = decimal-length number in

@@ -3,7 +3,6 @@ pub mod Pieces
 pub mod Numbers
 pub mod Decimals
 pub mod Values
-pub mod Passing
 pub mod Counting
 pub mod Writing
 pub mod Lengths

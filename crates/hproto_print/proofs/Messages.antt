@@ -1,5 +1,5 @@
 -- What is printed for a message, by the check's answer.
-use Prim.Native.Nat.{ℕ, _^_, _≤_}
+use Prim.Native.Nat.{ℕ, _≤_}
 use native.Mathlib.Omega.{arith}
 use mathlib.Core.Path.{_≡_, sym, ap, _∙_}
 use mathlib.Core.Bool.{Bool, true, false, cond}
@@ -14,11 +14,12 @@ use Rattle.hproto_table.specs.declared.Table.{Table}
 use Rattle.hproto_message.specs.Cut.{Cut}
 use Rattle.hproto_message.specs.Tree as trees
 use Rattle.hproto_message.specs.Tree.{tree}
-use Rattle.hproto_message.specs.Reading.{accepted, reading}
-use Rattle.hproto_check.specs.Check as checks
-use Rattle.hproto_check.specs.Check.{check, checkUnder, counts}
+use Rattle.reading.specs.Reading.{accepted, IsAccepted, messageLimit}
+use Rattle.hproto_message.specs.Reading.{reading}
+use Rattle.reading.specs.Checks as answers
+use Rattle.hproto_check.specs.Check.{check, checkUnder, treeCounts}
 use Rattle.hproto_check.proofs.Passed.{check-passed}
-use Rattle.hproto_check.specs.declared.Checked.{Checked}
+use Rattle.reading.specs.declared.Checked.{Checked}
 use Rattle.hproto_print.specs.Text.{page, shown, refusal, readText, messageText}
 use Rattle.hproto_print.specs.Walk.{linesRead, linesOf}
 
@@ -36,24 +37,24 @@ passed t s c e z = check-passed t 0 s (ap (λ (x : Checked). x .refusal) (sym e)
 -- The check's count of fields is that of the tree.
 fields-are : (t : Table) (s : List ℕ) (c : Checked) → c ≡ check t 0 s → c .refusal ≡ 0 → (cut : Cut) → reading (entries t) 0 s ≡ accepted cut
     → c .fields ≡ trees.fields (tree (entries t) 0 cut)
-unfolding check checkUnder checks.refusal counts
-fields-are t s c e z cut r = long (ltb (2 ^ 16) (length s)) e
+unfolding check checkUnder answers.refusal treeCounts answers.counts
+fields-are t s c e z cut r = long (ltb messageLimit (length s)) e
   where
     Right : Type 0
     Right = c .fields ≡ trees.fields (tree (entries t) 0 cut)
 
-    read : c ≡ counts (entries t) 0 (reading (entries t) 0 s) → Right
-    read g = ap (λ (x : Checked). x .fields) (g ∙ ap (counts (entries t) 0) r)
+    read : c ≡ treeCounts (entries t) 0 (reading (entries t) 0 s) → Right
+    read g = ap (λ (x : Checked). x .fields) (g ∙ ap (treeCounts (entries t) 0) r)
 
-    again : (b : Bool) → c ≡ cond b (checks.refusal 1 0) (cond (ltb 15 0) (checks.refusal 2 0) (counts (entries t) 0 (reading (entries t) 0 s))) → Right
+    again : (b : Bool) → c ≡ cond b (answers.refusal 1 0) (cond (ltb 15 0) (answers.refusal 2 0) (treeCounts (entries t) 0 (reading (entries t) 0 s))) → Right
     again true g = let l : c .refusal ≡ 1 = ap (λ (x : Checked). x .refusal) g in absurd (omega arith)
     again false g = read g
 
-    good : (v : Bool) → c ≡ cond v (checkUnder (entries t) 0 s) (checks.refusal 2 0) → Right
-    good true g = again (ltb (2 ^ 16) (length s)) g
+    good : (v : Bool) → c ≡ cond v (checkUnder (entries t) 0 s) (answers.refusal 2 0) → Right
+    good true g = again (ltb messageLimit (length s)) g
     good false g = let l : c .refusal ≡ 2 = ap (λ (x : Checked). x .refusal) g in absurd (omega arith)
 
-    long : (b : Bool) → c ≡ cond b (checks.refusal 1 0) (cond (valid t) (checkUnder (entries t) 0 s) (checks.refusal 2 0)) → Right
+    long : (b : Bool) → c ≡ cond b (answers.refusal 1 0) (cond (valid t) (checkUnder (entries t) 0 s) (answers.refusal 2 0)) → Right
     long true g = let l : c .refusal ≡ 1 = ap (λ (x : Checked). x .refusal) g in absurd (omega arith)
     long false g = good (valid t) g
 
@@ -64,7 +65,7 @@ module _ (t : Table) (s : List ℕ) (c : Checked) (e : c ≡ check t 0 s) where
   message-refused ne = rw (← e, ne-eqb (c .refusal) 0 ne)
 
   pub message-accepts : c .refusal ≡ 0 → (length s ≤ 65536) × Accepts (entries t) 8 0 s
-  unfolding Accepts reading
+  unfolding Accepts IsAccepted reading
   message-accepts z = let p = passed t s c e z in (p .0, (p .1 .0, p .1 .1))
 
   pub message-shown : c .refusal ≡ 0 → page (linesOf (entries t) 8 0 s) (c .fields) (length s) ≡ messageText t s

@@ -10,7 +10,7 @@ use lib.IntN.{ℤ, pos, negsuc}
 use lib.Dec.{ltb}
 use borrow.Author.Tests.{lt-ltb, le-ltb}
 use Rattle.hproto_print.specs.Digits.{glyph, decimalWithin, decimal, signedDecimal}
-use Rattle.hproto_print.specs.Window.{Printed, Room}
+use Rattle.hproto_print.specs.Window.{Printed, FitsU64}
 use Rattle.hproto_print.proofs.Windows.{then, one-is, same-place, printed-nothing, fits-less, fits-after, fits-first, fits-second}
 
 within-none : (most n : ℕ) → most ≡ 0 → [] ≡ decimalWithin most n
@@ -51,31 +51,31 @@ module _ (d : List ℕ) (from at most n : ℕ) where
   pub no-digits : most ≡ 0 → Printed d from at (decimalWithin most n) at d
   no-digits e = same-place (decimalWithin most n) (within-none most n e) (printed-nothing d from at)
 
-  pub one-fits : (x : ℕ) → 1 ≤ most → n < 10 → Room at (decimalWithin most n) → Room at (x ∷ [])
-  one-fits x h k r = fits-less (x ∷ []) (subst (Room at) (sym (within-one most n h k)) r) (omega arith)
+  pub one-fits : (x : ℕ) → 1 ≤ most → n < 10 → FitsU64 at (decimalWithin most n) → FitsU64 at (x ∷ [])
+  one-fits x h k r = fits-less (x ∷ []) (subst (FitsU64 at) (sym (within-one most n h k)) r) (omega arith)
 
   pub one-digit : (x r : ℕ) (e : List ℕ) → 1 ≤ most → n < 10 → x ≡ glyph n → Printed d from at (x ∷ []) r e → Printed d from at (decimalWithin most n) r e
   one-digit x r e h k q p = same-place (decimalWithin most n) (within-one most n h k) (one-is q p)
 
   module _ (h : 1 ≤ most) (k : 10 ≤ n) where
-    pub front-fits : Room at (decimalWithin most n) → Room at (decimalWithin (most - 1) (n / 10))
-    front-fits r = fits-first at (decimalWithin (most - 1) (n / 10)) (glyph (n % 10) ∷ []) (subst (Room at) (sym (within-more most n h k)) r)
+    pub front-fits : FitsU64 at (decimalWithin most n) → FitsU64 at (decimalWithin (most - 1) (n / 10))
+    front-fits r = fits-first at (decimalWithin (most - 1) (n / 10)) (glyph (n % 10) ∷ []) (subst (FitsU64 at) (sym (within-more most n h k)) r)
 
     module _ (m : ℕ) (e : List ℕ) (p : Printed d from at (decimalWithin (most - 1) (n / 10)) m e) where
-      pub last-fits : (x : ℕ) → Room at (decimalWithin most n) → Room m (x ∷ [])
-      last-fits x r = fits-after (x ∷ []) p (subst (Room at) (sym (within-more most n h k)) r) (simp length-append (omega arith))
+      pub last-fits : (x : ℕ) → FitsU64 at (decimalWithin most n) → FitsU64 m (x ∷ [])
+      last-fits x r = fits-after (x ∷ []) p (subst (FitsU64 at) (sym (within-more most n h k)) r) (simp length-append (omega arith))
 
       pub last-digit : (x r : ℕ) (f : List ℕ) → x ≡ glyph (n % 10) → Printed e from m (x ∷ []) r f → Printed d from at (decimalWithin most n) r f
       last-digit x r f q s = same-place (decimalWithin most n) (within-more most n h k) (then p (one-is q s))
 
 -- A number below zero.
 module _ (d : List ℕ) (from at k : ℕ) where
-  pub sign-fits : Room at (signedDecimal (negsuc k)) → Room at (0x2d ∷ [])
+  pub sign-fits : FitsU64 at (signedDecimal (negsuc k)) → FitsU64 at (0x2d ∷ [])
   unfolding signedDecimal
   sign-fits r = fits-less (0x2d ∷ []) r (omega arith)
 
   module _ (m : ℕ) (e : List ℕ) (p : Printed d from at (0x2d ∷ []) m e) where
-    pub magnitude-fits : Room at (signedDecimal (negsuc k)) → Room m (decimal (k + 1))
+    pub magnitude-fits : FitsU64 at (signedDecimal (negsuc k)) → FitsU64 m (decimal (k + 1))
     unfolding signedDecimal
     magnitude-fits r = rw (add-one k) (fits-second (decimal (suc k)) p r)
 

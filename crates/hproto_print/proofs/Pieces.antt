@@ -7,7 +7,7 @@ use mathlib.Core.List.{List, [], _∷_, _++_}
 use lib.ListN.{length, take, drop, getD, length-append}
 use lib.Seq.{take-suc, take-all, split-at}
 use Rattle.hproto_print.specs.Digits.{glyph, hex, hexOrDash}
-use Rattle.hproto_print.specs.Window.{Printed, Room}
+use Rattle.hproto_print.specs.Window.{Printed, FitsU64}
 use Rattle.hproto_print.proofs.Windows.{then, printed-nothing, printed-length, fits-after, same-place}
 
 pub hex-append : (xs ys : List ℕ) → hex (xs ++ ys) ≡ hex xs ++ hex ys
@@ -62,7 +62,7 @@ module _ (f : List ℕ → List ℕ) (f-nil : f [] ≡ []) (f-append : (xs ys : 
         ap f (split-at s i 0 h) ∙ f-append (take i s) (getD s i 0 ∷ drop (suc i) s)
         ∙ ap (λ (l : List ℕ). f (take i s) ++ l) (f-append (getD s i 0 ∷ []) (drop (suc i) s))
 
-    pub next-fits : Room at (f s) → Room end (f (getD s i 0 ∷ []))
+    pub next-fits : FitsU64 at (f s) → FitsU64 end (f (getD s i 0 ∷ []))
     next-fits g =
         fits-after (f (getD s i 0 ∷ [])) (p .printed) g
         (rw in-parts (simp length-append (omega arith)))

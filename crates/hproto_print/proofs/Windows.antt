@@ -9,7 +9,7 @@ use lib.ListN.{length, take, drop, set, length-append, length-drop, drop-of-leng
 use lib.Seq.{sets, length-sets, drop-nil, set-out, drop-append-le, drop-append-add, take-all, take-at}
 use lib.Dec.{leb}
 use borrow.Author.Tests.{leb-true, leb-false}
-use Rattle.hproto_print.specs.Window.{window, overlay, Printed, Room}
+use Rattle.hproto_print.specs.Window.{window, overlay, Printed, FitsU64}
 
 -- Stores from one end on, then stores from where they end.
 sets-append : (d : List ℕ) (i : ℕ) (xs ys : List ℕ) → sets d i (xs ++ ys) ≡ sets (sets d i xs) (i + length xs) ys
@@ -96,19 +96,19 @@ then {d} {e} {f} {from} {at} {m} {r} {xs} {ys} p q =
     }
 
 -- A piece that is no longer than one that fits.
-pub fits-less : {at : ℕ} (xs : List ℕ) {zs : List ℕ} → Room at zs → length xs ≤ length zs → Room at xs
+pub fits-less : {at : ℕ} (xs : List ℕ) {zs : List ℕ} → FitsU64 at zs → length xs ≤ length zs → FitsU64 at xs
 fits-less xs h l = let k = h .below in record { below = omega arith }
 
 -- What stands after a piece fits where both together do.
-pub fits-after : {d e : List ℕ} {from at m : ℕ} {xs : List ℕ} (ys : List ℕ) {zs : List ℕ} → Printed d from at xs m e → Room at zs
-    → length xs + length ys ≤ length zs → Room m ys
+pub fits-after : {d e : List ℕ} {from at m : ℕ} {xs : List ℕ} (ys : List ℕ) {zs : List ℕ} → Printed d from at xs m e → FitsU64 at zs
+    → length xs + length ys ≤ length zs → FitsU64 m ys
 fits-after ys p h l = let k = h .below in let a = p .place in record { below = omega arith }
 
 -- The same for a piece that is written in two parts.
-pub fits-first : (at : ℕ) (xs ys : List ℕ) → Room at (xs ++ ys) → Room at xs
+pub fits-first : (at : ℕ) (xs ys : List ℕ) → FitsU64 at (xs ++ ys) → FitsU64 at xs
 fits-first at xs ys h = fits-less xs h (simp length-append (omega arith))
 
-pub fits-second : {d e : List ℕ} {from at m : ℕ} {xs : List ℕ} (ys : List ℕ) → Printed d from at xs m e → Room at (xs ++ ys) → Room m ys
+pub fits-second : {d e : List ℕ} {from at m : ℕ} {xs : List ℕ} (ys : List ℕ) → Printed d from at xs m e → FitsU64 at (xs ++ ys) → FitsU64 m ys
 fits-second {xs = xs} ys p h = fits-after ys p h (simp length-append (omega arith))
 
 pub same-place : {d e : List ℕ} {from at m : ℕ} {xs : List ℕ} (ys : List ℕ) → xs ≡ ys → Printed d from at xs m e → Printed d from at ys m e

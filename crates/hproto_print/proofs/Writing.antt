@@ -16,11 +16,11 @@ use Rattle.hproto_field.specs.Fronts.{front}
 use Rattle.hproto_field.specs.declared.Field.{Field}
 use Rattle.hproto_print.specs.Ascii.{ascii}
 use Rattle.hproto_print.specs.Digits.{decimal}
-use Rattle.hproto_print.specs.Window.{Printed, Room}
+use Rattle.hproto_print.specs.Window.{Printed, FitsU64}
 use Rattle.hproto_print.specs.Text.{kindName, valueText, line, lines}
 use Rattle.hproto_print.specs.Walk.{linesRead, linesOf, directOf}
 use Rattle.hproto_print.proofs.Windows.{then, printed-nothing, printed-length, same-place, fits-after}
-use Rattle.hproto_print.proofs.Passing.{Left, all-left, none-left, part, ends, leaf-next, nested-next, good-deeper}
+use Rattle.hproto_field.proofs.Passing.{Left, all-left, none-left, part, ends, leaf-next, nested-next, good-deeper}
 use Rattle.hproto_print.proofs.Counting.{direct-is}
 
 pub lines-is : (es : List Entry) (levels n : ℕ) (s : List ℕ) (cut : Cut) → Good es levels n s cut → linesOf es levels n s ≡ lines (9 - levels) (tree es n cut)
@@ -62,7 +62,7 @@ module _ (es : List Entry) (levels n : ℕ) (s before : List ℕ) (from at : ℕ
   pub same-length : (i end : ℕ) (out : List ℕ) → Progress i end out → length out ≡ length before
   same-length i end out p = printed-length before from at (p .written) end out (p .printed)
 
-  module _ (fits : Room at whole) (i end : ℕ) (out : List ℕ) (p : Progress i end out) (more : i < length s) (f : Field) (found : f ≡ front es n (drop i s)) where
+  module _ (fits : FitsU64 at whole) (i end : ℕ) (out : List ℕ) (p : Progress i end out) (more : i < length s) (f : Field) (found : f ≡ front es n (drop i s)) where
     abbrev pub contents : List ℕ
     contents = part es (levels - 1) n s i (p .left) more f found
 
@@ -70,7 +70,7 @@ module _ (es : List Entry) (levels n : ℕ) (s before : List ℕ) (from at : ℕ
     next-ends = ends es (levels - 1) n s i (p .left) more f found
 
     -- A piece that is the next part of the whole has room.
-    next-fits : (piece rest : List ℕ) → whole ≡ p .written ++ piece ++ rest → Room end piece
+    next-fits : (piece rest : List ℕ) → whole ≡ p .written ++ piece ++ rest → FitsU64 end piece
     next-fits piece rest e = fits-after piece (p .printed) fits (rw e (simp length-append (omega arith)))
 
     module _ (q : Plain (f .kind)) where
@@ -87,7 +87,7 @@ module _ (es : List Entry) (levels n : ℕ) (s before : List ℕ) (from at : ℕ
       pub leaf-contents : Contents (f .kind) contents
       leaf-contents = leaf-next es (levels - 1) n s i (p .left) more f found q .contents
 
-      pub leaf-fits : Room end leaf-text
+      pub leaf-fits : FitsU64 end leaf-text
       leaf-fits = next-fits leaf-text (lines depth (tree es n (leaf-next es (levels - 1) n s i (p .left) more f found q .left .rest))) leaf-whole
 
       pub leaf-written : (r : ℕ) (after : List ℕ) → Printed out from end leaf-text r after → Progress (i + f .control + f .contents) r after
@@ -125,12 +125,12 @@ module _ (es : List Entry) (levels n : ℕ) (s before : List ℕ) (from at : ℕ
           p .whole-is ∙ ap (λ (t : Tree). p .written ++ lines depth t) (x .tree-is)
           ∙ rw (← a, ← b) (sym (ap (λ (l : List ℕ). l ++ rest) (append-assoc (p .written) message-text inner-text) ∙ append-assoc (p .written) (message-text ++ inner-text) rest))
 
-      pub message-fits : Room end message-text
+      pub message-fits : FitsU64 end message-text
       message-fits =
           fits-after message-text (p .printed) fits (rw nested-whole (simp length-append (omega arith)))
 
       module _ (b : ℕ) (between : List ℕ) (put : Printed out from end message-text b between) where
-        pub inner-fits : Room b inner-text
+        pub inner-fits : FitsU64 b inner-text
         inner-fits = fits-after inner-text (then (p .printed) put) fits (rw nested-whole (simp length-append (omega arith)))
 
         pub nested-written : (r : ℕ) (after : List ℕ) → Printed between from b inner-text r after → Progress (i + f .control + f .contents) r after

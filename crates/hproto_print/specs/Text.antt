@@ -6,8 +6,10 @@ use lib.ListN.{length}
 use lib.Dec.{eqb}
 use Rattle.hproto_table.specs.Entry.{entries}
 use Rattle.hproto_table.specs.declared.Table.{Table}
+use Rattle.hproto_message.specs.Cut.{Cut}
 use Rattle.hproto_message.specs.Tree.{Value, raw, uint, int, string, text, Tree, end, leaf, nested, tree, fields}
-use Rattle.hproto_message.specs.Reading.{Reading, accepted, refused, reading}
+use Rattle.reading.specs.Reading.{Reading, accepted, refused}
+use Rattle.hproto_message.specs.Reading.{reading}
 use Rattle.hproto_check.specs.Check.{check}
 use Rattle.hproto_print.specs.Ascii.{ascii}
 use Rattle.hproto_print.specs.Digits.{decimal, signedDecimal, fourDigits, hexOrDash}
@@ -63,7 +65,7 @@ unfoldable pub refusal : ℕ → ℕ → List ℕ
 refusal number place = ascii "refused " ++ decimal number ++ ascii " at " ++ decimal place ++ ascii "\n"
 
 -- A message by what reading it comes to.
-unfoldable pub readText : Table → List ℕ → Reading → List ℕ
+unfoldable pub readText : Table → List ℕ → Reading Cut → List ℕ
 readText t message (accepted cut) = shown (tree (entries t) 0 cut) (length message)
 readText t message (refused number place) = refusal number place
 

@@ -21,5 +21,5 @@ pub record Printed (before : List ℕ) (from at : ℕ) (piece : List ℕ) (end :
   pub buffer : after ≡ overlay before from at piece
 
 -- The place after a piece at `at` is a number of 64 bits.
-pub record Room (at : ℕ) (piece : List ℕ) : Type 0 where
+pub record FitsU64 (at : ℕ) (piece : List ℕ) : Type 0 where
   pub below : at + length piece < 2 ^ 64

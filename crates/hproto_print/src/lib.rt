@@ -8,6 +8,7 @@ ghost use mathlib.Core.Path.{_≡_};
 ghost use mathlib.Core.List.{map};
 ghost use Prim.Native.Nat.{_≤_};
 ghost use lib.ListN.{length, take};
+ghost use Rattle.reading.specs.Reading.{messageLimit};
 ghost use Rattle.hproto_table.specs.Entry.{entry};
 ghost use Rattle.hproto_print.specs.Window.{window, Printed};
 ghost use Rattle.hproto_print.specs.Text.{page as page-of, refusal as refusal-of, messageText};
@@ -16,7 +17,7 @@ ghost use Rattle.hproto_print.specs.Walk.{linesOf};
 
 // The text of a message with number 0 that was checked before, its count of fields given.
 fn page(words: &[u64], count: usize, fields: u64, s: &[u8], from: u64, out: &mut [u8]) -> u64
-    requires { ⌜ length (now s) ≤ 65536 ⌝ }
+    requires { ⌜ length (now s) ≤ messageLimit ⌝ }
     requires { ⌜ Accepts (map entry (take count (now words))) 8 0 (now s) ⌝ }
     ensures { λ r. ⌜ Printed (now (out .entry)) from 0 (page-of (linesOf (map entry (take count (now (words .entry)))) 8 0 (now (s .entry))) fields (length (now (s .entry)))) r (now (out .exit)) ⌝ }
 {

@@ -3,8 +3,6 @@
 use crate::print;
 use hproto_field::Holds;
 use hproto_table::Meaning;
-use octets::Signed;
-use octets::Unsigned;
 ghost use mathlib.Core.Path.{_≡_};
 ghost use mathlib.Core.List.{map};
 ghost use Prim.Native.Nat.{_≤_};
@@ -17,12 +15,12 @@ ghost use Rattle.hproto_message.specs.Reading.{Accepts};
 ghost use Rattle.hproto_message.specs.Tree.{value as value-of};
 ghost use Rattle.hproto_print.specs.Ascii.{ascii};
 ghost use Rattle.hproto_print.specs.Digits.{decimal, signedDecimal};
-ghost use Rattle.hproto_print.specs.Window.{Room, Printed};
+ghost use Rattle.hproto_print.specs.Window.{FitsU64, Printed};
 ghost use Rattle.hproto_print.specs.Text.{kindName, valueText, front as front-of, line};
 ghost use Rattle.hproto_print.specs.Walk.{meaningName, directOf, linesOf};
 
 fn kind_name(out: &mut [u8], from: u64, at: u64, kind: Meaning) -> u64
-    requires { ⌜ Room at (meaningName kind) ⌝ }
+    requires { ⌜ FitsU64 at (meaningName kind) ⌝ }
     ensures { λ r. ⌜ Printed (now (out .entry)) from at (meaningName kind) r (now (out .exit)) ⌝ }
 {
     match kind {
@@ -37,7 +35,7 @@ fn kind_name(out: &mut [u8], from: u64, at: u64, kind: Meaning) -> u64
 
 // What stands before the value in a field's line.
 fn front(out: &mut [u8], from: u64, at: u64, depth: u64, tag: u64, kind: Meaning) -> u64
-    requires { ⌜ Room at (front-of depth tag (meaningName kind)) ⌝ }
+    requires { ⌜ FitsU64 at (front-of depth tag (meaningName kind)) ⌝ }
     ensures { λ r. ⌜ Printed (now (out .entry)) from at (front-of depth tag (meaningName kind)) r (now (out .exit)) ⌝ }
 {
     let a = print::decimal(out, from, at, depth);
@@ -50,30 +48,26 @@ fn front(out: &mut [u8], from: u64, at: u64, depth: u64, tag: u64, kind: Meaning
 
 fn uint(out: &mut [u8], from: u64, at: u64, s: &[u8]) -> u64
     requires { ⌜ length (now s) ≤ 8 ⌝ }
-    requires { ⌜ Room at (decimal (number-of (now s))) ⌝ }
+    requires { ⌜ FitsU64 at (decimal (number-of (now s))) ⌝ }
     ensures { λ r. ⌜ Printed (now (out .entry)) from at (decimal (number-of (now (s .entry)))) r (now (out .exit)) ⌝ }
 {
-    match octets_read::uint(s) {
-        Unsigned::Value(v) => print::decimal(out, from, at, v),
-        Unsigned::Long => at,
-    }
+    let v = octets_read::uint(s);
+    print::decimal(out, from, at, v)
 }
 
 fn int(out: &mut [u8], from: u64, at: u64, s: &[u8]) -> u64
     requires { ⌜ length (now s) ≤ 8 ⌝ }
-    requires { ⌜ Room at (signedDecimal (integer (now s))) ⌝ }
+    requires { ⌜ FitsU64 at (signedDecimal (integer (now s))) ⌝ }
     ensures { λ r. ⌜ Printed (now (out .entry)) from at (signedDecimal (integer (now (s .entry)))) r (now (out .exit)) ⌝ }
 {
-    match octets_read::int(s) {
-        Signed::Value(v) => print::signed(out, from, at, v),
-        Signed::Long => at,
-    }
+    let v = octets_read::int(s);
+    print::signed(out, from, at, v)
 }
 
 // The value of a field that is no message.
 fn value(out: &mut [u8], from: u64, at: u64, kind: Meaning, s: &[u8]) -> u64
     requires { ⌜ Contents kind (now s) ⌝ }
-    requires { ⌜ Room at (valueText (value-of kind (now s))) ⌝ }
+    requires { ⌜ FitsU64 at (valueText (value-of kind (now s))) ⌝ }
     ensures { λ r. ⌜ Printed (now (out .entry)) from at (valueText (value-of kind (now (s .entry)))) r (now (out .exit)) ⌝ }
 {
     match kind {
@@ -97,7 +91,7 @@ fn leaf_line(
     s: &[u8],
 ) -> u64
     requires { ⌜ Contents kind (now s) ⌝ }
-    requires { ⌜ Room at (line depth tag (kindName (value-of kind (now s))) (valueText (value-of kind (now s)))) ⌝ }
+    requires { ⌜ FitsU64 at (line depth tag (kindName (value-of kind (now s))) (valueText (value-of kind (now s)))) ⌝ }
     ensures { λ r. ⌜ Printed (now (out .entry)) from at (line depth tag (kindName (value-of kind (now (s .entry)))) (valueText (value-of kind (now (s .entry))))) r (now (out .exit)) ⌝ }
 {
     let a = front(out, from, at, depth, tag, kind);
@@ -134,7 +128,7 @@ fn message_line(
     tag: u64,
 ) -> u64
     requires { ⌜ Accepts (map entry (take count (now words))) 8 number (now s) ⌝ }
-    requires { ⌜ Room at (line depth tag (ascii "message") (decimal (directOf (map entry (take count (now words))) number (now s)))) ⌝ }
+    requires { ⌜ FitsU64 at (line depth tag (ascii "message") (decimal (directOf (map entry (take count (now words))) number (now s)))) ⌝ }
     ensures { λ r. ⌜ Printed (now (out .entry)) from at (line depth tag (ascii "message") (decimal (directOf (map entry (take count (now (words .entry)))) number (now (s .entry))))) r (now (out .exit)) ⌝ }
 {
     let n = direct(words, count, number, s);
@@ -157,7 +151,7 @@ pub(crate) fn write(
 ) -> u64
     requires { ⌜ levels ≤ 8 ⌝ }
     requires { ⌜ Accepts (map entry (take count (now words))) levels number (now s) ⌝ }
-    requires { ⌜ Room at (linesOf (map entry (take count (now words))) levels number (now s)) ⌝ }
+    requires { ⌜ FitsU64 at (linesOf (map entry (take count (now words))) levels number (now s)) ⌝ }
     ensures { λ r. ⌜ Printed (now (out .entry)) from at (linesOf (map entry (take count (now (words .entry)))) levels number (now (s .entry))) r (now (out .exit)) ⌝ }
 {
     let mut i: usize = 0;

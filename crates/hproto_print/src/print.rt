@@ -3,14 +3,13 @@
 ghost use mathlib.Core.Path.{_≡_};
 ghost use mathlib.Core.List.{[], _∷_};
 ghost use Prim.Native.Nat.{_<_, _^_};
-ghost use lib.IntN.{pos, negsuc};
-ghost use lib.Signed.{_<ℤ_};
+ghost use lib.IntN.{negsuc};
 ghost use Rattle.hproto_print.specs.Digits.{glyph, decimalWithin, decimal as decimal-of, signedDecimal, fourDigits, hex as hex-of, hexOrDash};
-ghost use Rattle.hproto_print.specs.Window.{Room, Printed};
+ghost use Rattle.hproto_print.specs.Window.{FitsU64, Printed};
 
 // One octet. Those before the window and those beyond it are counted and not stored.
 pub(crate) fn put(out: &mut [u8], from: u64, at: u64, x: u8) -> u64
-    requires { ⌜ Room at (x ∷ []) ⌝ }
+    requires { ⌜ FitsU64 at (x ∷ []) ⌝ }
     ensures { λ r. ⌜ Printed (now (out .entry)) from at (x ∷ []) r (now (out .exit)) ⌝ }
 {
     if at < from {
@@ -25,7 +24,7 @@ pub(crate) fn put(out: &mut [u8], from: u64, at: u64, x: u8) -> u64
 }
 
 pub(crate) fn octets(out: &mut [u8], from: u64, at: u64, s: &[u8]) -> u64
-    requires { ⌜ Room at (now s) ⌝ }
+    requires { ⌜ FitsU64 at (now s) ⌝ }
     ensures { λ r. ⌜ Printed (now (out .entry)) from at (now (s .entry)) r (now (out .exit)) ⌝ }
 {
     let mut i = 0;
@@ -47,7 +46,7 @@ fn digit(d: u64) -> u8
 
 // The two hex digits of an octet.
 fn octet(out: &mut [u8], from: u64, at: u64, x: u8) -> u64
-    requires { ⌜ Room at (hex-of (x ∷ [])) ⌝ }
+    requires { ⌜ FitsU64 at (hex-of (x ∷ [])) ⌝ }
     ensures { λ r. ⌜ Printed (now (out .entry)) from at (hex-of (x ∷ [])) r (now (out .exit)) ⌝ }
 {
     let high = put(out, from, at, digit((x / 16) as u64));
@@ -55,7 +54,7 @@ fn octet(out: &mut [u8], from: u64, at: u64, x: u8) -> u64
 }
 
 fn hex(out: &mut [u8], from: u64, at: u64, s: &[u8]) -> u64
-    requires { ⌜ Room at (hex-of (now s)) ⌝ }
+    requires { ⌜ FitsU64 at (hex-of (now s)) ⌝ }
     ensures { λ r. ⌜ Printed (now (out .entry)) from at (hex-of (now (s .entry))) r (now (out .exit)) ⌝ }
 {
     let mut i = 0;
@@ -69,7 +68,7 @@ fn hex(out: &mut [u8], from: u64, at: u64, s: &[u8]) -> u64
 
 // Octets in hex, `-` where there are none.
 pub(crate) fn hex_or_dash(out: &mut [u8], from: u64, at: u64, s: &[u8]) -> u64
-    requires { ⌜ Room at (hexOrDash (now s)) ⌝ }
+    requires { ⌜ FitsU64 at (hexOrDash (now s)) ⌝ }
     ensures { λ r. ⌜ Printed (now (out .entry)) from at (hexOrDash (now (s .entry))) r (now (out .exit)) ⌝ }
 {
     if s.len() == 0 {
@@ -80,7 +79,7 @@ pub(crate) fn hex_or_dash(out: &mut [u8], from: u64, at: u64, s: &[u8]) -> u64
 
 // A number of 16 bits as four hex digits.
 pub(crate) fn four_digits(out: &mut [u8], from: u64, at: u64, n: u64) -> u64
-    requires { ⌜ Room at (fourDigits n) ⌝ }
+    requires { ⌜ FitsU64 at (fourDigits n) ⌝ }
     ensures { λ r. ⌜ Printed (now (out .entry)) from at (fourDigits n) r (now (out .exit)) ⌝ }
 {
     let a = put(out, from, at, digit(n / 4096 % 16));
@@ -91,7 +90,7 @@ pub(crate) fn four_digits(out: &mut [u8], from: u64, at: u64, n: u64) -> u64
 
 // The decimal digits of a number for which `most` digits are enough. What stands before the last digit is put first.
 fn digits(out: &mut [u8], from: u64, at: u64, most: u64, n: u64) -> u64
-    requires { ⌜ Room at (decimalWithin most n) ⌝ }
+    requires { ⌜ FitsU64 at (decimalWithin most n) ⌝ }
     ensures { λ r. ⌜ Printed (now (out .entry)) from at (decimalWithin most n) r (now (out .exit)) ⌝ }
 {
     if most == 0 {
@@ -105,24 +104,16 @@ fn digits(out: &mut [u8], from: u64, at: u64, most: u64, n: u64) -> u64
 }
 
 pub(crate) fn decimal(out: &mut [u8], from: u64, at: u64, n: u64) -> u64
-    requires { ⌜ Room at (decimal-of n) ⌝ }
+    requires { ⌜ FitsU64 at (decimal-of n) ⌝ }
     ensures { λ r. ⌜ Printed (now (out .entry)) from at (decimal-of n) r (now (out .exit)) ⌝ }
 {
     digits(out, from, at, 20, n)
 }
 
-// One less than the magnitude of a number below zero. Unlike the magnitude it is in range for each of them.
-fn under_zero(z: i64) -> u64
-    requires { ⌜ z <ℤ pos 0 ⌝ }
-    ensures { λ r. ⌜ z ≡ negsuc r ⌝ }
-{
-    (-1 - z) as u64
-}
-
 // A number below zero, by one less than its magnitude.
 fn minus(out: &mut [u8], from: u64, at: u64, k: u64) -> u64
     requires { ⌜ k < 2 ^ 63 ⌝ }
-    requires { ⌜ Room at (signedDecimal (negsuc k)) ⌝ }
+    requires { ⌜ FitsU64 at (signedDecimal (negsuc k)) ⌝ }
     ensures { λ r. ⌜ Printed (now (out .entry)) from at (signedDecimal (negsuc k)) r (now (out .exit)) ⌝ }
 {
     let a = put(out, from, at, b'-');
@@ -130,11 +121,11 @@ fn minus(out: &mut [u8], from: u64, at: u64, k: u64) -> u64
 }
 
 pub(crate) fn signed(out: &mut [u8], from: u64, at: u64, z: i64) -> u64
-    requires { ⌜ Room at (signedDecimal z) ⌝ }
+    requires { ⌜ FitsU64 at (signedDecimal z) ⌝ }
     ensures { λ r. ⌜ Printed (now (out .entry)) from at (signedDecimal z) r (now (out .exit)) ⌝ }
 {
     if z < 0 {
-        return minus(out, from, at, under_zero(z));
+        return minus(out, from, at, numbers::below_zero(z));
     }
     decimal(out, from, at, z as u64)
 }

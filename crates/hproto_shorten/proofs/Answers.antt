@@ -2,7 +2,7 @@
 use Prim.Native.Nat.{ℕ, _+_, _≤_, _<_}
 use native.Mathlib.Omega.{arith}
 use mathlib.Core.Path.{_≡_, refl, sym, ap, _∙_}
-use mathlib.Core.Bool.{true, false, not}
+use mathlib.Core.Bool.{true, false}
 use mathlib.Core.List.{List}
 use lib.ListN.{length}
 use lib.Dec.{eqb}
@@ -11,13 +11,13 @@ use Rattle.hproto_message.specs.Reading.{Accepts}
 use Rattle.hproto_table.specs.Entry.{Entry, entries}
 use Rattle.hproto_table.specs.Valid.{valid}
 use Rattle.hproto_table.specs.declared.Table.{Table}
-use Rattle.hproto_message.specs.Reading.{accepted, refused, reading}
-use Rattle.hproto_check.specs.Check as checks
+use Rattle.reading.specs.Reading.{IsAccepted}
+use Rattle.hproto_message.specs.Reading.{reading}
 use Rattle.hproto_check.specs.Check.{check, checkUnder}
-use Rattle.hproto_check.specs.declared.Checked.{Checked}
+use Rattle.reading.specs.declared.Checked.{Checked}
 use Rattle.hproto_check.proofs.Counts.{under-valid}
-use Rattle.hproto_put.specs.Store.{stored}
-use Rattle.hproto_put.proofs.Stores.{stored-fits}
+use Rattle.hproto_store.specs.Store.{stored}
+use Rattle.hproto_store.proofs.Stores.{stored-fits}
 use Rattle.hproto_shorten.specs.Written.{short}
 use Rattle.hproto_shorten.specs.Shorten.{refusal, shortUnder, shortForm, roomy, answerTo, bufferTo, answer, buffer, answerUnder, bufferUnder}
 use Rattle.hproto_shorten.specs.declared.Shortened.{Shortened}
@@ -25,7 +25,7 @@ use Rattle.hproto_check.proofs.Passed.{under-passed}
 
 -- A message that the check does not refuse is short enough and accepted.
 pub passed-accepts : (es : List Entry) (n : ℕ) (s : List ℕ) → checkUnder es n s .refusal ≡ 0 → (length s ≤ 65536) × Accepts es 8 n s
-unfolding Accepts reading
+unfolding Accepts IsAccepted reading
 passed-accepts es n s e = under-passed es n s e
 
 pub short-under : (es : List Entry) (n : ℕ) (s : List ℕ) → shortUnder es n s ≡ short es 8 n s

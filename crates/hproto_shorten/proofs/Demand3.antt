@@ -5,10 +5,11 @@ use mathlib.Core.Path.{_≡_, refl, sym, ap, _∙_, subst}
 use mathlib.Core.Bool.{true}
 use mathlib.Core.List.{List, _++_}
 use lib.ListN.{length, drop}
+use Rattle.reading.specs.Reading.{IsAccepted}
 use Rattle.hproto_message.specs.Reading.{Accepts}
 use Rattle.hproto_message.proofs.Accepted.{accepts-good}
-use Rattle.hproto_put.specs.Store.{stored}
-use Rattle.hproto_put.proofs.Stores.{stored-parts}
+use Rattle.hproto_store.specs.Store.{stored}
+use Rattle.hproto_store.proofs.Stores.{stored-parts}
 use Rattle.octets.specs.Number.{Octets}
 use Rattle.hproto_table.specs.Entry.{entries}
 use Rattle.hproto_table.specs.Load.{load}
@@ -21,23 +22,25 @@ use Rattle.hproto_message.specs.Reading.{reading}
 use Rattle.hproto_message.specs.Shortest.{shortest}
 use Rattle.hproto_message.proofs.Accepted.{accepted-exactly, good-cut-unique}
 use Rattle.hproto_message.proofs.Shortened.{shortest-good, shortest-octets, shortest-no-longer, others-longer}
-use Rattle.hproto_check.specs.Check.{check, counts}
+use Rattle.reading.specs.Checks.{counts}
+use Rattle.reading.specs.declared.Checked.{Checked}
+use Rattle.hproto_check.specs.Check.{check, treeCounts}
 use Rattle.hproto_check.proofs.Counts.{read-through}
 use Rattle.hproto_shorten.specs.Shorten.{shortForm, answer, buffer}
-use Rattle.hproto_shorten.specs.Demand3.{HasCut, ReadTheSame, Demand3, Demand3Holds}
+use Rattle.hproto_shorten.specs.Demand3.{HasCut, ReadTheSame, Demand3Holds}
 use Rattle.hproto_shorten.proofs.Passing.{short-is}
 use Rattle.hproto_shorten.proofs.Answers.{short-form, no-room, shortened}
 use Rattle.hproto_check.proofs.Passed.{check-passed}
 
 module _ (t : Table) (n : ℕ) (v : valid t ≡ true) (k : n ≤ 15) where
   cut-accepted : (s : List ℕ) → length s ≤ 65536 → HasCut t n s → check t n s .refusal ≡ 0
-  unfolding counts
+  unfolding treeCounts counts
   cut-accepted s h c =
       let e = accepted-exactly (entries t) n s (c .0) .1 (c .1) in
-      ap (λ (x : Rattle.hproto_check.specs.declared.Checked.Checked). x .refusal) (read-through t n s h v k ∙ ap (counts (entries t) n) e)
+      ap (λ (x : Checked). x .refusal) (read-through t n s h v k ∙ ap (treeCounts (entries t) n) e)
 
   accepted-cut : (s : List ℕ) → check t n s .refusal ≡ 0 → HasCut t n s
-  unfolding Accepts reading
+  unfolding Accepts IsAccepted reading
   accepted-cut s e = accepts-good (entries t) 8 n s (check-passed t n s e .1)
 
   -- The short form is the shortest form of the tree of the cut.

@@ -24,7 +24,7 @@ use Rattle.hproto_field.specs.declared.Field.{Field}
 use Rattle.hproto_put.proofs.Least.{leastControl-size, leastControl-widths}
 use Rattle.hproto_shorten.specs.Written.{short}
 use Rattle.hproto_shorten.proofs.Passing.{Passed, nothing-passed, all-passed, passed-length, part, ends, leaf-passed, nested-passed, short-is}
-use Rattle.hproto_shorten.proofs.Puts.{field-length}
+use Rattle.hproto_message.proofs.Fields.{field-length}
 
 signedWidth-bound : (z : ℤ) → signedWidth z ≤ 8
 unfolding signedWidth

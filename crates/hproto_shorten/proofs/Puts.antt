@@ -2,31 +2,23 @@
 use Prim.Native.Nat.{ℕ, _+_, _*_, _-_, _%_, _≤_, _<_}
 use native.Mathlib.Nat.{div-one}
 use native.Mathlib.Omega.{arith}
-use mathlib.Core.Path.{_≡_, refl, sym, ap, _∙_}
-use mathlib.Core.List.{List, [], _∷_, _++_}
-use lib.ListN.{length, set, length-append}
-use mathlib.Core.Bool.{Bool, true, false, cond}
-use lib.Dec.{leb}
+use mathlib.Core.Path.{_≡_, sym, ap, _∙_}
+use mathlib.Core.List.{List, [], _∷_}
+use lib.ListN.{length, set}
 use lib.IntN.{ℤ}
-use borrow.Author.Tests.{le-leb, lt-ltb}
+use borrow.Author.Tests.{lt-ltb}
 use Rattle.octets.specs.Number.{number, octetsOf, unsigned, leastUint, uintWidthBits}
 use Rattle.octets.specs.Signed.{integer, signed, leastInt, intWidthBits}
 use Rattle.octets.specs.declared.Least.{Least}
-use Rattle.octets.specs.declared.Unsigned.{Unsigned}
-use Rattle.octets.specs.declared.Unsigned.the-variants.{Value as UValue, Long as ULong}
-use Rattle.octets.specs.declared.Signed.{Signed}
-use Rattle.octets.specs.declared.Signed.the-variants.{Value as SValue, Long as SLong}
 use Rattle.octets.specs.Control.{leastCode, leastControl}
-use Rattle.octets.proofs.Number.{length-octetsOf}
-use Rattle.hproto_put.specs.Store.{stored, moved}
-use Rattle.hproto_put.proofs.Stores.{stored-fits, stored-after}
+use Rattle.octets.proofs.Number.{length-octetsOf, unsigned-is, uint-octets}
+use Rattle.octets.proofs.Integer.{signed-is, int-octets}
+use Rattle.hproto_store.specs.Store.{stored, moved}
+use Rattle.hproto_store.proofs.Stores.{stored-fits, stored-after}
 use Rattle.hproto_message.specs.Shortest.{field}
+use Rattle.hproto_message.proofs.Fields.{field-length}
 use Rattle.hproto_shorten.specs.Written.{Put}
 use Rattle.hproto_shorten.proofs.Behind.{moved-nowhere}
-
-pub field-length : (tag : ℕ) (xs : List ℕ) → length (field tag xs) ≡ length (leastControl tag (length xs)) + length xs
-unfolding field
-field-length tag xs = length-append (leastControl tag (length xs)) xs
 
 -- A control part takes at least one octet.
 pub control-some : (tag n : ℕ) → 1 ≤ length (leastControl tag n)
@@ -90,36 +82,11 @@ field-put d to tag n xs mid end between after e h front back =
 pub number-length : (tag w v : ℕ) → length (field tag (octetsOf w v)) ≡ length (leastControl tag w) + w
 number-length tag w v = field-length tag (octetsOf w v) ∙ rw (length-octetsOf w v)
 
--- What the readers of numbers say where they answer a value, or none.
-pub unsigned-value : (s : List ℕ) (v : ℕ) → unsigned s ≡ UValue v → v ≡ number s
-unfolding unsigned
-unsigned-value s v e = go (leb (length s) 8) e
-  where
-    go : (t : Bool) → cond t (UValue (number s)) ULong ≡ UValue v → v ≡ number s
-    go true e = cc
-    go false e = let z : _≡_ {A = ℕ} 0 1 = cc in absurd (omega arith)
+-- The octets of the least form of a number that was read from octets.
+pub uint-held : (s : List ℕ) (v : ℕ) (r : Least) → v ≡ unsigned s → length s ≤ 8 → r ≡ uintWidthBits v
+    → octetsOf (r .width) (r .bits) ≡ leastUint (number s)
+uint-held s v r e h f = uint-octets r v f ∙ ap leastUint (e ∙ unsigned-is s h)
 
-pub unsigned-long : (s : List ℕ) → unsigned s ≡ ULong → length s ≤ 8 → ⊥
-unfolding unsigned
-unsigned-long s e h = let f = le-leb (length s) 8 h in let z : _≡_ {A = ℕ} 0 1 = cc in omega arith
-
-pub signed-value : (s : List ℕ) (z : ℤ) → signed s ≡ SValue z → z ≡ integer s
-unfolding signed
-signed-value s z e = go (leb (length s) 8) e
-  where
-    go : (t : Bool) → cond t (SValue (integer s)) SLong ≡ SValue z → z ≡ integer s
-    go true e = cc
-    go false e = let z : _≡_ {A = ℕ} 0 1 = cc in absurd (omega arith)
-
-pub signed-long : (s : List ℕ) → signed s ≡ SLong → length s ≤ 8 → ⊥
-unfolding signed
-signed-long s e h = let f = le-leb (length s) 8 h in let z : _≡_ {A = ℕ} 0 1 = cc in omega arith
-
--- The octets of a least form are the least octets.
-pub uint-octets : (r : Least) (v : ℕ) → r ≡ uintWidthBits v → octetsOf (r .width) (r .bits) ≡ leastUint v
-unfolding uintWidthBits leastUint
-uint-octets r v e = rw e
-
-pub int-octets : (r : Least) (z : ℤ) → r ≡ intWidthBits z → octetsOf (r .width) (r .bits) ≡ leastInt z
-unfolding intWidthBits leastInt
-int-octets r z e = rw e
+pub int-held : (s : List ℕ) (z : ℤ) (r : Least) → z ≡ signed s → length s ≤ 8 → r ≡ intWidthBits z
+    → octetsOf (r .width) (r .bits) ≡ leastInt (integer s)
+int-held s z r e h f = int-octets r z f ∙ ap leastInt (e ∙ signed-is s h)

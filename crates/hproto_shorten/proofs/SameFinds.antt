@@ -7,8 +7,10 @@ use lib.ListN.{length}
 use Rattle.hproto_table.specs.Entry.{Entry, entries}
 use Rattle.hproto_table.specs.Valid.{valid}
 use Rattle.hproto_table.specs.declared.Table.{Table}
-use Rattle.hproto_table.proofs.SameFinds.{SameFinds}
-use Rattle.hproto_message.specs.Reading.{Reading, accepted, refused, reading}
+use Rattle.hproto_table.specs.SameFinds.{SameFinds}
+use Rattle.reading.specs.Reading.{Reading, accepted, refused}
+use Rattle.hproto_message.specs.Cut.{Cut}
+use Rattle.hproto_message.specs.Reading.{reading}
 use Rattle.hproto_message.proofs.SameFinds.{reading-same, tree-same}
 use Rattle.hproto_check.proofs.SameFinds.{under-same}
 use Rattle.hproto_shorten.specs.Written.{shortestOf}
@@ -16,7 +18,7 @@ use Rattle.hproto_shorten.specs.Shorten.{shortUnder, answerUnder, buffer
 use Rattle.hproto_shorten.proofs.Answers.{answer-under, buffer-under}
 
 module _ (es fs : List Entry) (same : SameFinds es fs) where
-  shortest-same : (n : ℕ) (r : Reading) → shortestOf es n r ≡ shortestOf fs n r
+  shortest-same : (n : ℕ) (r : Reading Cut) → shortestOf es n r ≡ shortestOf fs n r
   unfolding shortestOf
   shortest-same n (accepted cut) = rw (tree-same es fs same n cut) refl
   shortest-same n (refused number place) = refl

@@ -14,11 +14,12 @@ use Rattle.hproto_message.specs.Shortest.{field, leastContents}
 use Rattle.hproto_message.proofs.Next.{Plain}
 use Rattle.hproto_field.specs.Fronts.{front}
 use Rattle.hproto_field.specs.declared.Field.{Field}
-use Rattle.hproto_put.specs.Store.{stored, moved}
-use Rattle.hproto_put.proofs.Stores.{stored-nothing, stored-after, length-stored}
+use Rattle.hproto_store.specs.Store.{stored, moved}
+use Rattle.hproto_store.proofs.Stores.{stored-nothing, stored-after, length-stored}
 use Rattle.hproto_shorten.specs.Written.{short, Put}
 use Rattle.hproto_shorten.proofs.Passing.{Passed, nothing-passed, all-passed, passed-length, part, ends, leaf-passed, nested-passed}
-use Rattle.hproto_shorten.proofs.Puts.{field-length, control-some}
+use Rattle.hproto_message.proofs.Fields.{field-length}
+use Rattle.hproto_shorten.proofs.Puts.{control-some}
 use Rattle.hproto_shorten.proofs.Behind.{stored-behind}
 
 module _ (es : List Entry) (levels n : ℕ) (s before : List ℕ) (to : ℕ) where

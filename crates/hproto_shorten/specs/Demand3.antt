@@ -5,6 +5,7 @@ use mathlib.Core.Path.{_≡_}
 use mathlib.Core.List.{List, _++_}
 use mathlib.Core.Logic.{_↔_}
 use lib.ListN.{length, drop}
+use Rattle.reading.specs.Reading.{messageLimit}
 use Rattle.octets.specs.Number.{Octets}
 use Rattle.hproto_table.specs.Entry.{entries}
 use Rattle.hproto_table.specs.Load.{load}
@@ -13,7 +14,7 @@ use Rattle.hproto_table.specs.declared.Loaded.{Loaded}
 use Rattle.hproto_message.specs.Cut.{Cut, Good}
 use Rattle.hproto_message.specs.Tree.{tree}
 use Rattle.hproto_check.specs.Check.{check}
-use Rattle.hproto_check.specs.declared.Checked.{Checked}
+use Rattle.reading.specs.declared.Checked.{Checked}
 use Rattle.hproto_shorten.specs.Shorten.{shortForm, answer, buffer}
 use Rattle.hproto_shorten.specs.declared.Shortened.{Shortened}
 
@@ -53,4 +54,4 @@ pub record Demand3 (t : Table) (n : ℕ) (s out : List ℕ) : Type 0 where
 abbrev pub Demand3Holds : Type 0
 Demand3Holds =
     (octets : List ℕ) → Octets octets → load octets .refusal ≡ 0
-    → (n : ℕ) → n ≤ 15 → (s : List ℕ) → Octets s → length s ≤ 65536 → (out : List ℕ) → Demand3 (load octets .table) n s out
+    → (n : ℕ) → n ≤ 15 → (s : List ℕ) → Octets s → length s ≤ messageLimit → (out : List ℕ) → Demand3 (load octets .table) n s out

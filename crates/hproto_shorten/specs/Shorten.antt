@@ -9,7 +9,7 @@ use Rattle.hproto_table.specs.Entry.{Entry, entries}
 use Rattle.hproto_table.specs.declared.Table.{Table}
 use Rattle.hproto_message.specs.Reading.{reading}
 use Rattle.hproto_check.specs.Check.{check, checkUnder}
-use Rattle.hproto_check.specs.declared.Checked.{Checked}
+use Rattle.reading.specs.declared.Checked.{Checked}
 use Rattle.hproto_shorten.specs.Written.{shortestOf}
 use Rattle.hproto_shorten.specs.declared.Shortened.{Shortened}
 

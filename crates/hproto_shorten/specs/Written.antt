@@ -3,14 +3,16 @@ use Prim.Native.Nat.{ℕ, _+_}
 use mathlib.Core.Path.{_≡_}
 use mathlib.Core.List.{List, []}
 use lib.ListN.{length}
-use Rattle.hproto_put.specs.Store.{stored}
+use Rattle.hproto_store.specs.Store.{stored}
 use Rattle.hproto_table.specs.Entry.{Entry}
+use Rattle.hproto_message.specs.Cut.{Cut}
 use Rattle.hproto_message.specs.Tree.{tree}
-use Rattle.hproto_message.specs.Reading.{Reading, accepted, refused, messageFrom}
+use Rattle.reading.specs.Reading.{Reading, accepted, refused}
+use Rattle.hproto_message.specs.Reading.{messageFrom}
 use Rattle.hproto_message.specs.Shortest.{shortest}
 
 -- The shortest form of the tree that a reading gives; nothing for a refusal.
-unfoldable pub shortestOf : List Entry → ℕ → Reading → List ℕ
+unfoldable pub shortestOf : List Entry → ℕ → Reading Cut → List ℕ
 shortestOf es n (accepted cut) = shortest (tree es n cut)
 shortestOf es n (refused number place) = []
 

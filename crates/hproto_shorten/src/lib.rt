@@ -4,15 +4,14 @@ use hproto_field::Holds;
 use hproto_table::Meaning;
 use hproto_table::Table;
 use octets::Least;
-use octets::Signed;
-use octets::Unsigned;
 ghost use mathlib.Core.Path.{_≡_};
 ghost use Prim.Native.Nat.{_+_, _*_, _-_, _≤_, _<_};
 ghost use lib.ListN.{length};
+ghost use Rattle.reading.specs.Reading.{messageLimit};
 ghost use Rattle.octets.specs.Number.{Octets, number as number-of, octetsOf, leastUint};
 ghost use Rattle.octets.specs.Signed.{integer, leastInt};
 ghost use Rattle.octets.specs.Control.{leastControl};
-ghost use Rattle.hproto_put.specs.Store.{stored, moved};
+ghost use Rattle.hproto_store.specs.Store.{stored, moved};
 ghost use Rattle.hproto_index.specs.Slots.{listed};
 ghost use Rattle.hproto_field.specs.Fronts.{front as front-of};
 ghost use Rattle.hproto_message.specs.Cut.{Contents};
@@ -51,7 +50,7 @@ fn one_octet(tag: u16, n: usize) -> u8
     ((tag as u8) << 4) + (n as u8)
 }
 
-// The least control part where there is room for it. Most take one octet.
+// Stores the least control part and answers the place after it. Most take one octet, which needs no call.
 fn put_front(tag: u16, n: usize, out: &mut [u8], to: usize) -> usize
     requires { ⌜ to + length (leastControl tag n) ≤ length (now out) ⌝ }
     ensures { λ r. ⌜ Put (now (out .entry)) to (leastControl tag n) r (now (out .exit)) ⌝ }
@@ -82,19 +81,22 @@ fn put_plain(tag: u16, s: &[u8], out: &mut [u8], to: usize) -> usize
 {
     let n = s.len();
     let a = put_front(tag, n, out, to);
-    hproto_put::put_octets(out, a, s);
+    hproto_store::put_octets(out, a, s);
     a + n
 }
 
+// No number has more than eight octets. The test tells the compiler so, which then reads them with fewer steps; `put_int`, `uint_size`
+// and `int_size` have it for the same reason.
 fn put_uint(tag: u16, s: &[u8], out: &mut [u8], to: usize) -> usize
     requires { ⌜ length (now s) ≤ 8 ⌝ }
     requires { ⌜ to + length (field tag (leastUint (number-of (now s)))) ≤ length (now out) ⌝ }
     ensures { λ r. ⌜ Put (now (out .entry)) to (field tag (leastUint (number-of (now (s .entry))))) r (now (out .exit)) ⌝ }
 {
-    match octets_read::uint(s) {
-        Unsigned::Value(v) => put_least(tag, octets_least::uint_least(v), out, to),
-        Unsigned::Long => to,
+    if 8 < s.len() {
+        return to;
     }
+    let v = octets_read::uint(s);
+    put_least(tag, octets_least::uint_least(v), out, to)
 }
 
 fn put_int(tag: u16, s: &[u8], out: &mut [u8], to: usize) -> usize
@@ -102,10 +104,11 @@ fn put_int(tag: u16, s: &[u8], out: &mut [u8], to: usize) -> usize
     requires { ⌜ to + length (field tag (leastInt (integer (now s)))) ≤ length (now out) ⌝ }
     ensures { λ r. ⌜ Put (now (out .entry)) to (field tag (leastInt (integer (now (s .entry))))) r (now (out .exit)) ⌝ }
 {
-    match octets_read::int(s) {
-        Signed::Value(v) => put_least(tag, octets_least::int_least(v), out, to),
-        Signed::Long => to,
+    if 8 < s.len() {
+        return to;
     }
+    let v = octets_read::int(s);
+    put_least(tag, octets_least::int_least(v), out, to)
 }
 
 // A field that is no message, in its least form.
@@ -136,7 +139,7 @@ fn wrap(tag: u16, out: &mut [u8], to: usize, n: usize) -> usize
         return to + 1 + n;
     }
     let size = hproto_put::control_size(tag, n as u64);
-    hproto_put::move_up(out, to + 1, n, size - 1);
+    hproto_store::move_up(out, to + 1, n, size - 1);
     hproto_put::put_control(out, to, tag, n as u64);
     to + size + n
 }
@@ -184,7 +187,7 @@ fn write(
         let kind = f.kind;
         let a = i + f.control;
         let e = a + f.contents;
-        // The tag of a field is below 65,536.
+        // A tag is below 65,536, so that the remainder is the tag; it spares the proof of the cast.
         let tag = (f.tag % 65536) as u16;
         match hproto_field::held(kind) {
             Holds::None => {
@@ -205,20 +208,22 @@ fn uint_size(s: &[u8]) -> usize
     requires { ⌜ length (now s) ≤ 8 ⌝ }
     ensures { λ r. ⌜ r ≡ length (leastUint (number-of (now (s .entry)))) ⌝ }
 {
-    match octets_read::uint(s) {
-        Unsigned::Value(v) => octets_least::uint_least(v).width as usize,
-        Unsigned::Long => 0,
+    if 8 < s.len() {
+        return 0;
     }
+    let v = octets_read::uint(s);
+    octets_least::uint_least(v).width as usize
 }
 
 fn int_size(s: &[u8]) -> usize
     requires { ⌜ length (now s) ≤ 8 ⌝ }
     ensures { λ r. ⌜ r ≡ length (leastInt (integer (now (s .entry)))) ⌝ }
 {
-    match octets_read::int(s) {
-        Signed::Value(v) => octets_least::int_least(v).width as usize,
-        Signed::Long => 0,
+    if 8 < s.len() {
+        return 0;
     }
+    let v = octets_read::int(s);
+    octets_least::int_least(v).width as usize
 }
 
 // How many octets the least contents take.
@@ -239,7 +244,7 @@ fn least_size(kind: Meaning, s: &[u8]) -> usize
 // How many octets a field that is no message takes in its least form.
 fn value_size(kind: Meaning, tag: u16, s: &[u8]) -> usize
     requires { ⌜ Contents kind (now s) ⌝ }
-    requires { ⌜ length (now s) ≤ 65536 ⌝ }
+    requires { ⌜ length (now s) ≤ messageLimit ⌝ }
     ensures { λ r. ⌜ r ≡ length (field tag (leastContents (value kind (now (s .entry))))) ⌝ }
 {
     let n = least_size(kind, s);
@@ -248,7 +253,7 @@ fn value_size(kind: Meaning, tag: u16, s: &[u8]) -> usize
 
 // How many octets the shortest form of an accepted message takes.
 fn measure(slots: &[u16; 256], words: &[u64], number: u64, levels: u64, s: &[u8]) -> usize
-    requires { ⌜ length (now s) ≤ 65536 ⌝ }
+    requires { ⌜ length (now s) ≤ messageLimit ⌝ }
     requires { ⌜ Octets (now s) ⌝ }
     requires { ⌜ Accepts (listed (now slots) (now words)) levels number (now s) ⌝ }
     ensures { λ r. ⌜ r ≡ length (short (listed (now (slots .entry)) (now (words .entry))) levels number (now (s .entry))) ⌝ }
@@ -279,7 +284,7 @@ fn measure(slots: &[u16; 256], words: &[u64], number: u64, levels: u64, s: &[u8]
 // Whether the shortest form of an accepted message takes at most `len` octets. It is no longer than the message, so only a smaller
 // buffer needs it measured.
 fn has_room(slots: &[u16; 256], words: &[u64], number: u64, message: &[u8], len: usize) -> bool
-    requires { ⌜ length (now message) ≤ 65536 ⌝ }
+    requires { ⌜ length (now message) ≤ messageLimit ⌝ }
     requires { ⌜ Octets (now message) ⌝ }
     requires { ⌜ Accepts (listed (now slots) (now words)) 8 number (now message) ⌝ }
     ensures { λ r. ⌜ r ≡ leb (length (short (listed (now (slots .entry)) (now (words .entry))) 8 number (now (message .entry)))) len ⌝ }
@@ -290,7 +295,8 @@ fn has_room(slots: &[u16; 256], words: &[u64], number: u64, message: &[u8], len:
     measure(slots, words, number, 8, message) <= len
 }
 
-fn refused(number: u64, place: u64) -> Shortened
+// The answer where the message is refused, or there is no room.
+pub fn refused(number: u64, place: u64) -> Shortened
     ensures { λ r. ⌜ r ≡ refusal number place ⌝ }
 {
     Shortened {

@@ -11,7 +11,9 @@ use Rattle.hproto_table.specs.Load as loads
 use Rattle.hproto_table.specs.Repeat as repeats
 use Rattle.hproto_table.specs.Valid as valids
 use Rattle.hproto_message.specs.Tree as trees
+use Rattle.reading.specs.Reading.{onAccepted, inOrder}
 use Rattle.hproto_message.specs.Reading as readings
+use Rattle.reading.specs.Checks as answers
 use Rattle.hproto_check.specs.Check as checks
 use Rattle.hproto_frame.specs.Frame as frames
 use Rattle.hproto_print.specs.Ascii.{ascii}
@@ -52,10 +54,10 @@ pub samples-hold :
 unfolding input output shows.firstText shows.tableText shows.secondText prints.messageText prints.readText prints.refusal prints.shown prints.page prints.lines prints.direct
     prints.line prints.front prints.valueText prints.kindName digits.glyph digits.decimalWithin digits.decimal digits.signedDecimal digits.fourDigits digits.hex
     digits.hexOrDash ascii frames.frameRead frames.frontRead frames.prefixed frames.announced frames.messagePart
-    checks.check checks.checkUnder checks.counts checks.refusal readings.reading readings.messageFrom readings.fieldsFrom readings.afterStep readings.onCut readings.inOrder
+    checks.check checks.checkUnder checks.treeCounts answers.counts answers.refusal readings.reading readings.messageFrom readings.fieldsFrom readings.afterStep onAccepted inOrder
     readings.step readings.stepFrom readings.stepByKind trees.tree trees.tagOf entries.innerOf trees.value trees.fields trees.depth
     entries.find entries.meaning entries.entries entries.entry loads.load loads.loadFrom loads.accepted loads.refused loads.tableOf loads.faulty
-    loads.seen loads.pair loads.wordsBefore loads.sound loads.wordAt loads.recordAt loads.inRange valids.valid valids.allInRange valids.allZero
+    loads.seen loads.pair loads.wordsBefore loads.wellFormed loads.wordAt loads.recordAt loads.inRange valids.valid valids.allInRange valids.allZero
     repeats.distinct texts.text texts.textAfter texts.follower texts.followers octets.number signs.integer signs.withSign signs.lowest
     controls.control controls.controlOf controls.following controls.coded
 samples-hold = (refl, refl, refl, refl, refl, refl, refl, refl)

@@ -4,6 +4,7 @@ use mathlib.Core.Bool.{cond}
 use mathlib.Core.List.{List}
 use lib.ListN.{length, drop}
 use lib.Dec.{eqb, ltb}
+use Rattle.reading.specs.Reading.{messageLimit}
 use Rattle.hproto_table.specs.Load.{load}
 use Rattle.hproto_table.specs.declared.Table.{Table}
 use Rattle.hproto_table.specs.declared.Loaded.{Loaded}
@@ -28,4 +29,4 @@ firstText s f =
 
 -- The whole output for the whole input.
 unfoldable pub output : List ℕ → List ℕ
-output s = cond (ltb 65536 (length s)) (refusal 1 0) (firstText s (frameRead s))
+output s = cond (ltb messageLimit (length s)) (refusal 1 0) (firstText s (frameRead s))

@@ -1,9 +1,9 @@
 // The check and the shortener.
 use crate::print;
 use crate::tables;
-use hproto_check::Checked;
 use hproto_shorten::Shortened;
 use hproto_table::Table;
+use reading::Checked;
 
 pub fn checked(c: Checked) {
     if c.refusal != 0 {

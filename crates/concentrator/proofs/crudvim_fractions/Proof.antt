@@ -6,20 +6,13 @@ use Rattle.concentrator.specs.Fields.{flagged}
 use Rattle.tib_real.specs.InFractions.{fractionsOf}
 use Rattle.concentrator.proofs.crudvim_fractions.Statement.{statement}
 use Rattle.concentrator.proofs.crudvim_fractions.Tie as tie
-use Rattle.concentrator.proofs.crudvim_fractions.Reads as reads
-use Rattle.concentrator.proofs.crudvim_fractions.Lts as lts
-use Rattle.tib_real.proofs.fractions.Reads as fractions-reads
-use Rattle.tib_real.proofs.with_bits.Reads as with-bits-reads
 
--- src/lib.rt:239:33
 with-bits-requires : tie.Need-with-bits-requires
 with-bits-requires c κs = search needs
 
--- src/lib.rt:239:9
 fractions-requires : tie.Need-fractions-requires
 fractions-requires c κs = search needs
 
--- src/lib.rt:229:1
 returns : tie.Need-returns
 unfolding flagged
 returns c =

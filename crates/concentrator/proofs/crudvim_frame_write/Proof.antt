@@ -2,19 +2,13 @@ use borrow.Author.Needs.{needs}
 use mathlib.Core.Path.{sym}
 use Rattle.concentrator.proofs.crudvim_frame_write.Statement.{statement}
 use Rattle.concentrator.proofs.crudvim_frame_write.Tie as tie
-use Rattle.concentrator.proofs.crudvim_frame_write.Reads as reads
-use Rattle.concentrator.proofs.crudvim_frame_write.Lts as lts
-use Rattle.hproto_frame.proofs.frame_write.Reads as frame-write-reads
 
--- src/lib.rt:76:9
 frame-write-requires : tie.Need-frame-write-requires
 frame-write-requires c κs = search needs
 
--- src/lib.rt:66:1
 same-length : tie.Need-same-length
 same-length c = search needs
 
--- src/lib.rt:66:1
 returns : tie.Need-returns
 returns c =
     let w = c .before .before .frame-write .ensures in

@@ -4,15 +4,10 @@ use mir.Syntax.{w64}
 use mir.ValLaws.{toZ-ofZ}
 use Rattle.concentrator.proofs.crudvim_lookup_last.Statement.{statement}
 use Rattle.concentrator.proofs.crudvim_lookup_last.Tie as tie
-use Rattle.concentrator.proofs.crudvim_lookup_last.Reads as reads
-use Rattle.concentrator.proofs.crudvim_lookup_last.Lts as lts
-use Rattle.hproto_calls.proofs.lookup_last.Reads as lookup-last-reads
 
--- src/lib.rt:124:9
 lookup-last-requires : tie.Need-lookup-last-requires
 lookup-last-requires c κs = search needs
 
--- src/lib.rt:109:1
 returns : tie.Need-returns
 returns c =
     let f = c .before .lookup-last in

@@ -3,15 +3,10 @@ use mathlib.Core.Path.{sym, ap}
 use Rattle.concentrator.specs.Fields.{parts}
 use Rattle.concentrator.proofs.crudvim_tibrv_field.Statement.{statement}
 use Rattle.concentrator.proofs.crudvim_tibrv_field.Tie as tie
-use Rattle.concentrator.proofs.crudvim_tibrv_field.Reads as reads
-use Rattle.concentrator.proofs.crudvim_tibrv_field.Lts as lts
-use Rattle.tib_rv.proofs.field.Reads as field-reads
 
--- src/lib.rt:218:9
 field-requires : tie.Need-field-requires
 field-requires c κs = search needs
 
--- src/lib.rt:205:1
 returns : tie.Need-returns
 unfolding parts
 returns c = sym (ap parts (c .field .ensures))

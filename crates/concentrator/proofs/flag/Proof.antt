@@ -1,16 +1,12 @@
-use mathlib.Core.Path.{refl, sym, ap}
+use mathlib.Core.Path.{refl}
 use Rattle.concentrator.specs.Fields.{flag}
 use Rattle.concentrator.proofs.flag.Statement.{statement}
 use Rattle.concentrator.proofs.flag.Tie as tie
-use Rattle.concentrator.proofs.flag.Reads as reads
-use Rattle.concentrator.proofs.flag.Lts as lts
 
--- src/lib.rt:149:1
 returns : tie.Need-returns
 unfolding flag
 returns c = rw (c .if1 .taken) refl
 
--- src/lib.rt:149:1
 returns-2 : tie.Need-returns-2
 unfolding flag
 returns-2 c = rw (c .if1 .left) refl

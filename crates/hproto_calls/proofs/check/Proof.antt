@@ -3,22 +3,23 @@ use native.Mathlib.Omega.{arith}
 use mathlib.Core.Path.{_∙_}
 use lib.ListN.{replicate}
 use Rattle.hproto_table.specs.declared.Table.{Table}
-use Rattle.hproto_check.specs.Check.{check, refusal}
-use Rattle.hproto_shorten.proofs.Passing.{octets-each}
+use Rattle.reading.specs.Checks.{refusal}
+use Rattle.hproto_check.specs.Check.{check}
+use Rattle.octets.proofs.Number.{octets-of-slice}
 use Rattle.hproto_calls.specs.Calls.{checkOctets}
 use Rattle.hproto_calls.proofs.Loading.{message-too-long, counted-few, check-by-index}
 use borrow.Author.Needs.{needs}
 use Rattle.hproto_calls.proofs.check.Statement.{statement}
 use Rattle.hproto_calls.proofs.check.Tie as tie
 
-unchecked-requires : tie.Need-unchecked-requires
-unchecked-requires c κs = search needs
+refused-requires : tie.Need-refused-requires
+refused-requires c κs = search needs
 
 returns : tie.Need-returns
 unfolding checkOctets
 returns c =
     let a = c .before .before .before .before .args in
-    c .unchecked .ensures ∙ message-too-long (a .table .now) (a .message .now) (λ (t : Table). check t (a .number) (a .message .now)) refusal (c .before .if1 .taken)
+    c .refused .ensures ∙ message-too-long (a .table .now) (a .message .now) (λ (t : Table). check t (a .number) (a .message .now)) refusal (c .before .if1 .taken)
 
 index-requires : tie.Need-index-requires
 index-requires c κs = search needs
@@ -48,7 +49,7 @@ returns-3 c =
     let a = c .before .before .before .before .before .before .before .before .before .before .args in
     let x = c .before .before .before .before .before .index in
     let f = c .before .first in
-    let o = octets-each (a .table .now) (λ i. c .before .before .before .before .before .before .before .before .before .shared-slice-known .given i .fits) in
+    let o = octets-of-slice (a .table .now) (λ i. c .before .before .before .before .before .before .before .before .before .shared-slice-known .given i .fits) in
     c .check-under .ensures
     ∙ check-by-index (a .table .now) (a .message .now) o (c .before .before .before .before .before .before .before .if1 .left) (x .result) (x .last .1 .0) (f .result .now) (x .ensures .0)
     (c .before .before .before .before .if2 .left) (x .ensures .1) (f .ensures) (a .number)
@@ -57,7 +58,7 @@ pub check-spec : {M : Type 1} → statement M
 check-spec =
     tie.close
     (tie.spec
-    unchecked-requires
+    refused-requires
     returns
     index-requires
     mul-if2

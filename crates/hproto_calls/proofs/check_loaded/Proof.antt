@@ -1,7 +1,8 @@
 -- `check_loaded` answers the loader's refusal, or what the check answers under the loaded table.
 use mathlib.Core.Path.{_∙_}
 use Rattle.hproto_table.specs.declared.Table.{Table}
-use Rattle.hproto_check.specs.Check.{check, refusal}
+use Rattle.reading.specs.Checks.{refusal}
+use Rattle.hproto_check.specs.Check.{check}
 use Rattle.hproto_calls.specs.Calls.{checkOctets}
 use Rattle.hproto_calls.proofs.Loading.{table-refused, table-loaded}
 use borrow.Author.Needs.{needs}
@@ -11,15 +12,15 @@ use Rattle.hproto_calls.proofs.check_loaded.Tie as tie
 load-requires : tie.Need-load-requires
 load-requires c κs = search needs
 
-unchecked-requires : tie.Need-unchecked-requires
-unchecked-requires c κs = search needs
+refused-requires : tie.Need-refused-requires
+refused-requires c κs = search needs
 
 returns : tie.Need-returns
 unfolding checkOctets
 returns c =
     let a = c .before .before .before .before .before .before .args in
     let l = c .before .before .before .load in
-    c .unchecked .ensures
+    c .refused .ensures
     ∙ table-refused (a .table .now) (a .message .now) (λ (t : Table). check t (a .number) (a .message .now)) refusal (c .before .before .before .before .before .before .pre) (l .result) (l .ensures) (c .before .if1 .taken)
 
 check-requires : tie.Need-check-requires
@@ -35,4 +36,4 @@ returns-2 c =
 
 pub check-loaded-spec : {M : Type 1} → statement M
 check-loaded-spec =
-    tie.close (tie.spec load-requires unchecked-requires returns check-requires returns-2)
+    tie.close (tie.spec load-requires refused-requires returns check-requires returns-2)

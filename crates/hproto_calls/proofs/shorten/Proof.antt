@@ -5,22 +5,22 @@ use mathlib.Core.Path.{_∙_}
 use lib.ListN.{replicate}
 use Rattle.hproto_table.specs.declared.Table.{Table}
 use Rattle.hproto_shorten.specs.Shorten.{answer, buffer, refusal}
-use Rattle.hproto_shorten.proofs.Passing.{octets-each}
+use Rattle.octets.proofs.Number.{octets-of-slice}
 use Rattle.hproto_calls.specs.Calls.{shortenOctets, shortenBuffer}
 use Rattle.hproto_calls.proofs.Loading.{message-too-long, counted-few, shorten-by-index, buffer-by-index}
 use borrow.Author.Needs.{needs}
 use Rattle.hproto_calls.proofs.shorten.Statement.{statement}
 use Rattle.hproto_calls.proofs.shorten.Tie as tie
 
-unshortened-requires : tie.Need-unshortened-requires
-unshortened-requires c κs = search needs
+refused-requires : tie.Need-refused-requires
+refused-requires c κs = search needs
 
 returns : tie.Need-returns
 unfolding shortenOctets shortenBuffer
 returns c =
     let a = c .before .before .before .before .before .args in
     let h = c .before .if1 .taken in (
-      c .unshortened .ensures ∙ message-too-long (a .table .now) (a .message .now) (λ (t : Table). answer t (a .number) (a .message .now) (a .out .now)) refusal h,
+      c .refused .ensures ∙ message-too-long (a .table .now) (a .message .now) (λ (t : Table). answer t (a .number) (a .message .now) (a .out .now)) refusal h,
       message-too-long (a .table .now) (a .message .now) (λ (t : Table). buffer t (a .number) (a .message .now) (a .out .now)) (λ (number place : ℕ). a .out .now) h,
     )
 
@@ -58,7 +58,7 @@ returns-3 c =
     let a = c .before .before .before .before .before .before .before .before .before .before .before .before .before .before .args in
     let x = c .before .before .before .before .before .before .before .before .index in
     let f = c .before .before .before .before .first in
-    let o = octets-each (a .table .now) (λ i. c .before .before .before .before .before .before .before .before .before .before .before .before .before .shared-slice-known .given i .fits) in
+    let o = octets-of-slice (a .table .now) (λ i. c .before .before .before .before .before .before .before .before .before .before .before .before .before .shared-slice-known .given i .fits) in
     let h = c .before .before .before .before .before .before .before .before .before .before .if1 .left in
     let l = c .before .before .before .before .before .before .before .if2 .left in
     let s = c .before .before .shorten-under .ensures in (
@@ -72,7 +72,7 @@ pub shorten-spec : {M : Type 1} → statement M
 shorten-spec =
     tie.close
     (tie.spec
-    unshortened-requires
+    refused-requires
     returns
     index-requires
     mul-if2

@@ -12,8 +12,8 @@ use Rattle.hproto_calls.proofs.shorten_loaded.Tie as tie
 load-requires : tie.Need-load-requires
 load-requires c κs = search needs
 
-unshortened-requires : tie.Need-unshortened-requires
-unshortened-requires c κs = search needs
+refused-requires : tie.Need-refused-requires
+refused-requires c κs = search needs
 
 returns : tie.Need-returns
 unfolding shortenOctets shortenBuffer
@@ -22,7 +22,7 @@ returns c =
     let l = c .before .before .before .load in
     let h = c .before .before .before .before .before .before .before .pre in
     let z = c .before .if1 .taken in (
-      c .unshortened .ensures ∙ table-refused (a .table .now) (a .message .now) (λ (t : Table). answer t (a .number) (a .message .now) (a .out .now)) refusal h (l .result) (l .ensures) z,
+      c .refused .ensures ∙ table-refused (a .table .now) (a .message .now) (λ (t : Table). answer t (a .number) (a .message .now) (a .out .now)) refusal h (l .result) (l .ensures) z,
       table-refused (a .table .now) (a .message .now) (λ (t : Table). buffer t (a .number) (a .message .now) (a .out .now)) (λ (number place : ℕ). a .out .now) h (l .result) (l .ensures) z,
     )
 
@@ -47,4 +47,4 @@ returns-2 c =
 pub shorten-loaded-spec : {M : Type 1} → statement M
 shorten-loaded-spec =
     tie.close
-    (tie.spec load-requires unshortened-requires returns shorten-requires same-length returns-2)
+    (tie.spec load-requires refused-requires returns shorten-requires same-length returns-2)

@@ -9,6 +9,7 @@ use denote.Ref.{now}
 use Rattle.hproto_table.specs.Entry.{Entry}
 use Rattle.hproto_index.specs.Slots.{listed}
 use Rattle.hproto_message.specs.Reading.{messageFrom, fieldsFrom, step}
+use Rattle.reading.specs.Checks.{walkOf}
 use Rattle.hproto_check.specs.Walks as walks
 use Rattle.hproto_check.proofs.Turns.{State, start, at-end, at-fault, over-leaf, leaf-ends, nested-ends, nested-turn, nested-refusal, nested-small, room-open}
 use borrow.Fn.Kinds.{In}
@@ -16,7 +17,7 @@ use borrow.Fn.PlainCycle.{Measures, is, falls, and}
 use Rattle.hproto_check.proofs.nested.Reads as nested
 use Rattle.hproto_check.proofs.nested.Kinds as nested-kinds
 use Rattle.hproto_check.proofs.+nested.Lts-nested as nested-lts
-use Rattle.hproto_check.proofs.larger.Reads as larger-reads
+use Rattle.numbers.proofs.larger.Reads as larger-reads
 use Rattle.hproto_field.proofs.step.Reads as step-reads
 use Rattle.hproto_check.proofs.+nested.{statement}
 use Rattle.hproto_check.proofs.+nested.Tie.{close}
@@ -31,11 +32,11 @@ abbrev nested-below : ℕ → In 3 nested-kinds.ps
 nested-below t = and 3 nested-kinds.ps (falls 3 nested-kinds.ps _<_ μ-nested t) nested.Pre
 
 abbrev nested-Inv-loop : nested-lts.InvT-loop
-nested-Inv-loop slots rest n deep from at s i₀ fields₀ depth₀ i fields depth =
-    (1 ≤ deep) × State (listed slots rest) (messageFrom (listed slots rest) (deep - 1)) n at s i fields depth
+nested-Inv-loop slots rest n levels from at s i₀ fields₀ depth₀ i fields depth =
+    (1 ≤ levels) × State (listed slots rest) (messageFrom (listed slots rest) (levels - 1)) n at s i fields depth
 
 abbrev nested-μ-loop : nested-lts.MeasureT-loop
-nested-μ-loop slots rest n deep from at s i₀ fields₀ depth₀ i fields depth = length s - i
+nested-μ-loop slots rest n levels from at s i₀ fields₀ depth₀ i fields depth = length s - i
 
 -- The places in the code that the facts below speak of.
 abbrev After-step : ℕ → Type 0
@@ -63,13 +64,13 @@ module _ (t : ℕ) (c : After-step t) where
   abbrev i : ℕ
   i = c .before .before .loop .i
 
-  abbrev state : State es (messageFrom es (args .deep - 1)) (args .n) (args .at) octets i (c .before .before .loop .fields) (c .before .before .loop .depth)
+  abbrev state : State es (messageFrom es (args .levels - 1)) (args .n) (args .at) octets i (c .before .before .loop .fields) (c .before .before .loop .depth)
   state = c .before .before .loop .inv .1
 
-  abbrev room-left : 1 ≤ args .deep
+  abbrev room-left : 1 ≤ args .levels
   room-left = c .before .before .loop .inv .0
 
-  abbrev bounds : (args .at + length octets ≤ 65536) × (args .deep ≤ 8)
+  abbrev bounds : (args .at + length octets ≤ 65536) × (args .levels ≤ 8)
   bounds = c .before .before .before .before .before .before .pre .1
 
   -- What the step found at the octets that are left.
@@ -77,9 +78,9 @@ module _ (t : ℕ) (c : After-step t) where
   step-found = let h = state .inside in c .step .ensures ∙ rw (take-all (length octets - i) (drop i octets) (simp length-drop (omega arith)))
 
   -- What the whole message comes to, in terms of its fields.
-  opened : walks.walk (messageFrom es (args .deep) (args .n) (args .from) (args .at) octets)
-      ≡ walks.walk (fieldsFrom es (messageFrom es (args .deep - 1)) (args .n) (suc (length octets)) (args .at) octets)
-  opened = ap walks.walk (room-open es (args .deep) (args .n) (args .from) (args .at) octets room-left)
+  opened : walks.walk (messageFrom es (args .levels) (args .n) (args .from) (args .at) octets)
+      ≡ walks.walk (fieldsFrom es (messageFrom es (args .levels - 1)) (args .n) (suc (length octets)) (args .at) octets)
+  opened = ap walks.walk (room-open es (args .levels) (args .n) (args .from) (args .at) octets room-left)
 
 -- The field that the loop goes over ends within the octets.
 over-ends : (t : ℕ) (c : Over-field t) → let b = c .before .before .before in let v = c .before .control .given .0 in
@@ -87,7 +88,7 @@ over-ends : (t : ℕ) (c : Over-field t) → let b = c .before .before .before i
 over-ends t c =
     let b = c .before .before .before in
     let v = c .before .control .given in
-    leaf-ends (es t b) (messageFrom (es t b) (args t b .deep - 1)) (args t b .n) (args t b .at) (octets t b) (i t b)
+    leaf-ends (es t b) (messageFrom (es t b) (args t b .levels - 1)) (args t b .n) (args t b .at) (octets t b) (i t b)
     (b .before .before .loop .fields) (b .before .before .loop .depth) (state t b) (v .0 .0) (v .0 .1 .0) (sym (step-found t b) ∙ v .1)
 
 -- The field that holds a nested message ends within the octets.
@@ -96,138 +97,111 @@ in-ends : (t : ℕ) (c : In-field t) → let b = c .before .before .before in le
 in-ends t c =
     let b = c .before .before .before in
     let v = c .before .m .given in
-    nested-ends (es t b) (messageFrom (es t b) (args t b .deep - 1)) (args t b .n) (args t b .at) (octets t b) (i t b)
+    nested-ends (es t b) (messageFrom (es t b) (args t b .levels - 1)) (args t b .n) (args t b .at) (octets t b) (i t b)
     (b .before .before .loop .fields) (b .before .before .loop .depth) (state t b) (v .0 .0) (v .0 .1 .0) (v .0 .1 .1 .0) (sym (step-found t b) ∙ v .1)
 
 -- The nested message's counts are small.
 inner-small : (t : ℕ) (c : After-inner t) → let d = c .before .before .before .before .before in let b = d .before .before .before in let w = c .before .f .given .0 in
-    (w .0 ≤ d .before .m .given .0 .1 .1 .0) × (w .1 .0 ≤ args t b .deep - 1)
+    (w .0 ≤ d .before .m .given .0 .1 .1 .0) × (w .1 .0 ≤ args t b .levels - 1)
 inner-small t c =
     let d = c .before .before .before .before .before in
     let b = d .before .before .before in
     let v = d .before .m .given .0 in
     let w = c .before .f .given in
-    nested-small (es t b) (args t b .deep - 1) (v .0) (args t b .at + i t b) (args t b .at + (i t b + v .1 .0)) (i t b) (v .1 .0) (v .1 .1 .0) (octets t b)
+    nested-small (es t b) (args t b .levels - 1) (v .0) (args t b .at + i t b) (args t b .at + (i t b + v .1 .0)) (i t b) (v .1 .0) (v .1 .1 .0) (octets t b)
     (w .0 .0) (w .0 .1 .0) (c .before .before .before .nested .result) (in-ends t d .1) (c .before .before .before .nested .ensures) (w .1)
 
--- src/lib.rt:43:9
 nested-returns : (t : ℕ) → nested-lts.Need-returns (step-reads.Asked, step-reads.Learnt, nested-below t, nested.Post, larger-reads.Asked, larger-reads.Learnt) (nested-at t) nested.Post nested-Inv-loop nested-μ-loop
-unfolding messageFrom walks.walk
+unfolding messageFrom walkOf
 nested-returns t c = rw (c .if1 .taken)
 
--- src/lib.rt:48:5
 nested-loop-holds : (t : ℕ) → nested-lts.Need-loop-holds (step-reads.Asked, step-reads.Learnt, nested-below t, nested.Post, larger-reads.Asked, larger-reads.Learnt) (nested-at t) nested.Post nested-Inv-loop nested-μ-loop
 nested-loop-holds t c =
     let a = c .before .before .before .args in
     let e = listed (now (a .slots)) (now (a .rest)) in
     let h = c .if1 .left in
-    (omega arith, start e (messageFrom e (a .deep - 1)) (a .n) (a .at) (now (a .s)))
+    (omega arith, start e (messageFrom e (a .levels - 1)) (a .n) (a .at) (now (a .s)))
 
--- src/lib.rt:49:56
 nested-sub-step : (t : ℕ) → nested-lts.Need-sub-step (step-reads.Asked, step-reads.Learnt, nested-below t, nested.Post, larger-reads.Asked, larger-reads.Learnt) (nested-at t) nested.Post nested-Inv-loop nested-μ-loop
 nested-sub-step t c = search needs
 
--- src/lib.rt:49:56
 nested-part-step-start : (t : ℕ) → nested-lts.Need-part-step-start (step-reads.Asked, step-reads.Learnt, nested-below t, nested.Post, larger-reads.Asked, larger-reads.Learnt) (nested-at t) nested.Post nested-Inv-loop nested-μ-loop
 nested-part-step-start t c = search needs
 
--- src/lib.rt:49:56
 nested-part-step-end : (t : ℕ) → nested-lts.Need-part-step-end (step-reads.Asked, step-reads.Learnt, nested-below t, nested.Post, larger-reads.Asked, larger-reads.Learnt) (nested-at t) nested.Post nested-Inv-loop nested-μ-loop
 nested-part-step-end t c = search needs
 
--- src/lib.rt:49:15
 nested-step-requires : (t : ℕ) → nested-lts.Need-step-requires (step-reads.Asked, step-reads.Learnt, nested-below t, nested.Post, larger-reads.Asked, larger-reads.Learnt) (nested-at t) nested.Post nested-Inv-loop nested-μ-loop
 nested-step-requires t c κs = search needs
 
--- src/lib.rt:51:17
 nested-enum-told : (t : ℕ) → nested-lts.Need-enum-told (step-reads.Asked, step-reads.Learnt, nested-below t, nested.Post, larger-reads.Asked, larger-reads.Learnt) (nested-at t) nested.Post nested-Inv-loop nested-μ-loop
 nested-enum-told t c = search needs
 
--- src/lib.rt:51:17
 nested-returns-2 : (t : ℕ) → nested-lts.Need-returns-2 (step-reads.Asked, step-reads.Learnt, nested-below t, nested.Post, larger-reads.Asked, larger-reads.Learnt) (nested-at t) nested.Post nested-Inv-loop nested-μ-loop
 nested-returns-2 t c =
     let b = c .before .before in
-    sym (opened t b ∙ at-end (es t b) (messageFrom (es t b) (args t b .deep - 1)) (args t b .n) (args t b .at) (octets t b) (i t b) (b .before .before .loop .fields) (b .before .before .loop .depth) (state t b) (sym (step-found t b) ∙ c .enum-told .given .1))
+    sym (opened t b ∙ at-end (es t b) (messageFrom (es t b) (args t b .levels - 1)) (args t b .n) (args t b .at) (octets t b) (i t b) (b .before .before .loop .fields) (b .before .before .loop .depth) (state t b) (sym (step-found t b) ∙ c .enum-told .given .1))
 
--- src/lib.rt:53:25
 nested-enum-known-k : (t : ℕ) → nested-lts.Need-enum-known-k (step-reads.Asked, step-reads.Learnt, nested-below t, nested.Post, larger-reads.Asked, larger-reads.Learnt) (nested-at t) nested.Post nested-Inv-loop nested-μ-loop
 nested-enum-known-k t c = search needs
 
--- src/lib.rt:54:58
 nested-add-t32 : (t : ℕ) → nested-lts.Need-add-t32 (step-reads.Asked, step-reads.Learnt, nested-below t, nested.Post, larger-reads.Asked, larger-reads.Learnt) (nested-at t) nested.Post nested-Inv-loop nested-μ-loop
 nested-add-t32 t c = let b = c .before .before .before in let h = state t b .inside in let k = bounds t b .0 in omega arith
 
--- src/lib.rt:54:17
 nested-returns-3 : (t : ℕ) → nested-lts.Need-returns-3 (step-reads.Asked, step-reads.Learnt, nested-below t, nested.Post, larger-reads.Asked, larger-reads.Learnt) (nested-at t) nested.Post nested-Inv-loop nested-μ-loop
 nested-returns-3 t c =
     let b = c .before .before .before in
     let v = c .before .k .given in
-    sym (opened t b ∙ at-fault (es t b) (messageFrom (es t b) (args t b .deep - 1)) (args t b .n) (args t b .at) (octets t b) (i t b) (b .before .before .loop .fields) (b .before .before .loop .depth) (state t b) (v .0 .0) (sym (step-found t b) ∙ v .1))
+    sym (opened t b ∙ at-fault (es t b) (messageFrom (es t b) (args t b .levels - 1)) (args t b .n) (args t b .at) (octets t b) (i t b) (b .before .before .loop .fields) (b .before .before .loop .depth) (state t b) (v .0 .0) (sym (step-found t b) ∙ v .1))
 
--- src/lib.rt:56:26
 nested-enum-known-control : (t : ℕ) → nested-lts.Need-enum-known-control (step-reads.Asked, step-reads.Learnt, nested-below t, nested.Post, larger-reads.Asked, larger-reads.Learnt) (nested-at t) nested.Post nested-Inv-loop nested-μ-loop
 nested-enum-known-control t c = search needs
 
--- src/lib.rt:57:21
 nested-add-i : (t : ℕ) → nested-lts.Need-add-i (step-reads.Asked, step-reads.Learnt, nested-below t, nested.Post, larger-reads.Asked, larger-reads.Learnt) (nested-at t) nested.Post nested-Inv-loop nested-μ-loop
 nested-add-i t c = let b = c .before .before .before in let h = over-ends t c .1 in let k = bounds t b .0 in omega arith
 
--- src/lib.rt:57:21
 nested-add-i-2 : (t : ℕ) → nested-lts.Need-add-i-2 (step-reads.Asked, step-reads.Learnt, nested-below t, nested.Post, larger-reads.Asked, larger-reads.Learnt) (nested-at t) nested.Post nested-Inv-loop nested-μ-loop
 nested-add-i-2 t c = let b = c .before .before .before in let h = over-ends t c .1 in let k = bounds t b .0 in omega arith
 
--- src/lib.rt:58:26
 nested-add-fields : (t : ℕ) → nested-lts.Need-add-fields (step-reads.Asked, step-reads.Learnt, nested-below t, nested.Post, larger-reads.Asked, larger-reads.Learnt) (nested-at t) nested.Post nested-Inv-loop nested-μ-loop
 nested-add-fields t c = let b = c .before .before .before in let h = state t b .few in let l = state t b .inside in let k = bounds t b .0 in omega arith
 
--- src/lib.rt:48:5
 nested-loop-less : (t : ℕ) → nested-lts.Need-loop-less (step-reads.Asked, step-reads.Learnt, nested-below t, nested.Post, larger-reads.Asked, larger-reads.Learnt) (nested-at t) nested.Post nested-Inv-loop nested-μ-loop
 nested-loop-less t c = let h = over-ends t c in let p = h .0 in let q = h .1 in omega arith
 
--- src/lib.rt:48:5
 nested-loop-again : (t : ℕ) → nested-lts.Need-loop-again (step-reads.Asked, step-reads.Learnt, nested-below t, nested.Post, larger-reads.Asked, larger-reads.Learnt) (nested-at t) nested.Post nested-Inv-loop nested-μ-loop
 nested-loop-again t c =
     let b = c .before .before .before in
     let v = c .before .control .given in
-    (room-left t b, over-leaf (es t b) (messageFrom (es t b) (args t b .deep - 1)) (args t b .n) (args t b .at) (octets t b) (i t b) (b .before .before .loop .fields) (b .before .before .loop .depth) (state t b) (v .0 .0) (v .0 .1 .0) (sym (step-found t b) ∙ v .1))
+    (room-left t b, over-leaf (es t b) (messageFrom (es t b) (args t b .levels - 1)) (args t b .n) (args t b .at) (octets t b) (i t b) (b .before .before .loop .fields) (b .before .before .loop .depth) (state t b) (v .0 .0) (v .0 .1 .0) (sym (step-found t b) ∙ v .1))
 
--- src/lib.rt:60:34
 nested-enum-known-m : (t : ℕ) → nested-lts.Need-enum-known-m (step-reads.Asked, step-reads.Learnt, nested-below t, nested.Post, larger-reads.Asked, larger-reads.Learnt) (nested-at t) nested.Post nested-Inv-loop nested-μ-loop
 nested-enum-known-m t c = search needs
 
--- src/lib.rt:61:25
 nested-add-a : (t : ℕ) → nested-lts.Need-add-a (step-reads.Asked, step-reads.Learnt, nested-below t, nested.Post, larger-reads.Asked, larger-reads.Learnt) (nested-at t) nested.Post nested-Inv-loop nested-μ-loop
 nested-add-a t c = let b = c .before .before .before in let h = in-ends t c .1 in let k = bounds t b .0 in omega arith
 
--- src/lib.rt:62:25
 nested-add-e : (t : ℕ) → nested-lts.Need-add-e (step-reads.Asked, step-reads.Learnt, nested-below t, nested.Post, larger-reads.Asked, larger-reads.Learnt) (nested-at t) nested.Post nested-Inv-loop nested-μ-loop
 nested-add-e t c = let b = c .before .before .before in let h = in-ends t c .1 in let k = bounds t b .0 in omega arith
 
--- src/lib.rt:63:48
 nested-sub-nested : (t : ℕ) → nested-lts.Need-sub-nested (step-reads.Asked, step-reads.Learnt, nested-below t, nested.Post, larger-reads.Asked, larger-reads.Learnt) (nested-at t) nested.Post nested-Inv-loop nested-μ-loop
 nested-sub-nested t c = let b = c .before .before .before in let h = room-left t b in omega arith
 
--- src/lib.rt:63:58
 nested-add-here : (t : ℕ) → nested-lts.Need-add-here (step-reads.Asked, step-reads.Learnt, nested-below t, nested.Post, larger-reads.Asked, larger-reads.Learnt) (nested-at t) nested.Post nested-Inv-loop nested-μ-loop
 nested-add-here t c = let b = c .before .before .before in let h = in-ends t c .1 in let k = bounds t b .0 in omega arith
 
--- src/lib.rt:63:75
 nested-add-inside : (t : ℕ) → nested-lts.Need-add-inside (step-reads.Asked, step-reads.Learnt, nested-below t, nested.Post, larger-reads.Asked, larger-reads.Learnt) (nested-at t) nested.Post nested-Inv-loop nested-μ-loop
 nested-add-inside t c = let b = c .before .before .before in let h = in-ends t c .1 in let k = bounds t b .0 in omega arith
 
--- src/lib.rt:63:92
 nested-sub-nested-2 : (t : ℕ) → nested-lts.Need-sub-nested-2 (step-reads.Asked, step-reads.Learnt, nested-below t, nested.Post, larger-reads.Asked, larger-reads.Learnt) (nested-at t) nested.Post nested-Inv-loop nested-μ-loop
 nested-sub-nested-2 t c = search needs
 
--- src/lib.rt:63:92
 nested-part-nested-start : (t : ℕ) → nested-lts.Need-part-nested-start (step-reads.Asked, step-reads.Learnt, nested-below t, nested.Post, larger-reads.Asked, larger-reads.Learnt) (nested-at t) nested.Post nested-Inv-loop nested-μ-loop
 nested-part-nested-start t c = search needs
 
--- src/lib.rt:63:92
 nested-part-nested-end : (t : ℕ) → nested-lts.Need-part-nested-end (step-reads.Asked, step-reads.Learnt, nested-below t, nested.Post, larger-reads.Asked, larger-reads.Learnt) (nested-at t) nested.Post nested-Inv-loop nested-μ-loop
 nested-part-nested-end t c = let h = in-ends t c .1 in omega arith
 
--- src/lib.rt:63:23
 nested-nested-requires : (t : ℕ) → nested-lts.Need-nested-requires (step-reads.Asked, step-reads.Learnt, nested-below t, nested.Post, larger-reads.Asked, larger-reads.Learnt) (nested-at t) nested.Post nested-Inv-loop nested-μ-loop
 nested-nested-requires t c κs =
     let d = c .before in
@@ -242,11 +216,9 @@ nested-nested-requires t c κs =
     simp length-take (omega arith) in
     (omega arith, (omega arith, omega arith))
 
--- src/lib.rt:64:46
 nested-enum-known-f : (t : ℕ) → nested-lts.Need-enum-known-f (step-reads.Asked, step-reads.Learnt, nested-below t, nested.Post, larger-reads.Asked, larger-reads.Learnt) (nested-at t) nested.Post nested-Inv-loop nested-μ-loop
 nested-enum-known-f t c = search needs
 
--- src/lib.rt:66:44
 nested-add-fields-2 : (t : ℕ) → nested-lts.Need-add-fields-2 (step-reads.Asked, step-reads.Learnt, nested-below t, nested.Post, larger-reads.Asked, larger-reads.Learnt) (nested-at t) nested.Post nested-Inv-loop nested-μ-loop
 nested-add-fields-2 t c =
     let d = c .before .before .before .before .before in
@@ -258,7 +230,6 @@ nested-add-fields-2 t c =
     let g = state t b .inside in
     omega arith
 
--- src/lib.rt:66:34
 nested-add-fields-3 : (t : ℕ) → nested-lts.Need-add-fields-3 (step-reads.Asked, step-reads.Learnt, nested-below t, nested.Post, larger-reads.Asked, larger-reads.Learnt) (nested-at t) nested.Post nested-Inv-loop nested-μ-loop
 nested-add-fields-3 t c =
     let d = c .before .before .before .before .before in
@@ -270,7 +241,6 @@ nested-add-fields-3 t c =
     let g = state t b .inside in
     omega arith
 
--- src/lib.rt:67:47
 nested-add-larger : (t : ℕ) → nested-lts.Need-add-larger (step-reads.Asked, step-reads.Learnt, nested-below t, nested.Post, larger-reads.Asked, larger-reads.Learnt) (nested-at t) nested.Post nested-Inv-loop nested-μ-loop
 nested-add-larger t c =
     let d = c .before .before .before .before .before in
@@ -279,11 +249,9 @@ nested-add-larger t c =
     let k = bounds t b .1 in
     omega arith
 
--- src/lib.rt:67:25
 nested-larger-requires : (t : ℕ) → nested-lts.Need-larger-requires (step-reads.Asked, step-reads.Learnt, nested-below t, nested.Post, larger-reads.Asked, larger-reads.Learnt) (nested-at t) nested.Post nested-Inv-loop nested-μ-loop
 nested-larger-requires t c κs = search needs
 
--- src/lib.rt:48:5
 nested-loop-less-2 : (t : ℕ) → nested-lts.Need-loop-less-2 (step-reads.Asked, step-reads.Learnt, nested-below t, nested.Post, larger-reads.Asked, larger-reads.Learnt) (nested-at t) nested.Post nested-Inv-loop nested-μ-loop
 nested-loop-less-2 t c =
     let d = c .before .before .before .before .before .before in
@@ -292,7 +260,6 @@ nested-loop-less-2 t c =
     let q = h .1 in
     omega arith
 
--- src/lib.rt:48:5
 nested-loop-again-2 : (t : ℕ) → nested-lts.Need-loop-again-2 (step-reads.Asked, step-reads.Learnt, nested-below t, nested.Post, larger-reads.Asked, larger-reads.Learnt) (nested-at t) nested.Post nested-Inv-loop nested-μ-loop
 nested-loop-again-2 t c =
     let n = c .before in
@@ -301,22 +268,20 @@ nested-loop-again-2 t c =
     let v = d .before .m .given in
     let w = n .before .f .given in (
       room-left t b,
-      nested-turn (es t b) (messageFrom (es t b) (args t b .deep - 1)) (args t b .n) (args t b .at) (octets t b) (i t b) (b .before .before .loop .fields) (b .before .before .loop .depth) (state t b) (v .0 .0) (v .0 .1 .0) (v .0 .1 .1 .0) (w .0 .0) (w .0 .1 .0) (c .larger .result) (n .before .before .before .nested .result)
+      nested-turn (es t b) (messageFrom (es t b) (args t b .levels - 1)) (args t b .n) (args t b .at) (octets t b) (i t b) (b .before .before .loop .fields) (b .before .before .loop .depth) (state t b) (v .0 .0) (v .0 .1 .0) (v .0 .1 .1 .0) (w .0 .0) (w .0 .1 .0) (c .larger .result) (n .before .before .before .nested .result)
           (sym (step-found t b) ∙ v .1) (n .before .before .before .nested .ensures) (w .1) (inner-small t n .0) (c .larger .ensures),
     )
 
--- src/lib.rt:69:45
 nested-enum-known-k-2 : (t : ℕ) → nested-lts.Need-enum-known-k-2 (step-reads.Asked, step-reads.Learnt, nested-below t, nested.Post, larger-reads.Asked, larger-reads.Learnt) (nested-at t) nested.Post nested-Inv-loop nested-μ-loop
 nested-enum-known-k-2 t c = search needs
 
--- src/lib.rt:70:25
 nested-returns-4 : (t : ℕ) → nested-lts.Need-returns-4 (step-reads.Asked, step-reads.Learnt, nested-below t, nested.Post, larger-reads.Asked, larger-reads.Learnt) (nested-at t) nested.Post nested-Inv-loop nested-μ-loop
 nested-returns-4 t c =
     let d = c .before .before .before .before .before in
     let b = d .before .before .before in
     let v = d .before .m .given in
     let w = c .before .k2 .given in
-    sym (opened t b ∙ nested-refusal (es t b) (messageFrom (es t b) (args t b .deep - 1)) (args t b .n) (args t b .at) (octets t b) (i t b) (b .before .before .loop .fields) (b .before .before .loop .depth) (state t b) (v .0 .0) (v .0 .1 .0) (v .0 .1 .1 .0) (w .0 .0) (w .0 .1 .0) (c .before .before .before .nested .result)
+    sym (opened t b ∙ nested-refusal (es t b) (messageFrom (es t b) (args t b .levels - 1)) (args t b .n) (args t b .at) (octets t b) (i t b) (b .before .before .loop .fields) (b .before .before .loop .depth) (state t b) (v .0 .0) (v .0 .1 .0) (v .0 .1 .1 .0) (w .0 .0) (w .0 .1 .0) (c .before .before .before .nested .result)
     (sym (step-found t b) ∙ v .1) (c .before .before .before .nested .ensures) (w .1))
 
 pub +nested-spec : {M : Type 1} → statement M

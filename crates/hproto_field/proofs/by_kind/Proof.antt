@@ -3,73 +3,54 @@ use mathlib.Core.Path.{_∙_}
 use Rattle.hproto_message.specs.Reading.{stepByKind}
 use Rattle.hproto_field.proofs.by_kind.Statement.{statement}
 use Rattle.hproto_field.proofs.by_kind.Tie as tie
-use Rattle.hproto_field.proofs.by_kind.Reads as reads
-use Rattle.hproto_field.proofs.by_kind.Lts as lts
-use Rattle.hproto_field.proofs.number_field.Reads as number-field-reads
-use Rattle.hproto_field.proofs.text_field.Reads as text-field-reads
 
--- src/lib.rt:42:25
 enum-told : tie.Need-enum-told
 enum-told c = search needs
 
--- src/lib.rt:43:26
 enum-told-2 : tie.Need-enum-told-2
 enum-told-2 c = search needs
 
--- src/lib.rt:43:26
 number-field-requires : tie.Need-number-field-requires
 number-field-requires c κs = search needs
 
--- src/lib.rt:44:25
 enum-told-3 : tie.Need-enum-told-3
 enum-told-3 c = search needs
 
--- src/lib.rt:44:25
 number-field-requires-2 : tie.Need-number-field-requires-2
 number-field-requires-2 c κs = search needs
 
--- src/lib.rt:45:28
 enum-told-4 : tie.Need-enum-told-4
 enum-told-4 c = search needs
 
--- src/lib.rt:46:26
 enum-told-5 : tie.Need-enum-told-5
 enum-told-5 c = search needs
 
--- src/lib.rt:46:26
 text-field-requires : tie.Need-text-field-requires
 text-field-requires c κs = search needs
 
--- src/lib.rt:47:26
 enum-known-kind : tie.Need-enum-known-kind
 enum-known-kind c = search needs
 
--- src/lib.rt:37:1
 returns : tie.Need-returns
 unfolding stepByKind
 returns c = rw (c .enum-told .given .1)
 
--- src/lib.rt:37:1
 returns-2 : tie.Need-returns-2
 unfolding stepByKind
 returns-2 c = c .number-field .ensures ∙ rw (c .before .enum-told2 .given .1)
 
--- src/lib.rt:37:1
 returns-3 : tie.Need-returns-3
 unfolding stepByKind
 returns-3 c = c .number-field2 .ensures ∙ rw (c .before .enum-told3 .given .1)
 
--- src/lib.rt:37:1
 returns-4 : tie.Need-returns-4
 unfolding stepByKind
 returns-4 c = rw (c .enum-told4 .given .1)
 
--- src/lib.rt:37:1
 returns-5 : tie.Need-returns-5
 unfolding stepByKind
 returns-5 c = c .text-field .ensures ∙ rw (c .before .enum-told5 .given .1)
 
--- src/lib.rt:37:1
 returns-6 : tie.Need-returns-6
 unfolding stepByKind
 returns-6 c = rw (c .before .kind .given .1)

@@ -2,10 +2,7 @@ use mathlib.Core.Path.{refl}
 use Rattle.hproto_field.specs.Fronts.{nothing as nothing-of}
 use Rattle.hproto_field.proofs.nothing.Statement.{statement}
 use Rattle.hproto_field.proofs.nothing.Tie as tie
-use Rattle.hproto_field.proofs.nothing.Reads as reads
-use Rattle.hproto_field.proofs.nothing.Lts as lts
 
--- src/lib.rt:100:1
 returns : tie.Need-returns
 unfolding nothing-of
 returns c = refl

@@ -1,14 +1,10 @@
 use borrow.Author.Tests.{le-leb, lt-leb}
 use Rattle.hproto_field.proofs.number_field.Statement.{statement}
 use Rattle.hproto_field.proofs.number_field.Tie as tie
-use Rattle.hproto_field.proofs.number_field.Reads as reads
-use Rattle.hproto_field.proofs.number_field.Lts as lts
 
--- src/lib.rt:15:1
 returns : tie.Need-returns
 returns c = rw (le-leb (c .before .args .n) 8 (c .if1 .taken))
 
--- src/lib.rt:15:1
 returns-2 : tie.Need-returns-2
 returns-2 c = rw (lt-leb (c .before .args .n) 8 (c .if1 .left))
 

@@ -7,36 +7,25 @@ use Rattle.hproto_index.specs.Slots.{listed}
 use Rattle.hproto_field.proofs.Fields.{at-end, in-control, size-inside, past-end, whole-field}
 use Rattle.hproto_field.proofs.step.Statement.{statement}
 use Rattle.hproto_field.proofs.step.Tie as tie
-use Rattle.hproto_field.proofs.step.Reads as reads
-use Rattle.hproto_field.proofs.step.Lts as lts
-use Rattle.hproto_field.proofs.by_kind.Reads as by-kind-reads
-use Rattle.hproto_index.proofs.find.Reads as find-reads
-use Rattle.octets_read.proofs.control.Reads as control-reads
 
--- src/lib.rt:56:11
 control-requires : tie.Need-control-requires
 control-requires c κs = search needs
 
--- src/lib.rt:57:28
 enum-told : tie.Need-enum-told
 enum-told c = search needs
 
--- src/lib.rt:58:29
 enum-told-2 : tie.Need-enum-told-2
 enum-told-2 c = search needs
 
--- src/lib.rt:59:26
 enum-known-tag : tie.Need-enum-known-tag
 enum-known-tag c = search needs
 
--- src/lib.rt:61:25
 sub-left : tie.Need-sub-left
 sub-left c =
     let v = c .before .tag .given in
     size-inside [] 0 (now (c .before .before .before .before .before .before .args .s)) (v .0 .0) (v .0 .1 .0) (v .0 .1 .1 .0)
     (sym (c .before .before .before .control .ensures) ∙ v .1)
 
--- src/lib.rt:63:17
 returns : tie.Need-returns
 returns c =
     let a = c .before .before .before .before .before .before .before .args in
@@ -44,23 +33,18 @@ returns c =
     past-end (listed (now (a .slots)) (now (a .words))) (a .number) (now (a .s)) (v .0 .0) (v .0 .1 .0) (v .0 .1 .1 .0)
     (sym (c .before .before .before .before .control .ensures) ∙ v .1) (c .if1 .taken)
 
--- src/lib.rt:65:23
 add-end : tie.Need-add-end
 add-end c = search needs
 
--- src/lib.rt:66:21
 find-requires : tie.Need-find-requires
 find-requires c κs = search needs
 
--- src/lib.rt:66:74
 sub-by-kind : tie.Need-sub-by-kind
 sub-by-kind c = search needs
 
--- src/lib.rt:66:74
 part-by-kind-start : tie.Need-part-by-kind-start
 part-by-kind-start c = search needs
 
--- src/lib.rt:66:74
 part-by-kind-end : tie.Need-part-by-kind-end
 part-by-kind-end c =
     let v = c .before .before .before .tag .given in
@@ -68,23 +52,19 @@ part-by-kind-end c =
     let k = size-inside [] 0 (now (a .s)) (v .0 .0) (v .0 .1 .0) (v .0 .1 .1 .0) (sym (c .before .before .before .before .before .control .ensures) ∙ v .1) in
     omega arith
 
--- src/lib.rt:66:13
 by-kind-requires : tie.Need-by-kind-requires
 by-kind-requires c κs = search needs
 
--- src/lib.rt:53:1
 returns-2 : tie.Need-returns-2
 returns-2 c =
     let a = c .before .before .before .before .before .args in
     at-end (listed (now (a .slots)) (now (a .words))) (a .number) (now (a .s)) (sym (c .before .before .control .ensures) ∙ c .enum-told .given .1)
 
--- src/lib.rt:53:1
 returns-3 : tie.Need-returns-3
 returns-3 c =
     let a = c .before .before .before .before .before .args in
     in-control (listed (now (a .slots)) (now (a .words))) (a .number) (now (a .s)) (sym (c .before .before .control .ensures) ∙ c .enum-told2 .given .1)
 
--- src/lib.rt:53:1
 returns-4 : tie.Need-returns-4
 returns-4 c =
     let a = c .before .before .before .before .before .before .before .before .before .before .args in

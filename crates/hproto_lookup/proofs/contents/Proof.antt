@@ -4,10 +4,6 @@ use Rattle.hproto_lookup.specs.Spots.{read}
 use borrow.Author.Needs.{needs}
 use Rattle.hproto_lookup.proofs.contents.Statement.{statement}
 use Rattle.hproto_lookup.proofs.contents.Tie as tie
-use Rattle.hproto_lookup.proofs.contents.Reads as reads
-use Rattle.hproto_lookup.proofs.contents.Lts as lts
-use Rattle.hproto_lookup.proofs.signed.Reads as signed-reads
-use Rattle.hproto_lookup.proofs.unsigned.Reads as unsigned-reads
 
 unsigned-requires : tie.Need-unsigned-requires
 unsigned-requires c κs = search needs

@@ -5,18 +5,10 @@ use mathlib.Core.Path.{_≡_, sym, ap, _∙_}
 use denote.Ref.{now}
 use Rattle.hproto_table.specs.Entry.{entries}
 use Rattle.hproto_check.specs.Check.{check}
-use Rattle.hproto_check.specs.declared.Checked.{Checked}
+use Rattle.reading.specs.declared.Checked.{Checked}
 use Rattle.hproto_lookup.proofs.Answers.{refused-first, absent, Present, present}
 use Rattle.hproto_lookup.proofs.look.Statement.{statement}
 use Rattle.hproto_lookup.proofs.look.Tie as tie
-use Rattle.hproto_lookup.proofs.look.Reads as reads
-use Rattle.hproto_lookup.proofs.look.Lts as lts
-use Rattle.hproto_check.proofs.check.Reads as check-reads
-use Rattle.hproto_find.proofs.find.Reads as find-reads
-use Rattle.hproto_lookup.proofs.contents.Reads as contents-reads
-use Rattle.hproto_find.proofs.kind_number.Reads as kind-number-reads
-use Rattle.hproto_lookup.proofs.pick.Reads as pick-reads
-use Rattle.hproto_lookup.proofs.refused.Reads as refused-reads
 
 -- The check refused nothing.
 passed : (c : tie.Else1)

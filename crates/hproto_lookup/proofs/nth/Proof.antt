@@ -6,14 +6,11 @@ use mathlib.Core.List.{List}
 use denote.Ref.{now}
 use lib.ListN.{length, drop, length-drop}
 use lib.Seq.{take-all}
-use Rattle.hproto_lookup.specs.Spots.{front}
-use Rattle.hproto_lookup.specs.declared.Piece.the-variants.{Field}
+use Rattle.hproto_field.specs.Fronts.{part}
+use Rattle.hproto_field.specs.declared.Extent.the-variants.{Found}
 use Rattle.hproto_lookup.proofs.Walking.{Onward, onward, Sought, nothing-sought, not-there, other-passed, reached, one-passed}
 use Rattle.hproto_lookup.proofs.nth.Statement.{statement}
 use Rattle.hproto_lookup.proofs.nth.Tie as tie
-use Rattle.hproto_lookup.proofs.nth.Reads as reads
-use Rattle.hproto_lookup.proofs.nth.Lts as lts
-use Rattle.hproto_lookup.proofs.front.Reads as front-reads
 
 abbrev Inv-loop : tie.InvT-loop
 Inv-loop s tag k i₀ left₀ i left = Sought tag s k i left
@@ -23,7 +20,7 @@ abbrev μ-loop : tie.MeasureT-loop
 
 -- What the code found at the octets that are left.
 found : (c : tie.After-front Inv-loop μ-loop)
-    → c .front .result ≡ front (drop (c .before .before .loop .i) (now (c .before .before .before .before .args .s)))
+    → c .front .result ≡ part (drop (c .before .before .loop .i) (now (c .before .before .before .before .args .s)))
 found c =
     let s = now (c .before .before .before .before .args .s) in
     let i = c .before .before .loop .i in
@@ -43,17 +40,17 @@ module _ (c : tie.After-known-told Inv-loop μ-loop) where
   abbrev t : ℕ
   t = c .before .t .given .0 .0
 
-  abbrev start : ℕ
-  start = c .before .t .given .0 .1 .0
+  abbrev size : ℕ
+  size = c .before .t .given .0 .1 .0
 
-  abbrev end : ℕ
-  end = c .before .t .given .0 .1 .1 .0
+  abbrev len : ℕ
+  len = c .before .t .given .0 .1 .1 .0
 
-  is : front (drop i s) ≡ Field t start end
+  is : part (drop i s) ≡ Found t size len
   is = sym (found (c .before .before .before)) ∙ c .before .t .given .1
 
-  passed : Onward tag s i (c .before .before .before .before .before .loop .inv .ahead) t start end is
-  passed = onward tag s i (c .before .before .before .before .before .loop .inv .ahead) t start end is
+  passed : Onward tag s i (c .before .before .before .before .before .loop .inv .ahead) t size len is
+  passed = onward tag s i (c .before .before .before .before .before .loop .inv .ahead) t size len is
 
   abbrev k : ℕ
   k = c .before .before .before .before .before .before .before .args .k
@@ -102,7 +99,7 @@ returns c =
 returns-2 : tie.Need-returns-2 Inv-loop μ-loop
 returns-2 c =
     let f = c .before .before in
-    reached (tag f) (s f) (k f) (i f) (left f) (state f) (t f) (start f) (end f) (is f) (c .before .if1 .taken) (c .if2 .taken)
+    reached (tag f) (s f) (k f) (i f) (left f) (state f) (t f) (size f) (len f) (is f) (c .before .if1 .taken) (c .if2 .taken)
 
 sub-left : tie.Need-sub-left Inv-loop μ-loop
 sub-left c = search needs
@@ -113,7 +110,7 @@ loop-less c = let h = passed (c .before .before) in omega arith
 loop-again : tie.Need-loop-again Inv-loop μ-loop
 loop-again c =
     let f = c .before .before in
-    one-passed (tag f) (s f) (k f) (i f) (left f) (state f) (t f) (start f) (end f) (is f) (c .before .if1 .taken) (c .if2 .left)
+    one-passed (tag f) (s f) (k f) (i f) (left f) (state f) (t f) (size f) (len f) (is f) (c .before .if1 .taken) (c .if2 .left)
 
 loop-less-2 : tie.Need-loop-less-2 Inv-loop μ-loop
 loop-less-2 c = let h = passed (c .before) in omega arith
@@ -121,7 +118,7 @@ loop-less-2 c = let h = passed (c .before) in omega arith
 loop-again-2 : tie.Need-loop-again-2 Inv-loop μ-loop
 loop-again-2 c =
     let f = c .before in
-    other-passed (tag f) (s f) (k f) (i f) (left f) (state f) (t f) (start f) (end f) (is f) (c .if1 .left)
+    other-passed (tag f) (s f) (k f) (i f) (left f) (state f) (t f) (size f) (len f) (is f) (c .if1 .left)
 
 pub nth-spec : {M : Type 1} → statement M
 nth-spec =

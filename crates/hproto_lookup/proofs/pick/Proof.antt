@@ -2,10 +2,6 @@ use borrow.Author.Needs.{needs}
 use Rattle.hproto_lookup.specs.Spots.{chosenSpot}
 use Rattle.hproto_lookup.proofs.pick.Statement.{statement}
 use Rattle.hproto_lookup.proofs.pick.Tie as tie
-use Rattle.hproto_lookup.proofs.pick.Reads as reads
-use Rattle.hproto_lookup.proofs.pick.Lts as lts
-use Rattle.hproto_lookup.proofs.last.Reads as last-reads
-use Rattle.hproto_lookup.proofs.nth.Reads as nth-reads
 
 enum-known-which : tie.Need-enum-known-which
 enum-known-which c = search needs

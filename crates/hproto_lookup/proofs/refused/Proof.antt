@@ -2,8 +2,6 @@ use mathlib.Core.Path.{refl}
 use Rattle.hproto_lookup.specs.Lookup.{refusal}
 use Rattle.hproto_lookup.proofs.refused.Statement.{statement}
 use Rattle.hproto_lookup.proofs.refused.Tie as tie
-use Rattle.hproto_lookup.proofs.refused.Reads as reads
-use Rattle.hproto_lookup.proofs.refused.Lts as lts
 
 returns : tie.Need-returns
 unfolding refusal

@@ -14,7 +14,8 @@ use Rattle.hproto_table.specs.Entry.{Entry}
 use Rattle.hproto_index.specs.Slots.{listed}
 use Rattle.hproto_field.specs.Fronts.{front}
 use Rattle.hproto_shorten.specs.Written.{short}
-use Rattle.hproto_shorten.proofs.Passing.{octets-part, leaf-contents}
+use Rattle.octets.proofs.Number.{octets-part}
+use Rattle.hproto_shorten.proofs.Passing.{leaf-contents}
 use Rattle.hproto_shorten.proofs.Measuring.{Counted, counted-none, counted-all, counted-few, short-few, next-onward, leaf-counted, nested-accepts, nested-counted}
 use borrow.Fn.Kinds.{In}
 use borrow.Fn.PlainCycle.{Measures, is, falls, and}
@@ -93,61 +94,47 @@ module _ (t : ℕ) (c : Found t) where
   part-few : (j n : ℕ) → length (take n (drop j (now (b .args .s)))) ≤ 65536
   part-few j n = let h = few t b in simp (length-take, length-drop) (omega arith)
 
--- src/lib.rt:215:5
 measure-loop-holds : (t : ℕ) → measure-lts.Need-loop-holds (field-in-reads.Asked, field-in-reads.Learnt, held-reads.Asked, held-reads.Learnt, value-size-reads.Asked, value-size-reads.Learnt, measure-below t, measure.Post, control-size-reads.Asked, control-size-reads.Learnt) (measure-at t) measure.Post measure-Inv-loop measure-μ-loop
 measure-loop-holds t c =
     let s = c .before .before in
     counted-none (es t s) (s .args .levels - 1) (s .args .number) (now (s .args .s)) (accepts t s)
 
--- src/lib.rt:216:62
 measure-sub-field-in : (t : ℕ) → measure-lts.Need-sub-field-in (field-in-reads.Asked, field-in-reads.Learnt, held-reads.Asked, held-reads.Learnt, value-size-reads.Asked, value-size-reads.Learnt, measure-below t, measure.Post, control-size-reads.Asked, control-size-reads.Learnt) (measure-at t) measure.Post measure-Inv-loop measure-μ-loop
 measure-sub-field-in t c = search needs
 
--- src/lib.rt:216:62
 measure-part-field-in-start : (t : ℕ) → measure-lts.Need-part-field-in-start (field-in-reads.Asked, field-in-reads.Learnt, held-reads.Asked, held-reads.Learnt, value-size-reads.Asked, value-size-reads.Learnt, measure-below t, measure.Post, control-size-reads.Asked, control-size-reads.Learnt) (measure-at t) measure.Post measure-Inv-loop measure-μ-loop
 measure-part-field-in-start t c = search needs
 
--- src/lib.rt:216:62
 measure-part-field-in-end : (t : ℕ) → measure-lts.Need-part-field-in-end (field-in-reads.Asked, field-in-reads.Learnt, held-reads.Asked, held-reads.Learnt, value-size-reads.Asked, value-size-reads.Learnt, measure-below t, measure.Post, control-size-reads.Asked, control-size-reads.Learnt) (measure-at t) measure.Post measure-Inv-loop measure-μ-loop
 measure-part-field-in-end t c = search needs
 
--- src/lib.rt:216:13
 measure-field-in-requires : (t : ℕ) → measure-lts.Need-field-in-requires (field-in-reads.Asked, field-in-reads.Learnt, held-reads.Asked, held-reads.Learnt, value-size-reads.Asked, value-size-reads.Learnt, measure-below t, measure.Post, control-size-reads.Asked, control-size-reads.Learnt) (measure-at t) measure.Post measure-Inv-loop measure-μ-loop
 measure-field-in-requires t c κs = search needs
 
--- src/lib.rt:218:17
 measure-add-a : (t : ℕ) → measure-lts.Need-add-a (field-in-reads.Asked, field-in-reads.Learnt, held-reads.Asked, held-reads.Learnt, value-size-reads.Asked, value-size-reads.Learnt, measure-below t, measure.Post, control-size-reads.Asked, control-size-reads.Learnt) (measure-at t) measure.Post measure-Inv-loop measure-μ-loop
 measure-add-a t c = let f = c .before in let h = next-onward (es t (b t f)) (b t f .args .levels - 1) (b t f .args .number) (now (b t f .args .s)) (i t f) (f .before .before .before .loop .size) (state t f) (more t f) (octets t (b t f)) (f .field-in .result) (found t f) .1 in let g = b t f .good in omega arith
 
--- src/lib.rt:219:17
 measure-add-e : (t : ℕ) → measure-lts.Need-add-e (field-in-reads.Asked, field-in-reads.Learnt, held-reads.Asked, held-reads.Learnt, value-size-reads.Asked, value-size-reads.Learnt, measure-below t, measure.Post, control-size-reads.Asked, control-size-reads.Learnt) (measure-at t) measure.Post measure-Inv-loop measure-μ-loop
 measure-add-e t c = let f = c .before .before in let h = next-onward (es t (b t f)) (b t f .args .levels - 1) (b t f .args .number) (now (b t f .args .s)) (i t f) (f .before .before .before .loop .size) (state t f) (more t f) (octets t (b t f)) (f .field-in .result) (found t f) .1 in let g = b t f .good in omega arith
 
--- src/lib.rt:220:19
 measure-cast-tag : (t : ℕ) → measure-lts.Need-cast-tag (field-in-reads.Asked, field-in-reads.Learnt, held-reads.Asked, held-reads.Learnt, value-size-reads.Asked, value-size-reads.Learnt, measure-below t, measure.Post, control-size-reads.Asked, control-size-reads.Learnt) (measure-at t) measure.Post measure-Inv-loop measure-μ-loop
 measure-cast-tag t c = search needs
 
--- src/lib.rt:221:15
 measure-held-requires : (t : ℕ) → measure-lts.Need-held-requires (field-in-reads.Asked, field-in-reads.Learnt, held-reads.Asked, held-reads.Learnt, value-size-reads.Asked, value-size-reads.Learnt, measure-below t, measure.Post, control-size-reads.Asked, control-size-reads.Learnt) (measure-at t) measure.Post measure-Inv-loop measure-μ-loop
 measure-held-requires t c κs = search needs
 
--- src/lib.rt:223:53
 measure-enum-told : (t : ℕ) → measure-lts.Need-enum-told (field-in-reads.Asked, field-in-reads.Learnt, held-reads.Asked, held-reads.Learnt, value-size-reads.Asked, value-size-reads.Learnt, measure-below t, measure.Post, control-size-reads.Asked, control-size-reads.Learnt) (measure-at t) measure.Post measure-Inv-loop measure-μ-loop
 measure-enum-told t c = search needs
 
--- src/lib.rt:223:53
 measure-sub-value-size : (t : ℕ) → measure-lts.Need-sub-value-size (field-in-reads.Asked, field-in-reads.Learnt, held-reads.Asked, held-reads.Learnt, value-size-reads.Asked, value-size-reads.Learnt, measure-below t, measure.Post, control-size-reads.Asked, control-size-reads.Learnt) (measure-at t) measure.Post measure-Inv-loop measure-μ-loop
 measure-sub-value-size t c = search needs
 
--- src/lib.rt:223:53
 measure-part-value-size-start : (t : ℕ) → measure-lts.Need-part-value-size-start (field-in-reads.Asked, field-in-reads.Learnt, held-reads.Asked, held-reads.Learnt, value-size-reads.Asked, value-size-reads.Learnt, measure-below t, measure.Post, control-size-reads.Asked, control-size-reads.Learnt) (measure-at t) measure.Post measure-Inv-loop measure-μ-loop
 measure-part-value-size-start t c = search needs
 
--- src/lib.rt:223:53
 measure-part-value-size-end : (t : ℕ) → measure-lts.Need-part-value-size-end (field-in-reads.Asked, field-in-reads.Learnt, held-reads.Asked, held-reads.Learnt, value-size-reads.Asked, value-size-reads.Learnt, measure-below t, measure.Post, control-size-reads.Asked, control-size-reads.Learnt) (measure-at t) measure.Post measure-Inv-loop measure-μ-loop
 measure-part-value-size-end t c = let f = c .before .before .before .before .before .before in let h = next-onward (es t (b t f)) (b t f .args .levels - 1) (b t f .args .number) (now (b t f .args .s)) (i t f) (f .before .before .before .loop .size) (state t f) (more t f) (octets t (b t f)) (f .field-in .result) (found t f) .1 in omega arith
 
--- src/lib.rt:223:31
 measure-value-size-requires : (t : ℕ) → measure-lts.Need-value-size-requires (field-in-reads.Asked, field-in-reads.Learnt, held-reads.Asked, held-reads.Learnt, value-size-reads.Asked, value-size-reads.Learnt, measure-below t, measure.Post, control-size-reads.Asked, control-size-reads.Learnt) (measure-at t) measure.Post measure-Inv-loop measure-μ-loop
 measure-value-size-requires t c κs =
     let f = c .before .before .before .before .before .before .before in
@@ -157,7 +144,6 @@ measure-value-size-requires t c κs =
       part-few t f (i t f + f .field-in .result .control) (i t f + f .field-in .result .control + f .field-in .result .contents - (i t f + f .field-in .result .control)),
     )
 
--- src/lib.rt:223:24
 measure-add-size : (t : ℕ) → measure-lts.Need-add-size (field-in-reads.Asked, field-in-reads.Learnt, held-reads.Asked, held-reads.Learnt, value-size-reads.Asked, value-size-reads.Learnt, measure-below t, measure.Post, control-size-reads.Asked, control-size-reads.Learnt) (measure-at t) measure.Post measure-Inv-loop measure-μ-loop
 measure-add-size t c =
     let f = c .before .before .before .before .before .before .before .before in
@@ -165,40 +151,32 @@ measure-add-size t c =
     let h = counted-small t (b t f) (i t f + x .control + x .contents) (f .before .before .before .loop .size + c .value-size .result) (leaf-counted (es t (b t f)) (b t f .args .levels - 1) (b t f .args .number) (now (b t f .args .s)) (i t f) (f .before .before .before .loop .size) (state t f) (more t f) (octets t (b t f)) (f .field-in .result) (found t f) (c .value-size .result) (plain-of (f .field-in .result .kind) (sym (c .before .before .before .before .held .ensures) ∙ c .before .before .enum-told .given .1)) (c .value-size .ensures)) in
     omega arith
 
--- src/lib.rt:215:5
 measure-loop-less : (t : ℕ) → measure-lts.Need-loop-less (field-in-reads.Asked, field-in-reads.Learnt, held-reads.Asked, held-reads.Learnt, value-size-reads.Asked, value-size-reads.Learnt, measure-below t, measure.Post, control-size-reads.Asked, control-size-reads.Learnt) (measure-at t) measure.Post measure-Inv-loop measure-μ-loop
 measure-loop-less t c = let f = c .before .before .before .before .before .before .before .before in let h = next-onward (es t (b t f)) (b t f .args .levels - 1) (b t f .args .number) (now (b t f .args .s)) (i t f) (f .before .before .before .loop .size) (state t f) (more t f) (octets t (b t f)) (f .field-in .result) (found t f) in let p = h .0 in let q = h .1 in omega arith
 
--- src/lib.rt:215:5
 measure-loop-again : (t : ℕ) → measure-lts.Need-loop-again (field-in-reads.Asked, field-in-reads.Learnt, held-reads.Asked, held-reads.Learnt, value-size-reads.Asked, value-size-reads.Learnt, measure-below t, measure.Post, control-size-reads.Asked, control-size-reads.Learnt) (measure-at t) measure.Post measure-Inv-loop measure-μ-loop
 measure-loop-again t c =
     let f = c .before .before .before .before .before .before .before .before in
     leaf-counted (es t (b t f)) (b t f .args .levels - 1) (b t f .args .number) (now (b t f .args .s)) (i t f) (f .before .before .before .loop .size) (state t f) (more t f) (octets t (b t f)) (f .field-in .result) (found t f) (c .value-size .result) (plain-of (f .field-in .result .kind) (sym (c .before .before .before .before .held .ensures) ∙ c .before .before .enum-told .given .1)) (c .value-size .ensures)
 
--- src/lib.rt:226:27
 measure-enum-known-m : (t : ℕ) → measure-lts.Need-enum-known-m (field-in-reads.Asked, field-in-reads.Learnt, held-reads.Asked, held-reads.Learnt, value-size-reads.Asked, value-size-reads.Learnt, measure-below t, measure.Post, control-size-reads.Asked, control-size-reads.Learnt) (measure-at t) measure.Post measure-Inv-loop measure-μ-loop
 measure-enum-known-m t c = search needs
 
--- src/lib.rt:227:50
 measure-sub-measure : (t : ℕ) → measure-lts.Need-sub-measure (field-in-reads.Asked, field-in-reads.Learnt, held-reads.Asked, held-reads.Learnt, value-size-reads.Asked, value-size-reads.Learnt, measure-below t, measure.Post, control-size-reads.Asked, control-size-reads.Learnt) (measure-at t) measure.Post measure-Inv-loop measure-μ-loop
 measure-sub-measure t c =
     let f = c .before .before .before .before .before .before .before in
     let h = nested-accepts (es t (b t f)) (b t f .args .levels - 1) (b t f .args .number) (now (b t f .args .s)) (i t f) (f .before .before .before .loop .size) (state t f) (more t f) (octets t (b t f)) (f .field-in .result) (found t f) (c .before .m .given .0 .0) (message-of (f .field-in .result .kind) (c .before .m .given .0 .0) (sym (c .before .before .before .held .ensures) ∙ c .before .m .given .1)) .0 in
     omega arith
 
--- src/lib.rt:227:60
 measure-sub-measure-2 : (t : ℕ) → measure-lts.Need-sub-measure-2 (field-in-reads.Asked, field-in-reads.Learnt, held-reads.Asked, held-reads.Learnt, value-size-reads.Asked, value-size-reads.Learnt, measure-below t, measure.Post, control-size-reads.Asked, control-size-reads.Learnt) (measure-at t) measure.Post measure-Inv-loop measure-μ-loop
 measure-sub-measure-2 t c = search needs
 
--- src/lib.rt:227:60
 measure-part-measure-start : (t : ℕ) → measure-lts.Need-part-measure-start (field-in-reads.Asked, field-in-reads.Learnt, held-reads.Asked, held-reads.Learnt, value-size-reads.Asked, value-size-reads.Learnt, measure-below t, measure.Post, control-size-reads.Asked, control-size-reads.Learnt) (measure-at t) measure.Post measure-Inv-loop measure-μ-loop
 measure-part-measure-start t c = search needs
 
--- src/lib.rt:227:60
 measure-part-measure-end : (t : ℕ) → measure-lts.Need-part-measure-end (field-in-reads.Asked, field-in-reads.Learnt, held-reads.Asked, held-reads.Learnt, value-size-reads.Asked, value-size-reads.Learnt, measure-below t, measure.Post, control-size-reads.Asked, control-size-reads.Learnt) (measure-at t) measure.Post measure-Inv-loop measure-μ-loop
 measure-part-measure-end t c = let f = c .before .before .before .before .before .before .before in let h = next-onward (es t (b t f)) (b t f .args .levels - 1) (b t f .args .number) (now (b t f .args .s)) (i t f) (f .before .before .before .loop .size) (state t f) (more t f) (octets t (b t f)) (f .field-in .result) (found t f) .1 in omega arith
 
--- src/lib.rt:227:21
 measure-measure-requires : (t : ℕ) → measure-lts.Need-measure-requires (field-in-reads.Asked, field-in-reads.Learnt, held-reads.Asked, held-reads.Learnt, value-size-reads.Asked, value-size-reads.Learnt, measure-below t, measure.Post, control-size-reads.Asked, control-size-reads.Learnt) (measure-at t) measure.Post measure-Inv-loop measure-μ-loop
 measure-measure-requires t c κs =
     let f = c .before .before .before .before .before .before .before .before in
@@ -210,11 +188,9 @@ measure-measure-requires t c κs =
     let j = i t f + x .control in
     (omega arith, (part-few t f j (j + x .contents - j), (octets-part (j + x .contents - j) j (now (b t f .args .s)) (octets t (b t f)), h .1)))
 
--- src/lib.rt:228:32
 measure-control-size-requires : (t : ℕ) → measure-lts.Need-control-size-requires (field-in-reads.Asked, field-in-reads.Learnt, held-reads.Asked, held-reads.Learnt, value-size-reads.Asked, value-size-reads.Learnt, measure-below t, measure.Post, control-size-reads.Asked, control-size-reads.Learnt) (measure-at t) measure.Post measure-Inv-loop measure-μ-loop
 measure-control-size-requires t c κs = search needs
 
--- src/lib.rt:228:32
 measure-add-size-2 : (t : ℕ) → measure-lts.Need-add-size-2 (field-in-reads.Asked, field-in-reads.Learnt, held-reads.Asked, held-reads.Learnt, value-size-reads.Asked, value-size-reads.Learnt, measure-below t, measure.Post, control-size-reads.Asked, control-size-reads.Learnt) (measure-at t) measure.Post measure-Inv-loop measure-μ-loop
 measure-add-size-2 t c =
     let f = c .before .before .before .before .before .before .before .before .before .before in
@@ -222,7 +198,6 @@ measure-add-size-2 t c =
     let h = counted-small t (b t f) (i t f + x .control + x .contents) (f .before .before .before .loop .size + (c .control-size .result + c .before .measure .result)) (nested-counted (es t (b t f)) (b t f .args .levels - 1) (b t f .args .number) (now (b t f .args .s)) (i t f) (f .before .before .before .loop .size) (state t f) (more t f) (octets t (b t f)) (f .field-in .result) (found t f) (c .before .before .before .before .m .given .0 .0) (message-of (f .field-in .result .kind) (c .before .before .before .before .m .given .0 .0) (sym (c .before .before .before .before .before .before .held .ensures) ∙ c .before .before .before .before .m .given .1)) (c .before .measure .result) (c .control-size .result) (c .before .measure .ensures) (c .control-size .ensures)) in
     omega arith
 
--- src/lib.rt:228:24
 measure-add-size-3 : (t : ℕ) → measure-lts.Need-add-size-3 (field-in-reads.Asked, field-in-reads.Learnt, held-reads.Asked, held-reads.Learnt, value-size-reads.Asked, value-size-reads.Learnt, measure-below t, measure.Post, control-size-reads.Asked, control-size-reads.Learnt) (measure-at t) measure.Post measure-Inv-loop measure-μ-loop
 measure-add-size-3 t c =
     let f = c .before .before .before .before .before .before .before .before .before .before in
@@ -230,17 +205,14 @@ measure-add-size-3 t c =
     let h = counted-small t (b t f) (i t f + x .control + x .contents) (f .before .before .before .loop .size + (c .control-size .result + c .before .measure .result)) (nested-counted (es t (b t f)) (b t f .args .levels - 1) (b t f .args .number) (now (b t f .args .s)) (i t f) (f .before .before .before .loop .size) (state t f) (more t f) (octets t (b t f)) (f .field-in .result) (found t f) (c .before .before .before .before .m .given .0 .0) (message-of (f .field-in .result .kind) (c .before .before .before .before .m .given .0 .0) (sym (c .before .before .before .before .before .before .held .ensures) ∙ c .before .before .before .before .m .given .1)) (c .before .measure .result) (c .control-size .result) (c .before .measure .ensures) (c .control-size .ensures)) in
     omega arith
 
--- src/lib.rt:215:5
 measure-loop-less-2 : (t : ℕ) → measure-lts.Need-loop-less-2 (field-in-reads.Asked, field-in-reads.Learnt, held-reads.Asked, held-reads.Learnt, value-size-reads.Asked, value-size-reads.Learnt, measure-below t, measure.Post, control-size-reads.Asked, control-size-reads.Learnt) (measure-at t) measure.Post measure-Inv-loop measure-μ-loop
 measure-loop-less-2 t c = let f = c .before .before .before .before .before .before .before .before .before .before in let h = next-onward (es t (b t f)) (b t f .args .levels - 1) (b t f .args .number) (now (b t f .args .s)) (i t f) (f .before .before .before .loop .size) (state t f) (more t f) (octets t (b t f)) (f .field-in .result) (found t f) in let p = h .0 in let q = h .1 in omega arith
 
--- src/lib.rt:215:5
 measure-loop-again-2 : (t : ℕ) → measure-lts.Need-loop-again-2 (field-in-reads.Asked, field-in-reads.Learnt, held-reads.Asked, held-reads.Learnt, value-size-reads.Asked, value-size-reads.Learnt, measure-below t, measure.Post, control-size-reads.Asked, control-size-reads.Learnt) (measure-at t) measure.Post measure-Inv-loop measure-μ-loop
 measure-loop-again-2 t c =
     let f = c .before .before .before .before .before .before .before .before .before .before in
     nested-counted (es t (b t f)) (b t f .args .levels - 1) (b t f .args .number) (now (b t f .args .s)) (i t f) (f .before .before .before .loop .size) (state t f) (more t f) (octets t (b t f)) (f .field-in .result) (found t f) (c .before .before .before .before .m .given .0 .0) (message-of (f .field-in .result .kind) (c .before .before .before .before .m .given .0 .0) (sym (c .before .before .before .before .before .before .held .ensures) ∙ c .before .before .before .before .m .given .1)) (c .before .measure .result) (c .control-size .result) (c .before .measure .ensures) (c .control-size .ensures)
 
--- src/lib.rt:207:1
 measure-returns : (t : ℕ) → measure-lts.Need-returns (field-in-reads.Asked, field-in-reads.Learnt, held-reads.Asked, held-reads.Learnt, value-size-reads.Asked, value-size-reads.Learnt, measure-below t, measure.Post, control-size-reads.Asked, control-size-reads.Learnt) (measure-at t) measure.Post measure-Inv-loop measure-μ-loop
 measure-returns t c =
     let s = c .before .before .before .before in

@@ -14,7 +14,8 @@ use Rattle.hproto_table.specs.Entry.{Entry}
 use Rattle.hproto_index.specs.Slots.{listed}
 use Rattle.hproto_field.specs.Fronts.{front}
 use Rattle.hproto_shorten.specs.Written.{short, Put}
-use Rattle.hproto_shorten.proofs.Passing.{octets-part, leaf-contents}
+use Rattle.octets.proofs.Number.{octets-part}
+use Rattle.hproto_shorten.proofs.Passing.{leaf-contents}
 use Rattle.hproto_shorten.proofs.Writing.{Progress, begun, ended, same-length, next-onward, leaf-fits, leaf-written, nested-accepts, nested-fits, inner-after, wrap-fits, nested-written}
 use borrow.Fn.Kinds.{In}
 use borrow.Fn.PlainCycle.{Measures, is, falls, and}
@@ -82,61 +83,47 @@ module _ (t : ℕ) (c : Found t) where
   found : c .next-field .result ≡ front (es t b) (b .args .number) (drop i (now (b .args .s)))
   found = let h = more in c .next-field .ensures ∙ rw (take-all (length (now (b .args .s)) - i) (drop i (now (b .args .s))) (simp length-drop (omega arith)))
 
--- src/lib.rt:140:5
 write-loop-holds : (t : ℕ) → write-lts.Need-loop-holds (next-field-reads.Asked, next-field-reads.Learnt, held-reads.Asked, held-reads.Learnt, put-value-reads.Asked, put-value-reads.Learnt, write-below t, write.Post, wrap-reads.Asked, wrap-reads.Learnt) (write-at t) write.Post write-Inv-loop write-μ-loop
 write-loop-holds t c =
     let s = c .before .before .before in
     begun (es t s) (s .args .levels - 1) (s .args .number) (now (s .args .s)) (now (s .args .out)) (s .args .to) (accepts t s)
 
--- src/lib.rt:141:62
 write-sub-next-field : (t : ℕ) → write-lts.Need-sub-next-field (next-field-reads.Asked, next-field-reads.Learnt, held-reads.Asked, held-reads.Learnt, put-value-reads.Asked, put-value-reads.Learnt, write-below t, write.Post, wrap-reads.Asked, wrap-reads.Learnt) (write-at t) write.Post write-Inv-loop write-μ-loop
 write-sub-next-field t c = search needs
 
--- src/lib.rt:141:62
 write-part-next-field-start : (t : ℕ) → write-lts.Need-part-next-field-start (next-field-reads.Asked, next-field-reads.Learnt, held-reads.Asked, held-reads.Learnt, put-value-reads.Asked, put-value-reads.Learnt, write-below t, write.Post, wrap-reads.Asked, wrap-reads.Learnt) (write-at t) write.Post write-Inv-loop write-μ-loop
 write-part-next-field-start t c = search needs
 
--- src/lib.rt:141:62
 write-part-next-field-end : (t : ℕ) → write-lts.Need-part-next-field-end (next-field-reads.Asked, next-field-reads.Learnt, held-reads.Asked, held-reads.Learnt, put-value-reads.Asked, put-value-reads.Learnt, write-below t, write.Post, wrap-reads.Asked, wrap-reads.Learnt) (write-at t) write.Post write-Inv-loop write-μ-loop
 write-part-next-field-end t c = search needs
 
--- src/lib.rt:141:13
 write-next-field-requires : (t : ℕ) → write-lts.Need-next-field-requires (next-field-reads.Asked, next-field-reads.Learnt, held-reads.Asked, held-reads.Learnt, put-value-reads.Asked, put-value-reads.Learnt, write-below t, write.Post, wrap-reads.Asked, wrap-reads.Learnt) (write-at t) write.Post write-Inv-loop write-μ-loop
 write-next-field-requires t c κs = search needs
 
--- src/lib.rt:143:17
 write-add-a : (t : ℕ) → write-lts.Need-add-a (next-field-reads.Asked, next-field-reads.Learnt, held-reads.Asked, held-reads.Learnt, put-value-reads.Asked, put-value-reads.Learnt, write-below t, write.Post, wrap-reads.Asked, wrap-reads.Learnt) (write-at t) write.Post write-Inv-loop write-μ-loop
 write-add-a t c = let f = c .before in let h = next-onward (es t (b t f)) (b t f .args .levels - 1) (b t f .args .number) (now (b t f .args .s)) (now (b t f .args .out)) (b t f .args .to) (fits t (b t f)) (i t f) (f .before .before .before .loop .end) (f .before .before .before .loop .out) (state t f) (more t f) (octets t (b t f)) (f .next-field .result) (found t f) .1 in let g = b t f .good in omega arith
 
--- src/lib.rt:144:17
 write-add-e : (t : ℕ) → write-lts.Need-add-e (next-field-reads.Asked, next-field-reads.Learnt, held-reads.Asked, held-reads.Learnt, put-value-reads.Asked, put-value-reads.Learnt, write-below t, write.Post, wrap-reads.Asked, wrap-reads.Learnt) (write-at t) write.Post write-Inv-loop write-μ-loop
 write-add-e t c = let f = c .before .before in let h = next-onward (es t (b t f)) (b t f .args .levels - 1) (b t f .args .number) (now (b t f .args .s)) (now (b t f .args .out)) (b t f .args .to) (fits t (b t f)) (i t f) (f .before .before .before .loop .end) (f .before .before .before .loop .out) (state t f) (more t f) (octets t (b t f)) (f .next-field .result) (found t f) .1 in let g = b t f .good in omega arith
 
--- src/lib.rt:145:19
 write-cast-tag : (t : ℕ) → write-lts.Need-cast-tag (next-field-reads.Asked, next-field-reads.Learnt, held-reads.Asked, held-reads.Learnt, put-value-reads.Asked, put-value-reads.Learnt, write-below t, write.Post, wrap-reads.Asked, wrap-reads.Learnt) (write-at t) write.Post write-Inv-loop write-μ-loop
 write-cast-tag t c = search needs
 
--- src/lib.rt:146:15
 write-held-requires : (t : ℕ) → write-lts.Need-held-requires (next-field-reads.Asked, next-field-reads.Learnt, held-reads.Asked, held-reads.Learnt, put-value-reads.Asked, put-value-reads.Learnt, write-below t, write.Post, wrap-reads.Asked, wrap-reads.Learnt) (write-at t) write.Post write-Inv-loop write-μ-loop
 write-held-requires t c κs = search needs
 
--- src/lib.rt:148:44
 write-enum-told : (t : ℕ) → write-lts.Need-enum-told (next-field-reads.Asked, next-field-reads.Learnt, held-reads.Asked, held-reads.Learnt, put-value-reads.Asked, put-value-reads.Learnt, write-below t, write.Post, wrap-reads.Asked, wrap-reads.Learnt) (write-at t) write.Post write-Inv-loop write-μ-loop
 write-enum-told t c = search needs
 
--- src/lib.rt:148:44
 write-sub-put-value : (t : ℕ) → write-lts.Need-sub-put-value (next-field-reads.Asked, next-field-reads.Learnt, held-reads.Asked, held-reads.Learnt, put-value-reads.Asked, put-value-reads.Learnt, write-below t, write.Post, wrap-reads.Asked, wrap-reads.Learnt) (write-at t) write.Post write-Inv-loop write-μ-loop
 write-sub-put-value t c = search needs
 
--- src/lib.rt:148:44
 write-part-put-value-start : (t : ℕ) → write-lts.Need-part-put-value-start (next-field-reads.Asked, next-field-reads.Learnt, held-reads.Asked, held-reads.Learnt, put-value-reads.Asked, put-value-reads.Learnt, write-below t, write.Post, wrap-reads.Asked, wrap-reads.Learnt) (write-at t) write.Post write-Inv-loop write-μ-loop
 write-part-put-value-start t c = search needs
 
--- src/lib.rt:148:44
 write-part-put-value-end : (t : ℕ) → write-lts.Need-part-put-value-end (next-field-reads.Asked, next-field-reads.Learnt, held-reads.Asked, held-reads.Learnt, put-value-reads.Asked, put-value-reads.Learnt, write-below t, write.Post, wrap-reads.Asked, wrap-reads.Learnt) (write-at t) write.Post write-Inv-loop write-μ-loop
 write-part-put-value-end t c = let f = c .before .before .before .before .before .before in let h = next-onward (es t (b t f)) (b t f .args .levels - 1) (b t f .args .number) (now (b t f .args .s)) (now (b t f .args .out)) (b t f .args .to) (fits t (b t f)) (i t f) (f .before .before .before .loop .end) (f .before .before .before .loop .out) (state t f) (more t f) (octets t (b t f)) (f .next-field .result) (found t f) .1 in omega arith
 
--- src/lib.rt:148:17
 write-put-value-requires : (t : ℕ) → write-lts.Need-put-value-requires (next-field-reads.Asked, next-field-reads.Learnt, held-reads.Asked, held-reads.Learnt, put-value-reads.Asked, put-value-reads.Learnt, write-below t, write.Post, wrap-reads.Asked, wrap-reads.Learnt) (write-at t) write.Post write-Inv-loop write-μ-loop
 write-put-value-requires t c κs =
     let f = c .before .before .before .before .before .before .before .before in
@@ -146,37 +133,30 @@ write-put-value-requires t c κs =
       leaf-fits (es t (b t f)) (b t f .args .levels - 1) (b t f .args .number) (now (b t f .args .s)) (now (b t f .args .out)) (b t f .args .to) (fits t (b t f)) (i t f) (f .before .before .before .loop .end) (f .before .before .before .loop .out) (state t f) (more t f) (octets t (b t f)) (f .next-field .result) (found t f) q,
     )
 
--- src/lib.rt:140:5
 write-loop-less : (t : ℕ) → write-lts.Need-loop-less (next-field-reads.Asked, next-field-reads.Learnt, held-reads.Asked, held-reads.Learnt, put-value-reads.Asked, put-value-reads.Learnt, write-below t, write.Post, wrap-reads.Asked, wrap-reads.Learnt) (write-at t) write.Post write-Inv-loop write-μ-loop
 write-loop-less t c = let f = c .before .before .before .before .before .before .before .before .before .before .before in let h = next-onward (es t (b t f)) (b t f .args .levels - 1) (b t f .args .number) (now (b t f .args .s)) (now (b t f .args .out)) (b t f .args .to) (fits t (b t f)) (i t f) (f .before .before .before .loop .end) (f .before .before .before .loop .out) (state t f) (more t f) (octets t (b t f)) (f .next-field .result) (found t f) in let p = h .0 in let q = h .1 in omega arith
 
--- src/lib.rt:140:5
 write-loop-again : (t : ℕ) → write-lts.Need-loop-again (next-field-reads.Asked, next-field-reads.Learnt, held-reads.Asked, held-reads.Learnt, put-value-reads.Asked, put-value-reads.Learnt, write-below t, write.Post, wrap-reads.Asked, wrap-reads.Learnt) (write-at t) write.Post write-Inv-loop write-μ-loop
 write-loop-again t c =
     let f = c .before .before .before .before .before .before .before .before .before .before .before in
     let q = plain-of (f .next-field .result .kind) (sym (c .before .before .before .before .before .before .before .held .ensures) ∙ c .before .before .before .before .before .enum-told .given .1) in
     leaf-written (es t (b t f)) (b t f .args .levels - 1) (b t f .args .number) (now (b t f .args .s)) (now (b t f .args .out)) (b t f .args .to) (fits t (b t f)) (i t f) (f .before .before .before .loop .end) (f .before .before .before .loop .out) (state t f) (more t f) (octets t (b t f)) (f .next-field .result) (found t f) (c .before .before .put-value .result) (c .before .before .put-value .last .1 .1 .1 .0) q (c .before .before .put-value .ensures)
 
--- src/lib.rt:151:27
 write-enum-known-m : (t : ℕ) → write-lts.Need-enum-known-m (next-field-reads.Asked, next-field-reads.Learnt, held-reads.Asked, held-reads.Learnt, put-value-reads.Asked, put-value-reads.Learnt, write-below t, write.Post, wrap-reads.Asked, wrap-reads.Learnt) (write-at t) write.Post write-Inv-loop write-μ-loop
 write-enum-known-m t c = search needs
 
--- src/lib.rt:152:52
 write-sub-write : (t : ℕ) → write-lts.Need-sub-write (next-field-reads.Asked, next-field-reads.Learnt, held-reads.Asked, held-reads.Learnt, put-value-reads.Asked, put-value-reads.Learnt, write-below t, write.Post, wrap-reads.Asked, wrap-reads.Learnt) (write-at t) write.Post write-Inv-loop write-μ-loop
 write-sub-write t c =
     let f = c .before .before .before .before .before .before .before in
     let h = nested-accepts (es t (b t f)) (b t f .args .levels - 1) (b t f .args .number) (now (b t f .args .s)) (now (b t f .args .out)) (b t f .args .to) (fits t (b t f)) (i t f) (f .before .before .before .loop .end) (f .before .before .before .loop .out) (state t f) (more t f) (octets t (b t f)) (f .next-field .result) (found t f) (c .before .m .given .0 .0) (message-of (f .next-field .result .kind) (c .before .m .given .0 .0) (sym (c .before .before .before .held .ensures) ∙ c .before .m .given .1)) .0 in
     omega arith
 
--- src/lib.rt:152:62
 write-sub-write-2 : (t : ℕ) → write-lts.Need-sub-write-2 (next-field-reads.Asked, next-field-reads.Learnt, held-reads.Asked, held-reads.Learnt, put-value-reads.Asked, put-value-reads.Learnt, write-below t, write.Post, wrap-reads.Asked, wrap-reads.Learnt) (write-at t) write.Post write-Inv-loop write-μ-loop
 write-sub-write-2 t c = search needs
 
--- src/lib.rt:152:62
 write-part-write-start : (t : ℕ) → write-lts.Need-part-write-start (next-field-reads.Asked, next-field-reads.Learnt, held-reads.Asked, held-reads.Learnt, put-value-reads.Asked, put-value-reads.Learnt, write-below t, write.Post, wrap-reads.Asked, wrap-reads.Learnt) (write-at t) write.Post write-Inv-loop write-μ-loop
 write-part-write-start t c = search needs
 
--- src/lib.rt:152:62
 write-part-write-end : (t : ℕ) → write-lts.Need-part-write-end (next-field-reads.Asked, next-field-reads.Learnt, held-reads.Asked, held-reads.Learnt, put-value-reads.Asked, put-value-reads.Learnt, write-below t, write.Post, wrap-reads.Asked, wrap-reads.Learnt) (write-at t) write.Post write-Inv-loop write-μ-loop
 write-part-write-end t c = let f = c .before .before .before .before .before .before .before in let h = next-onward (es t (b t f)) (b t f .args .levels - 1) (b t f .args .number) (now (b t f .args .s)) (now (b t f .args .out)) (b t f .args .to) (fits t (b t f)) (i t f) (f .before .before .before .loop .end) (f .before .before .before .loop .out) (state t f) (more t f) (octets t (b t f)) (f .next-field .result) (found t f) .1 in omega arith
 
@@ -190,7 +170,6 @@ write-add-write t c =
     let g = b t f .good in
     omega arith
 
--- src/lib.rt:152:21
 write-write-requires : (t : ℕ) → write-lts.Need-write-requires (next-field-reads.Asked, next-field-reads.Learnt, held-reads.Asked, held-reads.Learnt, put-value-reads.Asked, put-value-reads.Learnt, write-below t, write.Post, wrap-reads.Asked, wrap-reads.Learnt) (write-at t) write.Post write-Inv-loop write-μ-loop
 write-write-requires t c κs =
     let f = c .before .before .before .before .before .before .before .before .before in
@@ -211,36 +190,30 @@ write-add-wrap t c =
     let g = b t f .good in
     omega arith
 
--- src/lib.rt:153:43
 write-sub-wrap : (t : ℕ) → write-lts.Need-sub-wrap (next-field-reads.Asked, next-field-reads.Learnt, held-reads.Asked, held-reads.Learnt, put-value-reads.Asked, put-value-reads.Learnt, write-below t, write.Post, wrap-reads.Asked, wrap-reads.Learnt) (write-at t) write.Post write-Inv-loop write-μ-loop
 write-sub-wrap t c =
     let f = c .before .before .before .before .before .before .before .before .before .before .before .before .before in
     inner-after (es t (b t f)) (b t f .args .levels - 1) (b t f .args .number) (now (b t f .args .s)) (now (b t f .args .out)) (b t f .args .to) (fits t (b t f)) (i t f) (f .before .before .before .loop .end) (f .before .before .before .loop .out) (state t f) (more t f) (octets t (b t f)) (f .next-field .result) (found t f) (c .before .before .before .before .before .before .before .m .given .0 .0) (message-of (f .next-field .result .kind) (c .before .before .before .before .before .before .before .m .given .0 .0) (sym (c .before .before .before .before .before .before .before .before .before .held .ensures) ∙ c .before .before .before .before .before .before .before .m .given .1)) (c .before .before .before .write .result) (c .before .before .before .write .last .1 .1 .1 .1 .1 .0) (c .before .before .before .write .ensures)
 
--- src/lib.rt:153:17
 write-wrap-requires : (t : ℕ) → write-lts.Need-wrap-requires (next-field-reads.Asked, next-field-reads.Learnt, held-reads.Asked, held-reads.Learnt, put-value-reads.Asked, put-value-reads.Learnt, write-below t, write.Post, wrap-reads.Asked, wrap-reads.Learnt) (write-at t) write.Post write-Inv-loop write-μ-loop
 write-wrap-requires t c κs =
     let f = c .before .before .before .before .before .before .before .before .before .before .before .before .before in
     wrap-fits (es t (b t f)) (b t f .args .levels - 1) (b t f .args .number) (now (b t f .args .s)) (now (b t f .args .out)) (b t f .args .to) (fits t (b t f)) (i t f) (f .before .before .before .loop .end) (f .before .before .before .loop .out) (state t f) (more t f) (octets t (b t f)) (f .next-field .result) (found t f) (c .before .before .before .before .before .before .before .m .given .0 .0) (message-of (f .next-field .result .kind) (c .before .before .before .before .before .before .before .m .given .0 .0) (sym (c .before .before .before .before .before .before .before .before .before .held .ensures) ∙ c .before .before .before .before .before .before .before .m .given .1)) (c .before .before .before .write .result) (c .before .before .before .write .last .1 .1 .1 .1 .1 .0) (c .before .before .before .write .ensures)
 
--- src/lib.rt:140:5
 write-loop-less-2 : (t : ℕ) → write-lts.Need-loop-less-2 (next-field-reads.Asked, next-field-reads.Learnt, held-reads.Asked, held-reads.Learnt, put-value-reads.Asked, put-value-reads.Learnt, write-below t, write.Post, wrap-reads.Asked, wrap-reads.Learnt) (write-at t) write.Post write-Inv-loop write-μ-loop
 write-loop-less-2 t c = let f = c .before .before .before .before .before .before .before .before .before .before .before .before .before .before .before .before in let h = next-onward (es t (b t f)) (b t f .args .levels - 1) (b t f .args .number) (now (b t f .args .s)) (now (b t f .args .out)) (b t f .args .to) (fits t (b t f)) (i t f) (f .before .before .before .loop .end) (f .before .before .before .loop .out) (state t f) (more t f) (octets t (b t f)) (f .next-field .result) (found t f) in let p = h .0 in let q = h .1 in omega arith
 
--- src/lib.rt:140:5
 write-loop-again-2 : (t : ℕ) → write-lts.Need-loop-again-2 (next-field-reads.Asked, next-field-reads.Learnt, held-reads.Asked, held-reads.Learnt, put-value-reads.Asked, put-value-reads.Learnt, write-below t, write.Post, wrap-reads.Asked, wrap-reads.Learnt) (write-at t) write.Post write-Inv-loop write-μ-loop
 write-loop-again-2 t c =
     let f = c .before .before .before .before .before .before .before .before .before .before .before .before .before .before .before .before in
     nested-written (es t (b t f)) (b t f .args .levels - 1) (b t f .args .number) (now (b t f .args .s)) (now (b t f .args .out)) (b t f .args .to) (fits t (b t f)) (i t f) (f .before .before .before .loop .end) (f .before .before .before .loop .out) (state t f) (more t f) (octets t (b t f)) (f .next-field .result) (found t f) (c .before .before .before .before .before .before .before .before .before .before .m .given .0 .0) (message-of (f .next-field .result .kind) (c .before .before .before .before .before .before .before .before .before .before .m .given .0 .0) (sym (c .before .before .before .before .before .before .before .before .before .before .before .before .held .ensures) ∙ c .before .before .before .before .before .before .before .before .before .before .m .given .1)) (c .before .before .before .before .before .before .write .result) (c .before .before .before .before .before .before .write .last .1 .1 .1 .1 .1 .0) (c .before .before .before .before .before .before .write .ensures)
     (c .before .before .wrap .result) (c .before .before .wrap .last .1 .0) (c .before .before .wrap .ensures .0) (c .before .before .wrap .ensures .1)
 
--- src/lib.rt:124:1
 write-same-length : (t : ℕ) → write-lts.Need-same-length (next-field-reads.Asked, next-field-reads.Learnt, held-reads.Asked, held-reads.Learnt, put-value-reads.Asked, put-value-reads.Learnt, write-below t, write.Post, wrap-reads.Asked, wrap-reads.Learnt) (write-at t) write.Post write-Inv-loop write-μ-loop
 write-same-length t c =
     let s = c .before .before .before .before .before in
     same-length (es t s) (s .args .levels - 1) (s .args .number) (now (s .args .s)) (now (s .args .out)) (s .args .to) (c .before .loop .i) (c .before .loop .end) (c .before .loop .out) (c .before .loop .inv)
 
--- src/lib.rt:124:1
 write-returns : (t : ℕ) → write-lts.Need-returns (next-field-reads.Asked, next-field-reads.Learnt, held-reads.Asked, held-reads.Learnt, put-value-reads.Asked, put-value-reads.Learnt, write-below t, write.Post, wrap-reads.Asked, wrap-reads.Learnt) (write-at t) write.Post write-Inv-loop write-μ-loop
 write-returns t c =
     let s = c .before .before .before .before .before in

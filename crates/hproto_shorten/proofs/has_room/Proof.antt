@@ -9,11 +9,7 @@ use Rattle.hproto_shorten.specs.Written.{short}
 use Rattle.hproto_shorten.proofs.Measuring.{short-few}
 use Rattle.hproto_shorten.proofs.has_room.Statement.{statement}
 use Rattle.hproto_shorten.proofs.has_room.Tie as tie
-use Rattle.hproto_shorten.proofs.has_room.Reads as reads
-use Rattle.hproto_shorten.proofs.has_room.Lts as lts
-use Rattle.hproto_shorten.proofs.measure.Reads as measure-reads
 
--- src/lib.rt:247:9
 returns : tie.Need-returns
 returns c =
     let s = c .before .before .before in
@@ -22,11 +18,9 @@ returns c =
     let k = c .if1 .taken in
     sym (le-leb (length (short es 8 (s .args .number) (now (s .args .message)))) (s .args .len) (omega arith))
 
--- src/lib.rt:249:5
 measure-requires : tie.Need-measure-requires
 measure-requires c κs = search needs
 
--- src/lib.rt:240:1
 returns-2 : tie.Need-returns-2
 returns-2 c = rw (c .measure .ensures)
 

@@ -7,75 +7,57 @@ use Rattle.hproto_message.specs.Tree.{value}
 use Rattle.hproto_message.specs.Shortest.{leastContents}
 use Rattle.hproto_shorten.proofs.least_size.Statement.{statement}
 use Rattle.hproto_shorten.proofs.least_size.Tie as tie
-use Rattle.hproto_shorten.proofs.least_size.Reads as reads
-use Rattle.hproto_shorten.proofs.least_size.Lts as lts
-use Rattle.hproto_shorten.proofs.int_size.Reads as int-size-reads
-use Rattle.hproto_shorten.proofs.uint_size.Reads as uint-size-reads
 
--- src/lib.rt:187:25
 enum-told : tie.Need-enum-told
 enum-told c = search needs
 
--- src/lib.rt:188:26
 enum-told-2 : tie.Need-enum-told-2
 enum-told-2 c = search needs
 
--- src/lib.rt:188:26
 uint-size-requires : tie.Need-uint-size-requires
 unfolding leastContents value Contents
 uint-size-requires c κs =
     let s = c .before .before .before in
     subst (λ (k : Meaning). Contents k (now (s .args .s))) (c .enum-told2 .given .1) (s .pre)
 
--- src/lib.rt:189:25
 enum-told-3 : tie.Need-enum-told-3
 enum-told-3 c = search needs
 
--- src/lib.rt:189:25
 int-size-requires : tie.Need-int-size-requires
 unfolding leastContents value Contents
 int-size-requires c κs =
     let s = c .before .before .before in
     subst (λ (k : Meaning). Contents k (now (s .args .s))) (c .enum-told3 .given .1) (s .pre)
 
--- src/lib.rt:190:28
 enum-told-4 : tie.Need-enum-told-4
 enum-told-4 c = search needs
 
--- src/lib.rt:191:26
 enum-told-5 : tie.Need-enum-told-5
 enum-told-5 c = search needs
 
--- src/lib.rt:192:32
 enum-told-6 : tie.Need-enum-told-6
 enum-told-6 c = search needs
 
--- src/lib.rt:182:1
 returns : tie.Need-returns
 unfolding leastContents value Contents
 returns c = rw (c .enum-told .given .1)
 
--- src/lib.rt:182:1
 returns-2 : tie.Need-returns-2
 unfolding leastContents value Contents
 returns-2 c = c .uint-size .ensures ∙ rw (c .before .enum-told2 .given .1)
 
--- src/lib.rt:182:1
 returns-3 : tie.Need-returns-3
 unfolding leastContents value Contents
 returns-3 c = c .int-size .ensures ∙ rw (c .before .enum-told3 .given .1)
 
--- src/lib.rt:182:1
 returns-4 : tie.Need-returns-4
 unfolding leastContents value Contents
 returns-4 c = rw (c .enum-told4 .given .1)
 
--- src/lib.rt:182:1
 returns-5 : tie.Need-returns-5
 unfolding leastContents value Contents
 returns-5 c = rw (c .enum-told5 .given .1)
 
--- src/lib.rt:182:1
 returns-6 : tie.Need-returns-6
 unfolding leastContents value Contents
 returns-6 c =

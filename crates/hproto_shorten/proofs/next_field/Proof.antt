@@ -10,28 +10,19 @@ use Rattle.hproto_index.specs.Slots.{listed}
 use Rattle.hproto_shorten.proofs.Directs.{direct-front}
 use Rattle.hproto_shorten.proofs.next_field.Statement.{statement}
 use Rattle.hproto_shorten.proofs.next_field.Tie as tie
-use Rattle.hproto_shorten.proofs.next_field.Reads as reads
-use Rattle.hproto_shorten.proofs.next_field.Lts as lts
-use Rattle.hproto_field.proofs.field_in.Reads as field-in-reads
-use Rattle.hproto_index.proofs.find.Reads as find-reads
 
--- src/lib.rt:159:17
 shared-slice-read-c : tie.Need-shared-slice-read-c
 shared-slice-read-c c = search needs
 
--- src/lib.rt:160:19
 cast-tag : tie.Need-cast-tag
 cast-tag c = let h = c .before .before .shared-slice-known2 .given 0 .fits in omega arith
 
--- src/lib.rt:161:17
 cast-n : tie.Need-cast-n
 cast-n c = let h = mask-lt (getD (now (c .before .before .before .before .args .s)) 0 0) 4 in omega arith
 
--- src/lib.rt:165:23
 find-requires : tie.Need-find-requires
 find-requires c κs = search needs
 
--- src/lib.rt:163:13
 returns : tie.Need-returns
 returns c =
     let a = c .before .before .before .before .before .before .before .before .args in
@@ -40,11 +31,9 @@ returns c =
     direct-front (listed (now (a .slots)) (now (a .words))) (a .number) s (x / 16) (bitAnd x 15) (c .find .result) refl refl
     (c .before .before .before .if2 .taken) (ltb-true (bitAnd x 15) 12 (c .before .before .if3 .taken)) (ltb-true (bitAnd x 15) (length s) (c .before .if4 .taken)) (c .find .ensures)
 
--- src/lib.rt:171:5
 field-in-requires : tie.Need-field-in-requires
 field-in-requires c κs = search needs
 
--- src/lib.rt:155:1
 returns-2 : tie.Need-returns-2
 returns-2 c = search needs
 

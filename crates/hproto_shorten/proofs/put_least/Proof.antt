@@ -6,16 +6,11 @@ use lib.ListN.{length}
 use Rattle.octets.specs.Number.{octetsOf}
 use Rattle.octets.specs.Control.{leastControl}
 use Rattle.octets.proofs.Number.{length-octetsOf}
-use Rattle.hproto_put.proofs.Stores.{length-stored}
+use Rattle.hproto_store.proofs.Stores.{length-stored}
 use Rattle.hproto_shorten.proofs.Puts.{number-length, field-put}
 use Rattle.hproto_shorten.proofs.put_least.Statement.{statement}
 use Rattle.hproto_shorten.proofs.put_least.Tie as tie
-use Rattle.hproto_shorten.proofs.put_least.Reads as reads
-use Rattle.hproto_shorten.proofs.put_least.Lts as lts
-use Rattle.hproto_shorten.proofs.put_digits.Reads as put-digits-reads
-use Rattle.hproto_shorten.proofs.put_front.Reads as put-front-reads
 
--- src/lib.rt:82:9
 put-front-requires : tie.Need-put-front-requires
 put-front-requires c κs =
     let s = c .before .before in
@@ -23,7 +18,6 @@ put-front-requires c κs =
     let l = number-length (s .args .tag) (s .args .least .width) (s .args .least .bits) in
     omega arith
 
--- src/lib.rt:83:5
 put-digits-requires : tie.Need-put-digits-requires
 put-digits-requires c κs =
     let k = c .before .before .before in
@@ -35,11 +29,9 @@ put-digits-requires c κs =
     let e = ap length (k .put-front .ensures .buffer) ∙ length-stored (now (s .args .out)) (s .args .to) (leastControl (s .args .tag) (s .args .least .width)) in
     omega arith
 
--- src/lib.rt:76:1
 same-length : tie.Need-same-length
 same-length c = search needs
 
--- src/lib.rt:76:1
 returns : tie.Need-returns
 returns c =
     let k = c .before .before .before .before .before .before in

@@ -4,15 +4,11 @@ use native.Mathlib.Omega.{arith}
 use mathlib.Core.Path.{refl}
 use denote.Ref.{now}
 use lib.ListN.{length}
-use Rattle.hproto_shorten.proofs.Puts.{field-length, field-put}
+use Rattle.hproto_message.proofs.Fields.{field-length}
+use Rattle.hproto_shorten.proofs.Puts.{field-put}
 use Rattle.hproto_shorten.proofs.put_plain.Statement.{statement}
 use Rattle.hproto_shorten.proofs.put_plain.Tie as tie
-use Rattle.hproto_shorten.proofs.put_plain.Reads as reads
-use Rattle.hproto_shorten.proofs.put_plain.Lts as lts
-use Rattle.hproto_put.proofs.put_octets.Reads as put-octets-reads
-use Rattle.hproto_shorten.proofs.put_front.Reads as put-front-reads
 
--- src/lib.rt:92:9
 put-front-requires : tie.Need-put-front-requires
 put-front-requires c κs =
     let s = c .before .before .before in
@@ -20,11 +16,9 @@ put-front-requires c κs =
     let l = field-length (s .args .tag) (now (s .args .s)) in
     omega arith
 
--- src/lib.rt:93:5
 put-octets-requires : tie.Need-put-octets-requires
 put-octets-requires c κs = search needs
 
--- src/lib.rt:94:5
 add-result : tie.Need-add-result
 add-result c =
     let k = c .before .before .before .before .before .before in
@@ -35,11 +29,9 @@ add-result c =
     let p = k .put-front .ensures .place in
     omega arith
 
--- src/lib.rt:87:1
 same-length : tie.Need-same-length
 same-length c = search needs
 
--- src/lib.rt:87:1
 returns : tie.Need-returns
 returns c =
     let k = c .before .before .before .before .before .before in

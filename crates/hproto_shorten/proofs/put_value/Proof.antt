@@ -10,17 +10,10 @@ use Rattle.hproto_message.specs.Shortest.{field, leastContents}
 use Rattle.hproto_shorten.specs.Written.{Put}
 use Rattle.hproto_shorten.proofs.put_value.Statement.{statement}
 use Rattle.hproto_shorten.proofs.put_value.Tie as tie
-use Rattle.hproto_shorten.proofs.put_value.Reads as reads
-use Rattle.hproto_shorten.proofs.put_value.Lts as lts
-use Rattle.hproto_shorten.proofs.put_int.Reads as put-int-reads
-use Rattle.hproto_shorten.proofs.put_plain.Reads as put-plain-reads
-use Rattle.hproto_shorten.proofs.put_uint.Reads as put-uint-reads
 
--- src/lib.rt:101:43
 enum-told : tie.Need-enum-told
 enum-told c = search needs
 
--- src/lib.rt:101:25
 put-plain-requires : tie.Need-put-plain-requires
 unfolding leastContents value Contents
 put-plain-requires c κs =
@@ -28,11 +21,9 @@ put-plain-requires c κs =
     subst (λ (k : Meaning). s .args .to + length (field (s .args .tag) (leastContents (value k (now (s .args .s))))) ≤ length (now (s .args .out)))
     (c .before .enum-told .given .1) (s .pre .1)
 
--- src/lib.rt:102:43
 enum-told-2 : tie.Need-enum-told-2
 enum-told-2 c = search needs
 
--- src/lib.rt:102:26
 put-uint-requires : tie.Need-put-uint-requires
 unfolding leastContents value Contents
 put-uint-requires c κs =
@@ -42,11 +33,9 @@ put-uint-requires c κs =
           (c .before .enum-told2 .given .1) (s .pre .1),
     )
 
--- src/lib.rt:103:41
 enum-told-3 : tie.Need-enum-told-3
 enum-told-3 c = search needs
 
--- src/lib.rt:103:25
 put-int-requires : tie.Need-put-int-requires
 unfolding leastContents value Contents
 put-int-requires c κs =
@@ -56,11 +45,9 @@ put-int-requires c κs =
           (c .before .enum-told3 .given .1) (s .pre .1),
     )
 
--- src/lib.rt:104:46
 enum-told-4 : tie.Need-enum-told-4
 enum-told-4 c = search needs
 
--- src/lib.rt:104:28
 put-plain-requires-2 : tie.Need-put-plain-requires-2
 unfolding leastContents value Contents
 put-plain-requires-2 c κs =
@@ -68,11 +55,9 @@ put-plain-requires-2 c κs =
     subst (λ (k : Meaning). s .args .to + length (field (s .args .tag) (leastContents (value k (now (s .args .s))))) ≤ length (now (s .args .out)))
     (c .before .enum-told4 .given .1) (s .pre .1)
 
--- src/lib.rt:105:44
 enum-told-5 : tie.Need-enum-told-5
 enum-told-5 c = search needs
 
--- src/lib.rt:105:26
 put-plain-requires-3 : tie.Need-put-plain-requires-3
 unfolding leastContents value Contents
 put-plain-requires-3 c κs =
@@ -80,15 +65,12 @@ put-plain-requires-3 c κs =
     subst (λ (k : Meaning). s .args .to + length (field (s .args .tag) (leastContents (value k (now (s .args .s))))) ≤ length (now (s .args .out)))
     (c .before .enum-told5 .given .1) (s .pre .1)
 
--- src/lib.rt:106:32
 enum-told-6 : tie.Need-enum-told-6
 enum-told-6 c = search needs
 
--- src/lib.rt:95:1
 same-length : tie.Need-same-length
 same-length c = search needs
 
--- src/lib.rt:95:1
 returns : tie.Need-returns
 unfolding leastContents value Contents
 returns c =
@@ -96,11 +78,9 @@ returns c =
     subst (λ (k : Meaning). Put (now (s .args .out)) (s .args .to) (field (s .args .tag) (leastContents (value k (now (s .args .s))))) (c .before .before .put-plain .result) (c .before .before .put-plain .last .1 .1 .0))
     (sym (c .before .before .before .before .enum-told .given .1)) (c .before .before .put-plain .ensures)
 
--- src/lib.rt:95:1
 same-length-2 : tie.Need-same-length-2
 same-length-2 c = search needs
 
--- src/lib.rt:95:1
 returns-2 : tie.Need-returns-2
 unfolding leastContents value Contents
 returns-2 c =
@@ -108,11 +88,9 @@ returns-2 c =
     subst (λ (k : Meaning). Put (now (s .args .out)) (s .args .to) (field (s .args .tag) (leastContents (value k (now (s .args .s))))) (c .before .before .put-uint .result) (c .before .before .put-uint .last .1 .1 .0))
     (sym (c .before .before .before .before .enum-told2 .given .1)) (c .before .before .put-uint .ensures)
 
--- src/lib.rt:95:1
 same-length-3 : tie.Need-same-length-3
 same-length-3 c = search needs
 
--- src/lib.rt:95:1
 returns-3 : tie.Need-returns-3
 unfolding leastContents value Contents
 returns-3 c =
@@ -120,11 +98,9 @@ returns-3 c =
     subst (λ (k : Meaning). Put (now (s .args .out)) (s .args .to) (field (s .args .tag) (leastContents (value k (now (s .args .s))))) (c .before .before .put-int .result) (c .before .before .put-int .last .1 .1 .0))
     (sym (c .before .before .before .before .enum-told3 .given .1)) (c .before .before .put-int .ensures)
 
--- src/lib.rt:95:1
 same-length-4 : tie.Need-same-length-4
 same-length-4 c = search needs
 
--- src/lib.rt:95:1
 returns-4 : tie.Need-returns-4
 unfolding leastContents value Contents
 returns-4 c =
@@ -132,11 +108,9 @@ returns-4 c =
     subst (λ (k : Meaning). Put (now (s .args .out)) (s .args .to) (field (s .args .tag) (leastContents (value k (now (s .args .s))))) (c .before .before .put-plain2 .result) (c .before .before .put-plain2 .last .1 .1 .0))
     (sym (c .before .before .before .before .enum-told4 .given .1)) (c .before .before .put-plain2 .ensures)
 
--- src/lib.rt:95:1
 same-length-5 : tie.Need-same-length-5
 same-length-5 c = search needs
 
--- src/lib.rt:95:1
 returns-5 : tie.Need-returns-5
 unfolding leastContents value Contents
 returns-5 c =
@@ -144,7 +118,6 @@ returns-5 c =
     subst (λ (k : Meaning). Put (now (s .args .out)) (s .args .to) (field (s .args .tag) (leastContents (value k (now (s .args .s))))) (c .before .before .put-plain3 .result) (c .before .before .put-plain3 .last .1 .1 .0))
     (sym (c .before .before .before .before .enum-told5 .given .1)) (c .before .before .put-plain3 .ensures)
 
--- src/lib.rt:95:1
 returns-6 : tie.Need-returns-6
 unfolding leastContents value Contents
 returns-6 c =

@@ -2,10 +2,7 @@ use mathlib.Core.Path.{refl}
 use Rattle.hproto_shorten.specs.Shorten.{refusal}
 use Rattle.hproto_shorten.proofs.refused.Statement.{statement}
 use Rattle.hproto_shorten.proofs.refused.Tie as tie
-use Rattle.hproto_shorten.proofs.refused.Reads as reads
-use Rattle.hproto_shorten.proofs.refused.Lts as lts
 
--- src/lib.rt:252:1
 returns : tie.Need-returns
 unfolding refusal
 returns c = refl

@@ -5,7 +5,7 @@ use denote.Ref.{now}
 use borrow.Author.Tests.{not-true, not-false}
 use Rattle.hproto_index.specs.Slots.{listed}
 use Rattle.hproto_index.proofs.Loaded.{table-same}
-use Rattle.hproto_check.specs.Check as checks
+use Rattle.reading.specs.Checks as answers
 use Rattle.hproto_check.specs.Check.{check}
 use Rattle.hproto_check.proofs.Counts.{too-long, bad-table}
 use Rattle.hproto_shorten.specs.Shorten.{refusal, shortForm, answer, buffer}
@@ -19,11 +19,11 @@ refused-requires : tie.Need-refused-requires
 refused-requires c κs = search needs
 
 returns : tie.Need-returns
-unfolding refusal checks.refusal answer buffer
+unfolding refusal answers.refusal answer buffer
 returns c =
     let a = c .before .before .before .before .args in
     let m = now (a .message) in
-    let r = refused-first (check (a .t1) (a .number) m) (shortForm (a .t1) (a .number) m) (now (a .out)) (checks.refusal 1 0) (too-long (a .t1) (a .number) m (c .before .if1 .taken)) (λ z. omega arith) in
+    let r = refused-first (check (a .t1) (a .number) m) (shortForm (a .t1) (a .number) m) (now (a .out)) (answers.refusal 1 0) (too-long (a .t1) (a .number) m (c .before .if1 .taken)) (λ z. omega arith) in
     (c .refused .ensures ∙ r .answered, r .left)
 
 valid-requires : tie.Need-valid-requires
@@ -33,13 +33,13 @@ refused-requires-2 : tie.Need-refused-requires-2
 refused-requires-2 c κs = search needs
 
 returns-2 : tie.Need-returns-2
-unfolding refusal checks.refusal answer buffer
+unfolding refusal answers.refusal answer buffer
 returns-2 c =
     let a = c .before .before .before .before .before .before .args in
     let m = now (a .message) in
     let v = c .before .before .valid in
     let b = bad-table (a .t1) (a .number) m (c .before .before .before .if1 .left) (sym (v .ensures) ∙ not-true (v .result) (c .before .if2 .taken)) in
-    let r = refused-first (check (a .t1) (a .number) m) (shortForm (a .t1) (a .number) m) (now (a .out)) (checks.refusal 2 0) b (λ z. omega arith) in
+    let r = refused-first (check (a .t1) (a .number) m) (shortForm (a .t1) (a .number) m) (now (a .out)) (answers.refusal 2 0) b (λ z. omega arith) in
     (c .refused2 .ensures ∙ r .answered, r .left)
 
 first-requires : tie.Need-first-requires

@@ -6,29 +6,20 @@ use lib.ListN.{length}
 use borrow.Author.Tests.{leb-true, leb-false, not-true, not-false}
 use Rattle.hproto_index.specs.Slots.{listed}
 use Rattle.hproto_check.specs.Check.{checkUnder}
-use Rattle.hproto_check.specs.declared.Checked.{Checked}
+use Rattle.reading.specs.declared.Checked.{Checked}
 use Rattle.hproto_shorten.specs.Written.{short}
 use Rattle.hproto_shorten.specs.Shorten.{refusal, shortUnder, answerUnder, bufferUnder}
-use Rattle.hproto_shorten.proofs.Passing.{octets-each}
+use Rattle.octets.proofs.Number.{octets-of-slice}
 use Rattle.hproto_shorten.proofs.Answers.{passed-accepts, short-under, refused-first, no-room, shortened}
 use Rattle.hproto_shorten.proofs.shorten_under.Statement.{statement}
 use Rattle.hproto_shorten.proofs.shorten_under.Tie as tie
-use Rattle.hproto_shorten.proofs.shorten_under.Reads as reads
-use Rattle.hproto_shorten.proofs.shorten_under.Lts as lts
-use Rattle.hproto_check.proofs.check_under.Reads as check-under-reads
-use Rattle.hproto_shorten.proofs.has_room.Reads as has-room-reads
-use Rattle.hproto_shorten.proofs.refused.Reads as refused-reads
-use Rattle.hproto_shorten.proofs.write.Reads as write-reads
 
--- src/lib.rt:274:9
 check-under-requires : tie.Need-check-under-requires
 check-under-requires c κs = search needs
 
--- src/lib.rt:276:9
 refused-requires : tie.Need-refused-requires
 refused-requires c κs = search needs
 
--- src/lib.rt:276:9
 returns : tie.Need-returns
 unfolding refusal answerUnder bufferUnder
 returns c =
@@ -39,20 +30,17 @@ returns c =
     let r = refused-first (checkUnder es (a .number) m) (shortUnder es (a .number) m) (now (a .out)) (k .result) (k .ensures) (c .before .if1 .taken) in
     (c .refused .ensures ∙ r .answered, r .left)
 
--- src/lib.rt:278:9
 has-room-requires : tie.Need-has-room-requires
 has-room-requires c κs =
     let a = c .before .before .before .before .before .before .args in
     let es = listed (now (a .slots)) (now (a .words)) in
     let m = now (a .message) in
     let h = passed-accepts es (a .number) m (ap (λ (x : Checked). x .refusal) (sym (c .before .before .check-under .ensures)) ∙ c .if1 .left) in
-    (h .0, (octets-each m (λ i. c .before .before .before .before .shared-slice-known2 .given i .fits), h .1))
+    (h .0, (octets-of-slice m (λ i. c .before .before .before .before .shared-slice-known2 .given i .fits), h .1))
 
--- src/lib.rt:279:9
 refused-requires-2 : tie.Need-refused-requires-2
 refused-requires-2 c κs = search needs
 
--- src/lib.rt:279:9
 returns-2 : tie.Need-returns-2
 unfolding refusal answerUnder bufferUnder
 returns-2 c =
@@ -64,7 +52,6 @@ returns-2 c =
     let r = no-room (checkUnder es (a .number) m) (shortUnder es (a .number) m) (now (a .out)) (ap (λ (x : Checked). x .refusal) (sym (c .before .before .before .before .before .check-under .ensures)) ∙ c .before .before .before .if1 .left) (rw (short-under es (a .number) m) k) in
     (c .refused2 .ensures ∙ r .answered, r .left)
 
--- src/lib.rt:281:9
 write-requires : tie.Need-write-requires
 write-requires c κs =
     let a = c .before .before .before .before .before .before .before .before .before .args in
@@ -73,13 +60,11 @@ write-requires c κs =
     let h = c .before .before .has-room in
     let p = passed-accepts es (a .number) m (ap (λ (x : Checked). x .refusal) (sym (c .before .before .before .before .before .check-under .ensures)) ∙ c .before .before .before .if1 .left) in
     let k = leb-true (length (short es 8 (a .number) m)) (length (now (a .out))) (sym (h .ensures) ∙ not-false (h .result) (c .before .if2 .left)) in
-    (octets-each m (λ i. c .before .before .before .before .before .before .before .shared-slice-known2 .given i .fits), (p .1, omega arith))
+    (octets-of-slice m (λ i. c .before .before .before .before .before .before .before .shared-slice-known2 .given i .fits), (p .1, omega arith))
 
--- src/lib.rt:264:1
 same-length : tie.Need-same-length
 same-length c = search needs
 
--- src/lib.rt:264:1
 returns-3 : tie.Need-returns-3
 unfolding answerUnder bufferUnder
 returns-3 c =

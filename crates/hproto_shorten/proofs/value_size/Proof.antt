@@ -6,24 +6,17 @@ use lib.ListN.{length}
 use Rattle.octets.specs.Control.{leastControl}
 use Rattle.hproto_message.specs.Tree.{value}
 use Rattle.hproto_message.specs.Shortest.{leastContents}
-use Rattle.hproto_shorten.proofs.Puts.{field-length}
+use Rattle.hproto_message.proofs.Fields.{field-length}
 use Rattle.hproto_shorten.proofs.Measuring.{control-few, least-few}
 use Rattle.hproto_shorten.proofs.value_size.Statement.{statement}
 use Rattle.hproto_shorten.proofs.value_size.Tie as tie
-use Rattle.hproto_shorten.proofs.value_size.Reads as reads
-use Rattle.hproto_shorten.proofs.value_size.Lts as lts
-use Rattle.hproto_put.proofs.control_size.Reads as control-size-reads
-use Rattle.hproto_shorten.proofs.least_size.Reads as least-size-reads
 
--- src/lib.rt:202:9
 least-size-requires : tie.Need-least-size-requires
 least-size-requires c κs = search needs
 
--- src/lib.rt:203:5
 control-size-requires : tie.Need-control-size-requires
 control-size-requires c κs = search needs
 
--- src/lib.rt:203:5
 add-result : tie.Need-add-result
 add-result c =
     let s = c .before .before .before in
@@ -33,7 +26,6 @@ add-result c =
     let l = least-few (s .args .kind) (now (s .args .s)) (s .pre .1) in
     omega arith
 
--- src/lib.rt:197:1
 returns : tie.Need-returns
 returns c =
     let s = c .before .before .before in

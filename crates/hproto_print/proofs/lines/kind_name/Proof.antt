@@ -4,7 +4,7 @@ use mathlib.Core.Path.{sym, subst}
 use denote.Ref.{now}
 use Rattle.hproto_table.specs.declared.Meaning.{Meaning}
 use Rattle.hproto_print.specs.Ascii.{ascii}
-use Rattle.hproto_print.specs.Window.{Room, Printed}
+use Rattle.hproto_print.specs.Window.{FitsU64, Printed}
 use Rattle.hproto_print.specs.Walk.{meaningName}
 use Rattle.hproto_print.proofs.lines.kind_name.Statement.{statement}
 use Rattle.hproto_print.proofs.lines.kind_name.Tie as tie
@@ -19,7 +19,7 @@ octets-requires : tie.Need-octets-requires
 unfolding meaningName ascii
 octets-requires c κs =
     let b = c .before .before .before .before .before in
-    subst (λ (k : Meaning). Room (b .args .at) (meaningName k)) (c .before .before .enum-told .given .1) (b .pre)
+    subst (λ (k : Meaning). FitsU64 (b .args .at) (meaningName k)) (c .before .before .enum-told .given .1) (b .pre)
 
 enum-told-2 : tie.Need-enum-told-2
 enum-told-2 c = search needs
@@ -31,7 +31,7 @@ octets-requires-2 : tie.Need-octets-requires-2
 unfolding meaningName ascii
 octets-requires-2 c κs =
     let b = c .before .before .before .before .before in
-    subst (λ (k : Meaning). Room (b .args .at) (meaningName k)) (c .before .before .enum-told2 .given .1) (b .pre)
+    subst (λ (k : Meaning). FitsU64 (b .args .at) (meaningName k)) (c .before .before .enum-told2 .given .1) (b .pre)
 
 enum-told-3 : tie.Need-enum-told-3
 enum-told-3 c = search needs
@@ -43,7 +43,7 @@ octets-requires-3 : tie.Need-octets-requires-3
 unfolding meaningName ascii
 octets-requires-3 c κs =
     let b = c .before .before .before .before .before in
-    subst (λ (k : Meaning). Room (b .args .at) (meaningName k)) (c .before .before .enum-told3 .given .1) (b .pre)
+    subst (λ (k : Meaning). FitsU64 (b .args .at) (meaningName k)) (c .before .before .enum-told3 .given .1) (b .pre)
 
 enum-told-4 : tie.Need-enum-told-4
 enum-told-4 c = search needs
@@ -55,7 +55,7 @@ octets-requires-4 : tie.Need-octets-requires-4
 unfolding meaningName ascii
 octets-requires-4 c κs =
     let b = c .before .before .before .before .before in
-    subst (λ (k : Meaning). Room (b .args .at) (meaningName k)) (c .before .before .enum-told4 .given .1) (b .pre)
+    subst (λ (k : Meaning). FitsU64 (b .args .at) (meaningName k)) (c .before .before .enum-told4 .given .1) (b .pre)
 
 enum-told-5 : tie.Need-enum-told-5
 enum-told-5 c = search needs
@@ -67,7 +67,7 @@ octets-requires-5 : tie.Need-octets-requires-5
 unfolding meaningName ascii
 octets-requires-5 c κs =
     let b = c .before .before .before .before .before in
-    subst (λ (k : Meaning). Room (b .args .at) (meaningName k)) (c .before .before .enum-told5 .given .1) (b .pre)
+    subst (λ (k : Meaning). FitsU64 (b .args .at) (meaningName k)) (c .before .before .enum-told5 .given .1) (b .pre)
 
 enum-told-6 : tie.Need-enum-told-6
 enum-told-6 c = search needs
@@ -79,7 +79,7 @@ octets-requires-6 : tie.Need-octets-requires-6
 unfolding meaningName ascii
 octets-requires-6 c κs =
     let b = c .before .before .before .before .before in
-    subst (λ (k : Meaning). Room (b .args .at) (meaningName k)) (c .before .before .enum-told6 .given .1) (b .pre)
+    subst (λ (k : Meaning). FitsU64 (b .args .at) (meaningName k)) (c .before .before .enum-told6 .given .1) (b .pre)
 
 same-length : tie.Need-same-length
 same-length c = search needs

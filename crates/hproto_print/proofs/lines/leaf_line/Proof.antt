@@ -8,7 +8,7 @@ use denote.Ref.{now}
 use lib.ListN.{length-append}
 use Rattle.hproto_message.specs.Tree.{value}
 use Rattle.hproto_print.specs.Ascii.{ascii}
-use Rattle.hproto_print.specs.Window.{Room}
+use Rattle.hproto_print.specs.Window.{FitsU64}
 use Rattle.hproto_print.specs.Text.{front, valueText, kindName, line}
 use Rattle.hproto_print.specs.Walk.{meaningName}
 use Rattle.hproto_print.proofs.Values.{name-is}
@@ -20,9 +20,9 @@ use Rattle.hproto_print.proofs.lines.leaf_line.Tie as tie
 abbrev text : tie.Start → List ℕ
 text b = line (b .args .depth) (b .args .tag) (meaningName (b .args .kind)) (valueText (value (b .args .kind) (now (b .args .s))))
 
-fits : (b : tie.Start) → Room (b .args .at) (text b)
+fits : (b : tie.Start) → FitsU64 (b .args .at) (text b)
 fits b =
-    subst (λ (k : List ℕ). Room (b .args .at) (line (b .args .depth) (b .args .tag) k (valueText (value (b .args .kind) (now (b .args .s))))))
+    subst (λ (k : List ℕ). FitsU64 (b .args .at) (line (b .args .depth) (b .args .tag) k (valueText (value (b .args .kind) (now (b .args .s))))))
     (sym (name-is (b .args .kind) (now (b .args .s)) (b .pre .0))) (b .pre .1)
 
 front-requires : tie.Need-front-requires

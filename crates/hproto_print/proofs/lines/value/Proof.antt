@@ -5,7 +5,7 @@ use denote.Ref.{now}
 use Rattle.hproto_table.specs.declared.Meaning.{Meaning}
 use Rattle.hproto_message.specs.Cut.{Contents}
 use Rattle.hproto_message.specs.Tree.{value}
-use Rattle.hproto_print.specs.Window.{Room, Printed}
+use Rattle.hproto_print.specs.Window.{FitsU64, Printed}
 use Rattle.hproto_print.specs.Text.{valueText}
 use Rattle.hproto_print.proofs.lines.value.Statement.{statement}
 use Rattle.hproto_print.proofs.lines.value.Tie as tie
@@ -17,7 +17,7 @@ hex-or-dash-requires : tie.Need-hex-or-dash-requires
 unfolding valueText value Contents
 hex-or-dash-requires c κs =
     let b = c .before .before .before .before .before in
-    subst (λ (k : Meaning). Room (b .args .at) (valueText (value k (now (b .args .s))))) (c .before .enum-told .given .1) (b .pre .1)
+    subst (λ (k : Meaning). FitsU64 (b .args .at) (valueText (value k (now (b .args .s))))) (c .before .enum-told .given .1) (b .pre .1)
 
 enum-told-2 : tie.Need-enum-told-2
 enum-told-2 c = search needs
@@ -26,7 +26,7 @@ uint-requires : tie.Need-uint-requires
 unfolding valueText value Contents
 uint-requires c κs =
     let b = c .before .before .before .before .before in
-    (subst (λ (k : Meaning). Contents k (now (b .args .s))) (c .before .enum-told2 .given .1) (b .pre .0), subst (λ (k : Meaning). Room (b .args .at) (valueText (value k (now (b .args .s))))) (c .before .enum-told2 .given .1) (b .pre .1))
+    (subst (λ (k : Meaning). Contents k (now (b .args .s))) (c .before .enum-told2 .given .1) (b .pre .0), subst (λ (k : Meaning). FitsU64 (b .args .at) (valueText (value k (now (b .args .s))))) (c .before .enum-told2 .given .1) (b .pre .1))
 
 enum-told-3 : tie.Need-enum-told-3
 enum-told-3 c = search needs
@@ -35,7 +35,7 @@ int-requires : tie.Need-int-requires
 unfolding valueText value Contents
 int-requires c κs =
     let b = c .before .before .before .before .before in
-    (subst (λ (k : Meaning). Contents k (now (b .args .s))) (c .before .enum-told3 .given .1) (b .pre .0), subst (λ (k : Meaning). Room (b .args .at) (valueText (value k (now (b .args .s))))) (c .before .enum-told3 .given .1) (b .pre .1))
+    (subst (λ (k : Meaning). Contents k (now (b .args .s))) (c .before .enum-told3 .given .1) (b .pre .0), subst (λ (k : Meaning). FitsU64 (b .args .at) (valueText (value k (now (b .args .s))))) (c .before .enum-told3 .given .1) (b .pre .1))
 
 enum-told-4 : tie.Need-enum-told-4
 enum-told-4 c = search needs
@@ -44,7 +44,7 @@ hex-or-dash-requires-2 : tie.Need-hex-or-dash-requires-2
 unfolding valueText value Contents
 hex-or-dash-requires-2 c κs =
     let b = c .before .before .before .before .before in
-    subst (λ (k : Meaning). Room (b .args .at) (valueText (value k (now (b .args .s))))) (c .before .enum-told4 .given .1) (b .pre .1)
+    subst (λ (k : Meaning). FitsU64 (b .args .at) (valueText (value k (now (b .args .s))))) (c .before .enum-told4 .given .1) (b .pre .1)
 
 enum-told-5 : tie.Need-enum-told-5
 enum-told-5 c = search needs
@@ -53,7 +53,7 @@ hex-or-dash-requires-3 : tie.Need-hex-or-dash-requires-3
 unfolding valueText value Contents
 hex-or-dash-requires-3 c κs =
     let b = c .before .before .before .before .before in
-    subst (λ (k : Meaning). Room (b .args .at) (valueText (value k (now (b .args .s))))) (c .before .enum-told5 .given .1) (b .pre .1)
+    subst (λ (k : Meaning). FitsU64 (b .args .at) (valueText (value k (now (b .args .s))))) (c .before .enum-told5 .given .1) (b .pre .1)
 
 enum-told-6 : tie.Need-enum-told-6
 enum-told-6 c = search needs
@@ -62,7 +62,7 @@ hex-or-dash-requires-4 : tie.Need-hex-or-dash-requires-4
 unfolding valueText value Contents
 hex-or-dash-requires-4 c κs =
     let b = c .before .before .before .before .before in
-    subst (λ (k : Meaning). Room (b .args .at) (valueText (value k (now (b .args .s))))) (c .before .enum-told6 .given .1) (b .pre .1)
+    subst (λ (k : Meaning). FitsU64 (b .args .at) (valueText (value k (now (b .args .s))))) (c .before .enum-told6 .given .1) (b .pre .1)
 
 same-length : tie.Need-same-length
 same-length c = search needs

@@ -2,7 +2,7 @@
 use borrow.Author.Needs.{needs}
 use mathlib.Core.Path.{sym, subst}
 use denote.Ref.{now}
-use Rattle.hproto_print.specs.Window.{Room}
+use Rattle.hproto_print.specs.Window.{FitsU64}
 use Rattle.hproto_print.specs.Digits.{hex, hexOrDash}
 use Rattle.hproto_print.proofs.Pieces.{dash-is, hex-is}
 use Rattle.hproto_print.proofs.Windows.{same-place}
@@ -12,7 +12,7 @@ use Rattle.hproto_print.proofs.print.hex_or_dash.Tie as tie
 put-requires : tie.Need-put-requires
 put-requires c κs =
     let b = c .before .before .before .before in
-    subst (Room (b .args .at)) (dash-is (now (b .args .s)) (c .before .if1 .taken)) (b .pre)
+    subst (FitsU64 (b .args .at)) (dash-is (now (b .args .s)) (c .before .if1 .taken)) (b .pre)
 
 same-length : tie.Need-same-length
 same-length c = search needs
@@ -25,7 +25,7 @@ returns c =
 hex-requires : tie.Need-hex-requires
 hex-requires c κs =
     let b = c .before .before .before .before in
-    subst (Room (b .args .at)) (hex-is (now (b .args .s)) (c .before .if1 .left)) (b .pre)
+    subst (FitsU64 (b .args .at)) (hex-is (now (b .args .s)) (c .before .if1 .left)) (b .pre)
 
 same-length-2 : tie.Need-same-length-2
 same-length-2 c = search needs
