@@ -9,14 +9,15 @@ use lib.ListN.{length, drop, length-append, length-drop}
 use lib.Seq.{take-at, drop-at}
 use lib.Dec.{ltb}
 use borrow.Author.Tests.{ltb-false, le-ltb}
+use Rattle.reading.specs.Reading.{messageLimit}
 use Rattle.octets.specs.Control.{leastCode}
-use Rattle.hproto_put.proofs.Stores.{stored-parts}
-use Rattle.hproto_frame.specs.Frame.{frameCode, readAccepted, frameRead, messagePart, shortestPrefix, framed, writeRefused, frameWritten, frameStored}
+use Rattle.hproto_store.proofs.Stores.{stored-parts}
+use Rattle.hproto_frame.specs.Frame.{frameCode, bufferLimit, readAccepted, frameRead, messagePart, shortestPrefix, framed, writeRefused, frameWritten, frameStored}
 use Rattle.hproto_frame.proofs.Prefixes.{prefix-form}
 use Rattle.hproto_frame.proofs.Accepted.{read-form}
 
 -- A frame is read whatever stands after it.
-pub framed-read : (m r : List ℕ) → length m ≤ 65536 → length (framed m ++ r) ≤ 65545
+pub framed-read : (m r : List ℕ) → length m ≤ messageLimit → length (framed m ++ r) ≤ bufferLimit
     → frameRead (framed m ++ r) ≡ readAccepted (length (shortestPrefix (length m))) (length (framed m))
 unfolding framed shortestPrefix
 framed-read m r h k =
@@ -40,7 +41,7 @@ framed-message m r =
     rw (n, append-assoc p m r, drop-at p (m ++ r) (length p) refl) (take-at m r (length m) refl)
 
 -- The buffer after the writer is the frame and what stood beyond.
-pub stored-frame : (m out : List ℕ) → length m ≤ 65536 → length (framed m) ≤ length out
+pub stored-frame : (m out : List ℕ) → length m ≤ messageLimit → length (framed m) ≤ length out
     → frameStored m out ≡ framed m ++ drop (length (framed m)) out
 unfolding frameStored
 stored-frame m out h k =
@@ -55,7 +56,7 @@ pub record ReadBack (m out b : List ℕ) : Type 0 where
 
 -- Where the writer accepts, message and frame are within their limits.
 pub record WrittenWhole (m : List ℕ) (room : ℕ) : Type 0 where
-  pub message-limit : length m ≤ 65536
+  pub message-limit : length m ≤ messageLimit
   pub fits : length (framed m) ≤ room
   pub size-is : frameWritten m room .length ≡ length (framed m)
 
@@ -71,13 +72,13 @@ written-whole m room e =
   where
     limits : (t u : Bool) → ltb 65536 (length m) ≡ t → ltb room (length (framed m)) ≡ u
         → cond t (writeRefused 1) (cond u (writeRefused 9) (record { refusal = 0; place = 0; length = length (framed m) })) .refusal ≡ 0
-        → (length m ≤ 65536) × (length (framed m) ≤ room)
+        → (length m ≤ messageLimit) × (length (framed m) ≤ room)
     limits true u f g e = absurd (omega arith)
     limits false true f g e = absurd (omega arith)
     limits false false f g e = (ltb-false 65536 (length m) f, ltb-false room (length (framed m)) g)
 
 -- What is written is read back as the same message with the place after it, and what stood beyond is still there.
-pub written-read-back : (m out : List ℕ) → frameWritten m (length out) .refusal ≡ 0 → length out ≤ 65545 → ReadBack m out (frameStored m out)
+pub written-read-back : (m out : List ℕ) → frameWritten m (length out) .refusal ≡ 0 → length out ≤ bufferLimit → ReadBack m out (frameStored m out)
 written-read-back m out e k =
     let w = written-whole m (length out) e in
     let f = w .fits in

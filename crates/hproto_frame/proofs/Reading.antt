@@ -4,33 +4,19 @@ use native.Mathlib.Omega.{arith}
 use mathlib.Core.Path.{_≡_, sym, _∙_}
 use mathlib.Core.List.{List, [], _∷_}
 use lib.ListN.{length, getD, take, drop, length-drop}
-use borrow.Author.Tests.{lt-ltb, le-ltb, le-leb}
-use Rattle.octets.specs.Number.{number, unsigned}
-use Rattle.octets.specs.declared.Unsigned.{Unsigned}
-use Rattle.octets.specs.declared.Unsigned.the-variants.{Value, Long}
+use borrow.Author.Tests.{lt-ltb, le-ltb}
+use Rattle.octets.specs.Number.{unsigned}
 use Rattle.octets.specs.Control.{following, coded}
+use Rattle.octets.proofs.Number.{unsigned-is}
 use Rattle.hproto_frame.specs.Frame.{frameCode, readRefused, readAccepted, announced, prefixed, frontRead, frameRead}
-
--- The number that at most eight octets hold.
-unsigned-few : (s : List ℕ) (u : Unsigned) → length s ≤ 8 → u ≡ unsigned s → u ≡ Value (number s)
-unfolding unsigned
-unsigned-few s u h e = e ∙ rw (le-leb (length s) 8 h)
 
 pub size-direct : (x : ℕ) (s : List ℕ) → x < 0xfc → x ≡ coded frameCode x s
 unfolding coded
 size-direct x s h = rw (lt-ltb x 0xfc h)
 
-pub size-follows : (x v : ℕ) (s : List ℕ) (u : Unsigned) → 0xfc ≤ x → length s ≤ 8 → u ≡ unsigned s → u ≡ Value v → v ≡ coded frameCode x s
+pub size-follows : (x v : ℕ) (s : List ℕ) → 0xfc ≤ x → length s ≤ 8 → v ≡ unsigned s → v ≡ coded frameCode x s
 unfolding coded
-size-follows x v s u h k e f =
-    let g = unsigned-few s u k e in
-    rw (le-ltb x 0xfc h) (cc)
-
-pub size-not-long : (s : List ℕ) (u : Unsigned) → length s ≤ 8 → u ≡ unsigned s → u ≡ Long → ⊥
-size-not-long s u k e f =
-    let g = unsigned-few s u k e in
-    let z : _≡_ {A = ℕ} 0 1 = cc in
-    omega arith
+size-follows x v s h k e = e ∙ rw (le-ltb x 0xfc h) (unsigned-is s k)
 
 -- The last first octet of a prefix.
 pub last-lead : (x : ℕ) → x < 0x100 → 0xfc ≤ x → (x ≡ 0xfc → ⊥) → (x ≡ 0xfd → ⊥) → (x ≡ 0xfe → ⊥) → x ≡ 0xff

@@ -9,8 +9,8 @@ use lib.Dec.{ltb}
 use borrow.Author.Tests.{ltb-true, lt-ltb, le-ltb}
 use Rattle.octets.specs.Number.{octetsOf}
 use Rattle.octets.proofs.Number.{length-octetsOf}
-use Rattle.hproto_put.specs.Store.{stored}
-use Rattle.hproto_put.proofs.Stores.{stored-too-long, stored-three}
+use Rattle.hproto_store.specs.Store.{stored}
+use Rattle.hproto_store.proofs.Stores.{stored-too-long, stored-three}
 use Rattle.hproto_frame.specs.Frame.{writeRefused, framed, frameWritten, frameStored}
 use Rattle.hproto_frame.specs.Lead.{LeastPrefix}
 use Rattle.hproto_frame.specs.declared.FrameWritten.{FrameWritten}

@@ -5,7 +5,8 @@ use mathlib.Core.List.{List, [], _∷_, _++_}
 use lib.ListN.{length, take, drop}
 use lib.Dec.{ltb}
 use Rattle.octets.specs.Control.{Code, following, coded, leastCode}
-use Rattle.hproto_put.specs.Store.{stored}
+use Rattle.reading.specs.Reading.{messageLimit}
+use Rattle.hproto_store.specs.Store.{stored}
 use Rattle.hproto_frame.specs.declared.FrameRead.{FrameRead}
 use Rattle.hproto_frame.specs.declared.FrameWritten.{FrameWritten}
 
@@ -13,10 +14,7 @@ use Rattle.hproto_frame.specs.declared.FrameWritten.{FrameWritten}
 abbrev pub frameCode : Code
 frameCode = record { direct = 0xfc; widths = 1 ∷ 2 ∷ 4 ∷ 8 ∷ [] }
 
--- The limits of a message, and of the buffer of a frame reader: the longest prefix and the longest message.
-abbrev pub messageLimit : ℕ
-messageLimit = 65536
-
+-- The limit of the buffer of a frame reader: the longest prefix and the longest message.
 abbrev pub bufferLimit : ℕ
 bufferLimit = 65545
 

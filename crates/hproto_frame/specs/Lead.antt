@@ -1,4 +1,4 @@
--- What a private function of this crate answers.
+-- What the private function `shortest_prefix` answers.
 use Prim.Native.Nat.{ℕ, _≤_}
 use mathlib.Core.Path.{_≡_}
 use lib.ListN.{length}

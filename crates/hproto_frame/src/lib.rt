@@ -1,8 +1,8 @@
 // Frames: reading the prefix of a framed message, and writing a message with its prefix.
-use octets::Unsigned;
 ghost use mathlib.Core.Path.{_≡_};
 ghost use Prim.Native.Nat.{_≤_};
 ghost use lib.ListN.{length};
+ghost use Rattle.reading.specs.Reading.{messageLimit};
 ghost use Rattle.octets.specs.Control.{following, coded};
 ghost use Rattle.hproto_frame.specs.Frame.{frameCode, readRefused, writeRefused, frameRead, frameWritten, frameStored};
 ghost use Rattle.hproto_frame.specs.Lead.{LeastPrefix};
@@ -83,10 +83,7 @@ fn size(x: u8, s: &[u8]) -> u64
     if x < 0xfc {
         return x as u64;
     }
-    match octets_read::uint(s) {
-        Unsigned::Value(v) => v,
-        Unsigned::Long => 0,
-    }
+    octets_read::uint(s)
 }
 
 // The message part of the frame at the front of a buffer. A size of eight octets can be so large that no place can be added to it, so
@@ -130,7 +127,7 @@ struct Lead {
 
 // The shortest prefix of a message's size. No message is so long that its size takes eight octets.
 fn shortest_prefix(size: u64) -> Lead
-    requires { ⌜ size ≤ 65536 ⌝ }
+    requires { ⌜ size ≤ messageLimit ⌝ }
     ensures { λ r. ⌜ LeastPrefix size (r .octet) (r .width) ⌝ }
 {
     if size < 0xfc {
@@ -174,7 +171,7 @@ pub fn frame_write(message: &[u8], out: &mut [u8]) -> FrameWritten
     }
     out[0] = lead.octet;
     hproto_put::put_number(out, 1, lead.width, size as u64);
-    hproto_put::put_octets(out, start, message);
+    hproto_store::put_octets(out, start, message);
     FrameWritten {
         refusal: 0,
         place: 0,

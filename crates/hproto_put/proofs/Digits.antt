@@ -1,15 +1,57 @@
--- Storing the octets of a number from the first on.
+-- Storing the octets of a number, from the last one back or from the first on.
 use Prim.Native.Nat.{ℕ, zero, suc, _+_, _*_, _-_, _/_, _%_, _^_, _≤_, _<_}
+use native.Mathlib.Nat.{pow-suc, div-div-eq-div-mul, div-one}
+use native.Mathlib.Numerals.{add-one}
 use native.Mathlib.Omega.{arith}
-use mathlib.Core.Path.{_≡_, ap, _∙_}
+use mathlib.Core.Path.{_≡_, refl, sym, ap, _∙_}
 use mathlib.Core.List.{List}
 use lib.ListN.{length, getD, set}
 use lib.Seq.{take-all}
 use Rattle.octets.specs.Number.{octetsOf}
 use Rattle.octets.proofs.Number.{length-octetsOf}
 use Rattle.octets_least.proofs.Widths.{power-digits}
-use Rattle.hproto_put.specs.Store.{stored}
-use Rattle.hproto_put.proofs.Turns.{CopiedUp, copy-begun, copy-turn, copy-ended}
+use Rattle.hproto_store.specs.Store.{stored}
+use Rattle.hproto_store.proofs.Stores.{stored-too-long}
+use Rattle.hproto_store.proofs.Turns.{Written, written-length, written-stored, none-written, one-before, CopiedUp, copy-begun, copy-turn, copy-ended}
+
+-- The last k octets of v are stored at the end of the place for n, and `rest` is what is left of v before them.
+pub record NumberDown (d : List ℕ) (at n v : ℕ) (out : List ℕ) (rest k : ℕ) : Type 0 where
+  pub inside : k ≤ n
+  pub room : at + n ≤ length d
+  pub long : length out ≡ length d
+  pub left : rest ≡ v / 256 ^ k
+  pub written : Written d (at + (n - k)) (octetsOf k v) out
+
+pub number-begun : (d : List ℕ) (at n v : ℕ) → at + n ≤ length d → NumberDown d at n v d v 0
+unfolding octetsOf
+number-begun d at n v h =
+    record { inside = omega arith; room = h; long = refl; left = sym (div-one v); written = none-written d (at + (n - 0)) (omega arith) }
+
+pub number-turn : (d : List ℕ) (at n v : ℕ) (out : List ℕ) (rest k : ℕ) → k < n → NumberDown d at n v out rest k
+    → NumberDown d at n v (set out (at + (n - (k + 1))) (rest % 256)) (rest / 256) (k + 1)
+unfolding octetsOf
+number-turn d at n v out rest k h p =
+    let j = at + (n - (k + 1)) in
+    let w : Written d j (octetsOf (k + 1) v) (set out j (rest % 256)) =
+    rw (add-one k, p .left) (one-before d (at + (n - k)) (at + (n - suc k)) (v / 256 ^ k % 256) (octetsOf k v) out (omega arith) (p .written)) in
+    record {
+      inside = omega arith;
+      room = p .room;
+      long = written-length d j (octetsOf (k + 1) v) (set out j (rest % 256)) w;
+      left = rw (p .left, add-one k, pow-suc 256 k) (div-div-eq-div-mul v (256 ^ k) 256);
+      written = w;
+    }
+
+pub number-ended : (d : List ℕ) (at n v : ℕ) (out : List ℕ) (rest k : ℕ) → n ≤ k → NumberDown d at n v out rest k
+    → out ≡ stored d at (octetsOf n v)
+number-ended d at n v out rest k h p =
+    let a = p .inside in
+    let e : at + (n - k) ≡ at = omega arith in
+    let f : k ≡ n = omega arith in
+    written-stored d (at + (n - k)) (octetsOf k v) out (p .written) ∙ rw (e, f)
+
+pub number-too-long : (d : List ℕ) (at n v : ℕ) → length d < at + n → d ≡ stored d at (octetsOf n v)
+number-too-long d at n v h = let l = length-octetsOf n v in sym (stored-too-long d at (octetsOf n v) (omega arith))
 
 -- The octet at index k has as many after it as the power says.
 octet-at : (n k v : ℕ) → k < n → getD (octetsOf n v) k 0 ≡ v / 256 ^ (n - 1 - k) % 256

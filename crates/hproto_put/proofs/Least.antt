@@ -10,8 +10,8 @@ use Rattle.octets.specs.Number.{octetsOf}
 use Rattle.octets.specs.Control.{Code, tagCode, lengthCode, firstFit, leastCode, leastControl, controlWidths}
 use Rattle.octets.specs.declared.LeastControl.{LeastControl}
 use Rattle.octets.proofs.Number.{length-octetsOf}
-use Rattle.hproto_put.specs.Store.{stored}
-use Rattle.hproto_put.proofs.Stores.{stored-three}
+use Rattle.hproto_store.specs.Store.{stored}
+use Rattle.hproto_store.proofs.Stores.{stored-three}
 
 firstFit-octetsOf : (d : ℕ) (ws : List ℕ) (v : ℕ) → firstFit d ws v .1 ≡ octetsOf (length (firstFit d ws v .1)) v
 unfolding firstFit octetsOf

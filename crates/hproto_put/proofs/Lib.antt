@@ -1,8 +1,2 @@
-pub mod Room
-pub mod Sets
-pub mod Stores
-pub mod Moves
-pub mod Kept
-pub mod Turns
 pub mod Digits
 pub mod Least

@@ -1,12 +1,11 @@
 -- Every run reaches a state with what proofs/Reached.antt says: each accepted call keeps it.
-use Prim.Native.Nat.{ℕ, _-_, _≤_}
+use Prim.Native.Nat.{ℕ, _-_}
 use native.Mathlib.Omega.{arith}
 use mathlib.Core.Path.{_≡_, refl, sym, ap, _∙_}
 use mathlib.Core.Bool.{Bool, true}
 use mathlib.Core.List.{List}
 use lib.ListN.{length}
-use lib.Dec.{leb, eqb}
-use borrow.Author.Tests.{leb-true}
+use lib.Dec.{eqb}
 use Rattle.octets.specs.Number.{leastUint}
 use Rattle.octets.specs.Signed.{leastInt}
 use Rattle.hproto_table.specs.Entry.{entries, find, kindNumber, innerOf}
@@ -14,46 +13,37 @@ use Rattle.hproto_table.specs.declared.Meaning.{Meaning}
 use Rattle.hproto_table.specs.declared.Table.{Table}
 use Rattle.hproto_message.specs.Tree.{Tree, end, leaf, Value, uint, int}
 use Rattle.hproto_message.specs.Shortest.{field, shortest}
-use Rattle.hproto_writer.specs.Calls.{orRefuse, answered, left, meant, ofOctets, readable, started, put, putBuffer, putRefusal, opening, closing, closeBuffer, closingPart, closeRefusal}
-use Rattle.hproto_writer.specs.declared.State.{State}
-use Rattle.hproto_writer.proofs.Answers.{field-length}
-use Rattle.hproto_writer.proofs.Refusals.{narrow}
+use Rattle.hproto_state.specs.Calls.{answered, bufferAfter, meant, ofOctets, readable, started, put, putBuffer, putRefusal, opening, closing, closeBuffer, closingPart}
+use Rattle.hproto_state.specs.declared.State.{State}
+use Rattle.hproto_state.proofs.Conditions.{start-met, put-met, open-met, close-room}
+use Rattle.hproto_message.proofs.Fields.{field-length}
+use Rattle.hproto_state.proofs.Tags.{narrow}
 use Rattle.hproto_written.specs.Given.{Given, message, opened, onFields, closed, openFields, innermost}
 use Rattle.hproto_written.specs.Run.{InRange, octetsAs, kindIn, giving, Run, start, next}
-use Rattle.hproto_writer.specs.Answer.{Call, putUint, putInt, putOctets, openField, closeField, answer, buffer}
+use Rattle.hproto_state.specs.Answer.{Call, putUint, putInt, putOctets, openField, closeField, answer, buffer}
 use Rattle.hproto_written.proofs.ReadsBack.{reads-leaf}
 use Rattle.hproto_written.proofs.Fields.{read-more}
 use Rattle.hproto_written.proofs.Suits.{Suits, is-message, suits-uint, suits-int, suits-octets}
 use Rattle.hproto_written.proofs.Reached.{Reached, reached-meant}
 use Rattle.hproto_written.proofs.Moves.{reached-begun, reached-stored, reached-deeper, closing-part, reached-outer}
-use Rattle.hproto_written.proofs.Decided.{met, start-met, put-decided, open-decided, close-decided}
 
 reached-start : (t : Table) (number : ℕ) (lent : List ℕ) → started t number (length lent) .refusal ≡ 0
     → Reached t number lent (started t number (length lent) .state) lent (message end)
 unfolding started answered
 reached-start t number lent e =
     let m = start-met t number (length lent) e in
-    rw e (reached-begun t number lent (m .1) (leb-true number 15 (m .2)) (leb-true (length lent) 65536 (m .0)))
+    rw e (reached-begun t number lent (m .table) (m .small) (m .short))
 
 module _ (t : Table) (number : ℕ) (lent : List ℕ) (s : State) (d : List ℕ) where
   module _ (g : Given) (r : Reached t number lent s d g) (tag : ℕ) where
     abbrev means : Meaning
     means = find (entries t) (innermost (entries t) number g) tag
 
-    -- What a put that is accepted has met.
-    put-met : (agrees reads : Bool) (size : ℕ) → putRefusal t s (length d) agrees reads size ≡ 0 → (agrees ≡ true) × (reads ≡ true) × (size ≤ s .start)
-    put-met agrees reads size e =
-        let c = orRefuse (leb size (s .start)) 9 0 in
-        let x = met agrees 7 (orRefuse reads 7 c) (sym (put-decided t number lent s d g r agrees reads size) ∙ e) in
-        let y = met reads 6 c (x .1) in
-        let z = met (leb size (s .start)) 8 0 (y .1) in
-        (x .0, y .0, leb-true size (s .start) (z .0))
-
     reached-put : (agrees reads : Bool) (xs : List ℕ) (v : Value) → Suits means v xs → putRefusal t s (length d) agrees reads (length (field tag xs)) ≡ 0
         → Reached t number lent (put t s tag agrees reads xs (length d) .state) (putBuffer t s tag agrees reads xs d) (onFields (leaf tag v) g)
-    unfolding put putBuffer answered left
+    unfolding put putBuffer answered bufferAfter
     reached-put agrees reads xs v f e =
-        let h = put-met agrees reads (length (field tag xs)) e .2 in
+        let h = put-met t s (length d) agrees reads (length (field tag xs)) e .room in
         let l = field-length tag xs in
         let p = r .filled .place in
         let limit = r .limit in
@@ -73,36 +63,25 @@ module _ (t : Table) (number : ℕ) (lent : List ℕ) (s : State) (d : List ℕ)
     unfolding opening answered
     reached-open e =
         let agrees = eqb (kindNumber (meant t s tag)) 5 in
-        let x = met agrees 7 (orRefuse (leb (s .opened) 6) 5 0) (sym (open-decided t number lent s d g r agrees) ∙ e) in
-        let y = met (leb (s .opened) 6) 4 0 (x .1) in
+        let x = open-met t s agrees e in
         let i = is-message means (by-given (λ (k : Meaning). eqb (kindNumber k) 5) (x .0)) in
         let m = reached-meant t number lent s d g r tag in
-        let k = leb-true (s .opened) 6 (y .0) in
+        let k = x .1 in
         let c = r .count in
         let five : kindNumber (meant t s tag) ≡ 5 = ap kindNumber (m ∙ i .1) ∙ (unfold kindNumber in refl) in
         let h = narrow t s tag (λ z. omega arith) in
         let in-it : innerOf (meant t s tag) ≡ i .0 = ap innerOf (m ∙ i .1) ∙ (unfold innerOf in refl) in
         rw (e, in-it) (reached-deeper t number lent s d g r tag (i .0) h (i .1) (omega arith))
 
-  -- What a close that is accepted has met.
-  close-met : (g : Given) → Reached t number lent s d g → closeRefusal t s (length d) ≡ 0 → (1 ≤ s .opened) × (length (closingPart s) ≤ s .start)
-  close-met g r e =
-      let room = leb (length (closingPart s)) (s .start) in
-      let x = met (leb 1 (s .opened)) 10 (orRefuse room 9 0) (sym (close-decided t number lent s d g r) ∙ e) in
-      let y = met room 8 0 (x .1) in
-      (leb-true 1 (s .opened) (x .0), leb-true (length (closingPart s)) (s .start) (y .0))
-
   reached-close : (g : Given) → Reached t number lent s d g → closing t s (length d) .refusal ≡ 0
       → Reached t number lent (closing t s (length d) .state) (closeBuffer t s d) (closed g)
-  unfolding closing closeBuffer answered left closed openFields
+  unfolding closing closeBuffer answered bufferAfter closed openFields
   reached-close (message w) r e =
-      let m = close-met (message w) r e in
-      let h = m .0 in
+      let h = close-room t s (length d) e .0 .some-open in
       let c = r .count in
       absurd (omega arith)
   reached-close (opened tag w around) r e =
-      let m = close-met (opened tag w around) r e in
-      rw e (reached-outer t number lent s d tag w around r (closingPart s) (closing-part t number lent s d tag w around r) (m .1))
+      rw e (reached-outer t number lent s d tag w around r (closingPart s) (closing-part t number lent s d tag w around r) (close-room t s (length d) e .1))
 
   -- An accepted call keeps what holds of the state and the buffer.
   reached-next : (g : Given) → Reached t number lent s d g → (c : Call) → InRange c → answer t s d c .refusal ≡ 0
@@ -110,21 +89,21 @@ module _ (t : Table) (number : ℕ) (lent : List ℕ) (s : State) (d : List ℕ)
   unfolding InRange answer buffer kindIn giving put answered
   reached-next g r (putUint tag v) h e =
       let agrees = eqb (kindNumber (meant t s tag)) 1 in
-      let m = put-met g r tag agrees true (length (field tag (leastUint v))) e in
+      let m = put-met t s (length d) agrees true (length (field tag (leastUint v))) e in
       reached-put g r tag agrees true (leastUint v) (uint v)
-      (suits-uint (means g r tag) v h (by-given g r tag (λ (k : Meaning). eqb (kindNumber k) 1) (m .0))) e
+      (suits-uint (means g r tag) v h (by-given g r tag (λ (k : Meaning). eqb (kindNumber k) 1) (m .agreed))) e
   reached-next g r (putInt tag z) h e =
       let agrees = eqb (kindNumber (meant t s tag)) 2 in
-      let m = put-met g r tag agrees true (length (field tag (leastInt z))) e in
+      let m = put-met t s (length d) agrees true (length (field tag (leastInt z))) e in
       reached-put g r tag agrees true (leastInt z) (int z)
-      (suits-int (means g r tag) z h (by-given g r tag (λ (k : Meaning). eqb (kindNumber k) 2) (m .0))) e
+      (suits-int (means g r tag) z h (by-given g r tag (λ (k : Meaning). eqb (kindNumber k) 2) (m .agreed))) e
   reached-next g r (putOctets tag xs) h e =
       let agrees = ofOctets (kindNumber (meant t s tag)) in
       let reads = readable (kindNumber (meant t s tag)) xs in
-      let m = put-met g r tag agrees reads (length (field tag xs)) e in
+      let m = put-met t s (length d) agrees reads (length (field tag xs)) e in
       reached-put g r tag agrees reads xs (octetsAs (kindNumber (means g r tag)) xs)
-      (suits-octets (means g r tag) xs (by-given g r tag (λ (k : Meaning). ofOctets (kindNumber k)) (m .0))
-      (by-given g r tag (λ (k : Meaning). readable (kindNumber k) xs) (m .1))) e
+      (suits-octets (means g r tag) xs (by-given g r tag (λ (k : Meaning). ofOctets (kindNumber k)) (m .agreed))
+      (by-given g r tag (λ (k : Meaning). readable (kindNumber k) xs) (m .read))) e
   reached-next g r (openField tag) h e = reached-open g r tag e
   reached-next g r closeField h e = reached-close g r e
 

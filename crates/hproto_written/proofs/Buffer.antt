@@ -5,8 +5,8 @@ use mathlib.Core.Path.{_≡_, refl, sym, ap, _∙_}
 use mathlib.Core.List.{List, [], _++_}
 use lib.ListN.{length, take, drop, length-append}
 use lib.Seq.{take-take, drop-length}
-use Rattle.hproto_put.specs.Store.{stored}
-use Rattle.hproto_put.proofs.Stores.{length-stored, drop-stored, take-before-stored}
+use Rattle.hproto_store.specs.Store.{stored}
+use Rattle.hproto_store.proofs.Stores.{length-stored, drop-stored, take-before-stored}
 
 -- The octets xs stand from a place to the end, and the octets before that place are as they were lent.
 pub record Filled (lent d : List ℕ) (start : ℕ) (xs : List ℕ) : Type 0 where

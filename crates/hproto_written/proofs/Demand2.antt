@@ -10,12 +10,12 @@ use Rattle.hproto_message.specs.Cut.{Good}
 use Rattle.hproto_message.specs.Tree.{Tree}
 use Rattle.hproto_message.specs.Shortest.{shortest}
 use Rattle.hproto_message.proofs.Accepted.{accepted-exactly}
-use Rattle.hproto_check.specs.Check.{counts}
+use Rattle.reading.specs.Checks.{counts}
+use Rattle.hproto_check.specs.Check.{treeCounts}
 use Rattle.hproto_check.proofs.Counts.{read-through}
-use Rattle.hproto_writer.specs.Calls.{finished}
-use Rattle.hproto_writer.specs.declared.State.{State}
+use Rattle.hproto_state.specs.Calls.{finished}
+use Rattle.hproto_state.specs.declared.State.{State}
 use Rattle.hproto_written.specs.Given.{Given, message, opened, written}
-use Rattle.hproto_written.specs.Run.{Run}
 use Rattle.hproto_written.specs.Refusal.{refusalOfFinish}
 use Rattle.hproto_written.specs.Demand2.{Demand2, Demand2Holds}
 use Rattle.hproto_written.proofs.Fields.{AllRead}
@@ -25,7 +25,7 @@ use Rattle.hproto_written.proofs.Refused.{refusals}
 
 module _ (t : Table) (number : ℕ) (lent : List ℕ) (s : State) (d : List ℕ) where
   whole-reads : (w : Tree) → Reached t number lent s d (message w) → Demand2 t number lent (s .start) d (message w)
-  unfolding written AllRead counts
+  unfolding written AllRead treeCounts counts
   whole-reads w r =
       let es = entries t in
       let back = r .reads in
@@ -39,7 +39,7 @@ module _ (t : Table) (number : ℕ) (lent : List ℕ) (s : State) (d : List ℕ)
         whole = w;
         all-given = refl;
         accepted =
-            read-through t number (drop (s .start) d) (omega arith) (r .good-table) (r .good-number) ∙ ap (counts es number) read
+            read-through t number (drop (s .start) d) (omega arith) (r .good-table) (r .good-number) ∙ ap (treeCounts es number) read
             ∙ rw (back .is) refl;
         cut = back .cut;
         good = good;

@@ -7,7 +7,7 @@ use mathlib.Core.List.{List, [], _∷_, _++_}
 use lib.Dec.{leb}
 use borrow.Author.Tests.{le-leb, leb-true}
 use Rattle.hproto_table.proofs.Bools.{and-left, and-right, and-both}
-use Rattle.hproto_writer.specs.Sound.{falling, small}
+use Rattle.hproto_state.specs.Sound.{falling, small}
 
 -- Marks that fall to a last one fall to it also where it is one of them, and they lie above every lower place.
 pub falling-last : (low last high : ℕ) (ms : List ℕ) → low ≤ last → last ≤ high → falling last high ms ≡ true

@@ -11,11 +11,12 @@ use Rattle.hproto_table.specs.Entry.{entries, find}
 use Rattle.hproto_table.specs.Valid.{valid}
 use Rattle.hproto_table.specs.declared.Meaning.the-variants.{Message}
 use Rattle.hproto_table.specs.declared.Table.{Table}
-use Rattle.hproto_put.specs.Store.{stored}
+use Rattle.reading.specs.Reading.{messageLimit}
+use Rattle.hproto_store.specs.Store.{stored}
 use Rattle.hproto_message.specs.Tree.{Tree, end, nested}
 use Rattle.hproto_message.specs.Shortest.{field, shortest}
-use Rattle.hproto_writer.specs.Calls.{begun, back, deeper, outer, closingPart}
-use Rattle.hproto_writer.specs.declared.State.{State}
+use Rattle.hproto_state.specs.Calls.{begun, back, deeper, outer, closingPart}
+use Rattle.hproto_state.specs.declared.State.{State}
 use Rattle.hproto_written.specs.Given.{Given, message, opened, onFields, openFields, innermost, written}
 use Rattle.hproto_written.proofs.ReadsBack.{ReadsBack, reads-end, reads-nested}
 use Rattle.hproto_written.proofs.Fields.{AllRead, same-open, opened-innermost, written-before, read-more, read-opened}
@@ -23,7 +24,7 @@ use Rattle.hproto_written.proofs.Noted.{Noted, noted-more, noted-opened
 use Rattle.hproto_written.proofs.Buffer.{Filled, not-filled, filled-before}
 use Rattle.hproto_written.proofs.Reached.{Reached}
 
-pub reached-begun : (t : Table) (number : ℕ) (lent : List ℕ) → valid t ≡ true → number ≤ 15 → length lent ≤ 65536
+pub reached-begun : (t : Table) (number : ℕ) (lent : List ℕ) → valid t ≡ true → number ≤ 15 → length lent ≤ messageLimit
     → Reached t number lent (begun (length lent) number) lent (message end)
 unfolding begun written openFields Noted AllRead shortest
 reached-begun t number lent v k h =

@@ -12,10 +12,11 @@ use Rattle.hproto_table.specs.Entry.{entries, find}
 use Rattle.hproto_table.specs.Valid.{valid}
 use Rattle.hproto_table.specs.declared.Table.{Table}
 use Rattle.hproto_table.proofs.Bools.{and-both}
-use Rattle.hproto_writer.specs.Sound.{falling, small, sound}
-use Rattle.hproto_writer.specs.Calls.{level, meant}
-use Rattle.hproto_writer.specs.declared.State.{State}
-use Rattle.hproto_writer.proofs.Refusals.{level-in}
+use Rattle.reading.specs.Reading.{messageLimit}
+use Rattle.hproto_state.specs.Sound.{falling, small, sound}
+use Rattle.hproto_state.specs.Calls.{level, meant}
+use Rattle.hproto_state.specs.declared.State.{State}
+use Rattle.hproto_state.proofs.Tags.{level-in}
 use Rattle.hproto_written.specs.Given.{Given, openFields, innermost, written}
 use Rattle.hproto_written.proofs.Fields.{AllRead}
 use Rattle.hproto_written.proofs.Noted.{Noted, noted-number, noted-fall, noted-small}
@@ -31,7 +32,7 @@ pub record Slots (s : State) : Type 0 where
 pub record Reached (t : Table) (number : ℕ) (lent : List ℕ) (s : State) (d : List ℕ) (g : Given) : Type 0 where
   pub good-table : valid t ≡ true
   pub good-number : number ≤ 15
-  pub limit : length lent ≤ 65536
+  pub limit : length lent ≤ messageLimit
   pub size : s .length ≡ length lent
   pub slots : Slots s
   pub count : s .opened ≡ openFields g

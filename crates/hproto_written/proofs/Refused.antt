@@ -12,12 +12,12 @@ use Rattle.octets.specs.Signed.{leastInt}
 use Rattle.octets.specs.Control.{leastControl}
 use Rattle.hproto_table.specs.declared.Table.{Table}
 use Rattle.hproto_message.specs.Shortest.{field, shortest}
-use Rattle.hproto_put.proofs.Room.{left-enough}
-use Rattle.hproto_writer.specs.Calls.{orRefuse, answered, meant, ofOctets, readable, put, putRefusal, opening, closing, closeRefusal, finished}
-use Rattle.hproto_writer.specs.declared.State.{State}
+use Rattle.hproto_store.proofs.Room.{left-enough}
+use Rattle.hproto_state.specs.Calls.{orRefuse, answered, meant, ofOctets, readable, put, putRefusal, opening, closing, closeRefusal, finished}
+use Rattle.hproto_state.specs.declared.State.{State}
 use Rattle.hproto_written.specs.Given.{Given, message, opened, openFields, written}
 use Rattle.hproto_written.specs.Run.{kindIn, Run}
-use Rattle.hproto_writer.specs.Answer.{Call, putUint, putInt, putOctets, openField, closeField, answer}
+use Rattle.hproto_state.specs.Answer.{Call, putUint, putInt, putOctets, openField, closeField, answer}
 use Rattle.hproto_written.specs.Refusal.{refusalForRoom, refusalOfClose, refusalOfCall, refusalOfFinish, Refusals}
 use Rattle.hproto_written.proofs.Reached.{Reached, reached-meant}
 use Rattle.hproto_written.proofs.Moves.{closing-part}

@@ -16,7 +16,7 @@ use Rattle.hproto_table.specs.declared.Meaning.the-variants.{Raw, Uint, Int, St
 use Rattle.hproto_message.specs.Cut.{Contents}
 use Rattle.hproto_message.specs.Tree.{Value, uint, int, value}
 use Rattle.hproto_message.specs.Shortest.{leastContents}
-use Rattle.hproto_writer.specs.Calls.{ofOctets, readable}
+use Rattle.hproto_state.specs.Calls.{ofOctets, readable}
 use Rattle.hproto_written.specs.Run.{octetsAs}
 use Rattle.hproto_table.specs.Entry.{kindNumber}
 

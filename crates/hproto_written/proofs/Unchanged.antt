@@ -11,9 +11,9 @@ use Rattle.octets.specs.Number.{leastUint}
 use Rattle.octets.specs.Signed.{leastInt}
 use Rattle.hproto_table.specs.declared.Table.{Table}
 use Rattle.hproto_message.specs.Shortest.{field}
-use Rattle.hproto_writer.specs.Calls.{answered, left, meant, ofOctets, readable, put, putBuffer, putRefusal, opening, openRefusal, closing, closeBuffer, closeRefusal}
-use Rattle.hproto_writer.specs.declared.State.{State}
-use Rattle.hproto_writer.specs.Answer.{Call, putUint, putInt, putOctets, openField, closeField, answer, buffer}
+use Rattle.hproto_state.specs.Calls.{answered, bufferAfter, meant, ofOctets, readable, put, putBuffer, putRefusal, opening, openRefusal, closing, closeBuffer, closeRefusal}
+use Rattle.hproto_state.specs.declared.State.{State}
+use Rattle.hproto_state.specs.Answer.{Call, putUint, putInt, putOctets, openField, closeField, answer, buffer}
 use Rattle.hproto_table.specs.Entry.{kindNumber}
 
 -- What a refused call leaves.
@@ -24,13 +24,13 @@ pub record Unchanged (s : State) (d : List ℕ) (state : State) (after : List �
 module _ (t : Table) (s : State) (d : List ℕ) where
   put-unchanged : (tag : ℕ) (agrees reads : Bool) (xs : List ℕ) → (put t s tag agrees reads xs (length d) .refusal ≡ 0 → ⊥)
       → Unchanged s d (put t s tag agrees reads xs (length d) .state) (putBuffer t s tag agrees reads xs d)
-  unfolding put putBuffer answered left
+  unfolding put putBuffer answered bufferAfter
   put-unchanged tag agrees reads xs ne =
       let e = ne-eqb (putRefusal t s (length d) agrees reads (length (field tag xs))) 0 ne in
       record { same-state = rw e refl; same-buffer = rw e refl }
 
   pub refused-unchanged : (c : Call) → (answer t s d c .refusal ≡ 0 → ⊥) → Unchanged s d (answer t s d c .state) (buffer t s d c)
-  unfolding answer buffer opening closing closeBuffer answered left
+  unfolding answer buffer opening closing closeBuffer answered bufferAfter
   refused-unchanged (putUint tag v) ne = put-unchanged tag (eqb (kindNumber (meant t s tag)) 1) true (leastUint v) ne
   refused-unchanged (putInt tag z) ne = put-unchanged tag (eqb (kindNumber (meant t s tag)) 2) true (leastInt z) ne
   refused-unchanged (putOctets tag xs) ne =

@@ -12,12 +12,12 @@ use Rattle.hproto_table.specs.declared.Meaning.the-variants.{Uint, Int, String,
 use Rattle.hproto_table.specs.declared.Table.{Table}
 use Rattle.hproto_message.specs.Tree.{Tree, end, leaf, nested, Value, raw, uint, int, string, text, depth}
 use Rattle.hproto_message.specs.Shortest.{leastContents, field, shortest}
-use Rattle.hproto_writer.specs.Calls.{orRefuse, ofOctets, readable, started}
-use Rattle.hproto_writer.specs.declared.State.{State}
-use Rattle.hproto_writer.proofs.Answers.{field-length}
+use Rattle.hproto_state.specs.Calls.{orRefuse, ofOctets, readable, started}
+use Rattle.hproto_state.specs.declared.State.{State}
+use Rattle.hproto_message.proofs.Fields.{field-length}
 use Rattle.hproto_written.specs.Given.{Given, message, opened, onFields, closed, openFields, innermost, written}
 use Rattle.hproto_written.specs.Run.{InRange, octetsAs, kindIn, giving, Run, start, next}
-use Rattle.hproto_writer.specs.Answer.{Call, putUint, putInt, putOctets, openField, closeField}
+use Rattle.hproto_state.specs.Answer.{Call, putUint, putInt, putOctets, openField, closeField}
 use Rattle.hproto_written.specs.Refusal.{refusalForRoom, refusalOfClose, refusalOfCall, refusalOfFinish}
 use Rattle.hproto_written.specs.Writable.{OfKind, Writable, Writes}
 use Rattle.hproto_written.proofs.Fields.{same-open, same-innermost, opened-innermost, written-before}

@@ -10,8 +10,8 @@ use Rattle.hproto_message.specs.Cut.{Cut, Good}
 use Rattle.hproto_message.specs.Tree.{Tree, tree, fields, depth}
 use Rattle.hproto_message.specs.Shortest.{shortest}
 use Rattle.hproto_check.specs.Check.{check}
-use Rattle.hproto_writer.specs.Calls.{finished}
-use Rattle.hproto_writer.specs.declared.State.{State}
+use Rattle.hproto_state.specs.Calls.{finished}
+use Rattle.hproto_state.specs.declared.State.{State}
 use Rattle.hproto_written.specs.Given.{Given, message}
 use Rattle.hproto_written.specs.Run.{Run}
 

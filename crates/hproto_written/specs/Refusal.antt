@@ -10,11 +10,11 @@ use Rattle.octets.specs.Signed.{leastInt}
 use Rattle.octets.specs.Control.{leastControl}
 use Rattle.hproto_table.specs.declared.Table.{Table}
 use Rattle.hproto_message.specs.Shortest.{field, shortest}
-use Rattle.hproto_writer.specs.Calls.{orRefuse, ofOctets, readable, finished}
-use Rattle.hproto_writer.specs.declared.State.{State}
+use Rattle.hproto_state.specs.Calls.{orRefuse, ofOctets, readable, finished}
+use Rattle.hproto_state.specs.declared.State.{State}
 use Rattle.hproto_written.specs.Given.{Given, message, opened, openFields, written}
 use Rattle.hproto_written.specs.Run.{kindIn}
-use Rattle.hproto_writer.specs.Answer.{Call, putUint, putInt, putOctets, openField, closeField, answer}
+use Rattle.hproto_state.specs.Answer.{Call, putUint, putInt, putOctets, openField, closeField, answer}
 
 -- 9 where so many octets are more than the lent buffer has beside those written.
 unfoldable pub refusalForRoom : ℕ → Given → ℕ → ℕ

@@ -5,14 +5,13 @@ use mathlib.Core.Bool.{cond}
 use mathlib.Core.List.{List}
 use lib.ListN.{length}
 use lib.Dec.{eqb}
-use lib.IntN.{ℤ}
 use lib.Signed.{mag}
 use Rattle.hproto_table.specs.Entry.{entries, find, kindNumber}
 use Rattle.hproto_table.specs.declared.Table.{Table}
 use Rattle.hproto_message.specs.Tree.{end, leaf, Value, uint, int, string, text}
-use Rattle.hproto_writer.specs.Calls.{started}
-use Rattle.hproto_writer.specs.Answer.{Call, putUint, putInt, putOctets, openField, closeField, answer, buffer}
-use Rattle.hproto_writer.specs.declared.State.{State}
+use Rattle.hproto_state.specs.Calls.{started}
+use Rattle.hproto_state.specs.Answer.{Call, putUint, putInt, putOctets, openField, closeField, answer, buffer}
+use Rattle.hproto_state.specs.declared.State.{State}
 use Rattle.hproto_written.specs.Given.{Given, message, opened, onFields, closed, innermost}
 
 -- The values that the calls take: a uint of 64 bits, and an int of 64 bits, from minus 2 to the power 63 on (`mag` of a number below

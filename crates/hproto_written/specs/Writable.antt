@@ -11,8 +11,8 @@ use Rattle.hproto_table.specs.declared.Meaning.{Meaning}
 use Rattle.hproto_table.specs.declared.Meaning.the-variants.{Uint, Int, String, Text, Message}
 use Rattle.hproto_table.specs.declared.Table.{Table}
 use Rattle.hproto_message.specs.Tree.{Tree, end, leaf, nested, Value, raw, uint, int, string, text}
-use Rattle.hproto_writer.specs.Calls.{finished}
-use Rattle.hproto_writer.specs.declared.State.{State}
+use Rattle.hproto_state.specs.Calls.{finished}
+use Rattle.hproto_state.specs.declared.State.{State}
 use Rattle.hproto_written.specs.Given.{message}
 use Rattle.hproto_written.specs.Run.{Run}
 

@@ -4,9 +4,9 @@ use crate::compare;
 use crate::input;
 use crate::print;
 use crate::state;
+use hproto_state::State;
+use hproto_state::Written;
 use hproto_table::Table;
-use hproto_writer::State;
-use hproto_writer::Written;
 
 // What the lines before have left: the table, the state, how much of the buffer is lent, and the message that is read, with its number
 // and where it stands in the buffer.
@@ -36,25 +36,25 @@ pub fn fresh() -> Run {
 fn octets(t: Table, s: State, tag: u64, word: &[u8], out: &mut [u8]) -> Written {
     let mut xs = [0u8; 65546];
     let n = sample_lines::octets_in(word, &mut xs);
-    hproto_writer::put_octets(t, s, tag, sample_lines::front(&xs, n), out)
+    hproto_puts::put_octets(t, s, tag, sample_lines::front(&xs, n), out)
 }
 
 fn call(what: u8, line: &[u8], t: Table, s: State, out: &mut [u8]) -> Written {
     let tag = input::number(line, 1);
     let value = sample_lines::word(line, 2);
     if what == b'u' {
-        return hproto_writer::put_uint(t, s, tag, sample_lines::number_in(value), out);
+        return hproto_puts::put_uint(t, s, tag, sample_lines::number_in(value), out);
     }
     if what == b'i' {
-        return hproto_writer::put_int(t, s, tag, input::signed(value), out);
+        return hproto_puts::put_int(t, s, tag, input::signed(value), out);
     }
     if what == b'o' {
         return octets(t, s, tag, value, out);
     }
     if what == b'p' {
-        return hproto_writer::open_field(t, s, tag);
+        return hproto_nesting::open_field(t, s, tag);
     }
-    hproto_writer::close_field(t, s, out)
+    hproto_nesting::close_field(t, s, out)
 }
 
 // The octets that a call stored, the place of the first, and whether it stored no others.
@@ -101,7 +101,7 @@ fn calls(what: u8, line: &[u8], r: Run, before: &[u8], buffer: &mut [u8]) -> Run
 // A start. A refused one answers a state of zeros.
 fn starts(line: &[u8], r: Run, buffer: &[u8]) -> Run {
     let out = compare::part(buffer, 0, r.lent);
-    let w = hproto_writer::start(r.table, input::number(line, 1), out);
+    let w = hproto_state::start(r.table, input::number(line, 1), out);
     let after = w.state;
     if w.refusal != 0 {
         sample_lines::refusal(w.refusal, w.place);
@@ -118,7 +118,7 @@ fn starts(line: &[u8], r: Run, buffer: &[u8]) -> Run {
 // A finish. The message that it answers is read from here on.
 fn finishes(r: Run) -> Run {
     let given = r.state;
-    let f = hproto_writer::finish(given);
+    let f = hproto_state::finish(given);
     let after = f.state;
     if f.refusal != 0 {
         sample_lines::refusal(f.refusal, f.place);

@@ -1,6 +1,6 @@
 // States of the writer: compared, and changed by hand into some that no run of calls gives.
 use crate::input;
-use hproto_writer::State;
+use hproto_state::State;
 
 // The state that a refused start answers.
 pub fn nothing() -> State {

@@ -4,8 +4,8 @@ use native.Mathlib.Omega.{arith}
 use mathlib.Core.Path.{sym, _∙_}
 use lib.ListN.{length, length-set}
 use Rattle.octets.specs.Control.{leastControl}
-use Rattle.hproto_put.proofs.Room.{room, no-room}
-use Rattle.hproto_put.proofs.Stores.{stored-too-long}
+use Rattle.hproto_store.proofs.Room.{room, no-room}
+use Rattle.hproto_store.proofs.Stores.{stored-too-long}
 use Rattle.hproto_put.proofs.Least.{leastControl-size, control-stored}
 use borrow.Author.Needs.{needs}
 use Rattle.hproto_put.proofs.put_control.Statement.{statement}

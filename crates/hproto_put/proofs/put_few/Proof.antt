@@ -2,7 +2,7 @@
 use Prim.Native.Nat.{_-_}
 use native.Mathlib.Omega.{arith}
 use Rattle.octets.specs.Number.{octetsOf}
-use Rattle.hproto_put.proofs.Turns.{CopiedUp}
+use Rattle.hproto_store.proofs.Turns.{CopiedUp}
 use Rattle.hproto_put.proofs.Digits.{few-begun, few-turn, few-ended}
 use Rattle.hproto_put.proofs.put_few.Statement.{statement}
 use Rattle.hproto_put.proofs.put_few.Tie as tie

@@ -1,7 +1,7 @@
 -- `hproto_put::put_many` meets its contract: at each turn the last octets of the number are stored.
 use Prim.Native.Nat.{_-_}
 use native.Mathlib.Omega.{arith}
-use Rattle.hproto_put.proofs.Turns.{NumberDown, number-begun, number-turn, number-ended}
+use Rattle.hproto_put.proofs.Digits.{NumberDown, number-begun, number-turn, number-ended}
 use Rattle.hproto_put.proofs.put_many.Statement.{statement}
 use Rattle.hproto_put.proofs.put_many.Tie as tie
 

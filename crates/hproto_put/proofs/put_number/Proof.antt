@@ -1,8 +1,8 @@
 -- `hproto_put::put_number` meets its contract.
 use Prim.Native.Nat.{_+_, _≤_}
 use lib.ListN.{length}
-use Rattle.hproto_put.proofs.Room.{room, no-room}
-use Rattle.hproto_put.proofs.Turns.{number-too-long}
+use Rattle.hproto_store.proofs.Room.{room, no-room}
+use Rattle.hproto_put.proofs.Digits.{number-too-long}
 use borrow.Author.Needs.{needs}
 use Rattle.hproto_put.proofs.put_number.Statement.{statement}
 use Rattle.hproto_put.proofs.put_number.Tie as tie

@@ -1,0 +1,5 @@
+pub mod Room
+pub mod Refusals
+pub mod OctetKinds
+pub mod Before
+pub mod Answers

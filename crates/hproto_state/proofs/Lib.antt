@@ -1,0 +1,7 @@
+pub mod Levels
+pub mod SoundStates
+pub mod Tags
+pub mod Refusals
+pub mod Conditions
+pub mod Answers
+pub mod Added

@@ -1,0 +1,41 @@
+-- What each call between start and finish answers, and the buffer afterwards. The contracts of the puts cite these; those of open_field and
+-- close_field cite `opening`, `closing` and `closeBuffer`, which these unfold to.
+use Prim.Native.Nat.{ℕ}
+use mathlib.Core.Bool.{true}
+use mathlib.Core.List.{List}
+use lib.ListN.{length}
+use lib.Dec.{eqb}
+use lib.IntN.{ℤ}
+use Rattle.octets.specs.Number.{leastUint}
+use Rattle.octets.specs.Signed.{leastInt}
+use Rattle.hproto_table.specs.Entry.{kindNumber}
+use Rattle.hproto_table.specs.declared.Table.{Table}
+use Rattle.hproto_state.specs.Calls.{meant, ofOctets, readable, put, putBuffer, opening, closing, closeBuffer}
+use Rattle.hproto_state.specs.declared.State.{State}
+use Rattle.hproto_state.specs.declared.Written.{Written}
+
+-- A call, with what the caller gives beside the table, the state and the buffer: a tag, and a value.
+pub data Call : Type 0 where
+  putUint : ℕ → ℕ → Call
+  putInt : ℕ → ℤ → Call
+  putOctets : ℕ → List ℕ → Call
+  openField : ℕ → Call
+  closeField : Call
+
+-- The answer on a table, a state and a buffer.
+unfoldable pub answer : Table → State → List ℕ → Call → Written
+answer t s d (putUint tag v) = put t s tag (eqb (kindNumber (meant t s tag)) 1) true (leastUint v) (length d)
+answer t s d (putInt tag z) = put t s tag (eqb (kindNumber (meant t s tag)) 2) true (leastInt z) (length d)
+answer t s d (putOctets tag xs) =
+    put t s tag (ofOctets (kindNumber (meant t s tag))) (readable (kindNumber (meant t s tag)) xs) xs (length d)
+answer t s d (openField tag) = opening t s tag
+answer t s d closeField = closing t s (length d)
+
+-- The buffer afterwards. A call of open_field gets no buffer.
+unfoldable pub buffer : Table → State → List ℕ → Call → List ℕ
+buffer t s d (putUint tag v) = putBuffer t s tag (eqb (kindNumber (meant t s tag)) 1) true (leastUint v) d
+buffer t s d (putInt tag z) = putBuffer t s tag (eqb (kindNumber (meant t s tag)) 2) true (leastInt z) d
+buffer t s d (putOctets tag xs) =
+    putBuffer t s tag (ofOctets (kindNumber (meant t s tag))) (readable (kindNumber (meant t s tag)) xs) xs d
+buffer t s d (openField tag) = d
+buffer t s d closeField = closeBuffer t s d

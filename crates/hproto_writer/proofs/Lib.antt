@@ -1,4 +1,0 @@
-pub mod Levels
-pub mod Refusals
-pub mod Answers
-pub mod Added

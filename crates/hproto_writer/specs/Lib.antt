@@ -1,4 +1,0 @@
-pub mod Sound
-pub mod Calls
-pub mod Stores
-pub mod Answer
