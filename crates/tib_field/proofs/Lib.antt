@@ -4,4 +4,10 @@ pub mod Marks
 pub mod Names
 pub mod Zeros
 pub mod Standing
+pub mod Choices
 pub mod Refusals
+pub mod Fronts
+pub mod Fields
+pub mod Kths
+pub mod Answers
+pub mod Turns

@@ -1,3 +1,5 @@
-pub mod Octets
+pub mod Mark
 pub mod Name
 pub mod Refused
+pub mod Fields
+pub mod Kth

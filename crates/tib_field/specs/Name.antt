@@ -1,5 +1,5 @@
 -- The name of a field: no octets, or octets of which the last is zero and all others are not.
-use Prim.Native.Nat.{ℕ, zero, suc, _≤_, _<_}
+use Prim.Native.Nat.{ℕ, _+_, _≤_, _<_}
 use mathlib.Core.Path.{_≡_}
 use mathlib.Core.Bool.{Bool, true, false, cond}
 use mathlib.Core.List.{List, [], _∷_, _++_}
@@ -41,6 +41,12 @@ faultOf (Sized n) = 0
 
 unfoldable pub nameFault : List ℕ → ℕ
 nameFault s = faultOf (nameFront s)
+
+-- What stands at the front of octets, where `after` says what follows a name of this many octets.
+unfoldable pub afterName : {A : Type 0} → A → (ℕ → A) → (ℕ → List ℕ → A) → List ℕ → Front → A
+afterName done fault after s End = done
+afterName done fault after s (Fault k) = fault k
+afterName done fault after s (Sized n) = after n (drop (1 + n) s)
 
 -- Whether a zero stands at a place from a on that is below both b and n: one does, or none.
 unfoldable pub ZeroIn : Bool → List ℕ → ℕ → ℕ → ℕ → Type 0

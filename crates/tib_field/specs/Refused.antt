@@ -1,14 +1,10 @@
--- The answers of a refused call: number and place, all else 0.
+-- The answer for a field where a call is refused: number and place, all else 0.
 use Prim.Native.Nat.{ℕ}
 use mathlib.Core.Bool.{false}
 use mathlib.Core.List.{[]}
 use Rattle.tib_real.specs.FromOctets.{realOf}
 use Rattle.tib_real.specs.declared.types.Real.{Real}
-use Rattle.tib_field.specs.declared.Checked.{Checked}
 use Rattle.tib_field.specs.declared.Field.{Field}
-
-abbrev pub refusedCheck : ℕ → ℕ → Checked
-refusedCheck number at = record { refusal = number; place = at; fields = 0; depth = 0 }
 
 -- No octets are no real, and answer one of zeros.
 abbrev pub noReal : Real

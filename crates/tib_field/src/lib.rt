@@ -1,5 +1,5 @@
 // What the two Tib formats share: the name of a field, the numbers of their sizes, the mark of a header, and what their readers answer.
-use octets::Unsigned;
+// This crate also has the definitions and laws of fields that stand one after the other, of the k-th of them, and of the walk through them.
 use tib_real::types::Real;
 ghost use mathlib.Core.Path.{_≡_};
 ghost use mathlib.Core.Bool.{false, cond};
@@ -8,8 +8,8 @@ ghost use lib.Dec.{eqb, ltb};
 ghost use lib.ListN.{length};
 ghost use Rattle.octets.specs.Number.{unsigned};
 ghost use Rattle.tib_field.specs.Name.{ZeroIn, Far, nameFault};
-ghost use Rattle.tib_field.specs.Refused.{refusedCheck, noReal, refusedField};
-ghost use Rattle.tib_field.specs.Octets.{orZero, begins as begins-with};
+ghost use Rattle.tib_field.specs.Refused.{noReal, refusedField};
+ghost use Rattle.tib_field.specs.Mark.{begins as begins-with};
 
 // What stands where a field may begin: the end of the message, a name that is refused with a number, or a name of this many octets
 // after the octet of its size.
@@ -17,15 +17,6 @@ pub enum Front {
     End,
     Fault(u64),
     Name(usize),
-}
-
-// The answer of a check: a refusal number (0 where the message is accepted), the place of the fault, and where it is accepted the
-// count of fields at all depths and the depth of the deepest message.
-pub struct Checked {
-    pub refusal: u64,
-    pub place: u64,
-    pub fields: u64,
-    pub depth: u64,
 }
 
 // A field of a message, after a refusal's number and place: where its name stands and its length, with the closing zero (0 where it has
@@ -45,18 +36,6 @@ pub struct Field {
     pub real: Real,
 }
 
-// The answers where a message is refused, or has no such field.
-pub fn refused_check(refusal: u64, place: u64) -> Checked
-    ensures { λ r. ⌜ r ≡ refusedCheck refusal place ⌝ }
-{
-    Checked {
-        refusal,
-        place,
-        fields: 0,
-        depth: 0,
-    }
-}
-
 // The answer for a field that is no real: one of zeros.
 pub fn no_real() -> Real
     ensures { λ r. ⌜ r ≡ noReal ⌝ }
@@ -64,6 +43,7 @@ pub fn no_real() -> Real
     tib_real::real(b"", 0, false)
 }
 
+// The answer where a message is refused, or has no such field.
 pub fn refused_field(refusal: u64, place: u64) -> Field
     ensures { λ r. ⌜ r ≡ refusedField refusal place ⌝ }
 {
@@ -82,24 +62,14 @@ pub fn refused_field(refusal: u64, place: u64) -> Field
     }
 }
 
-// An octet as a number. As a function it spares each caller the proof that the octet fits.
-pub fn wide(x: u8) -> u64
-    ensures { λ r. ⌜ r ≡ x ⌝ }
-{
-    x as u64
-}
-
 // The number that at most eight octets hold, 0 for more. One octet is the most common, and needs no loop.
 pub fn number(s: &[u8]) -> u64
-    ensures { λ r. ⌜ r ≡ orZero (unsigned (now (s .entry))) ⌝ }
+    ensures { λ r. ⌜ r ≡ unsigned (now (s .entry)) ⌝ }
 {
     if s.len() == 1 {
-        return wide(s[0]);
+        return numbers::wide(s[0]);
     }
-    match octets_read::uint(s) {
-        Unsigned::Value(v) => v,
-        Unsigned::Long => 0,
-    }
+    octets_read::uint(s)
 }
 
 // Whether octets begin with a mark.
@@ -207,7 +177,7 @@ fn zero_inside(s: &[u8], n: u8) -> bool
     requires { ⌜ n ≤ length (now s) ⌝ }
     ensures { λ r. ⌜ ZeroIn r (now (s .entry)) 1 n n ⌝ }
 {
-    let end = wide(n) as usize;
+    let end = numbers::wide(n) as usize;
     if s.len() < 17 {
         return zero_of_few(s, end);
     }
@@ -229,7 +199,7 @@ pub fn name_fault(s: &[u8]) -> u64
     if s.len() == 0 {
         return 0;
     }
-    let n = wide(s[0]) as usize;
+    let n = numbers::wide(s[0]) as usize;
     if s.len() - 1 < n {
         return 3;
     }

@@ -1,47 +1,48 @@
 -- The tests of a header, and the fields after it.
-use Prim.Native.Nat.{ℕ, suc, _+_, _-_, _^_, _≤_, _<_}
+use Prim.Native.Nat.{ℕ, suc, _-_, _≤_, _<_}
 use native.Mathlib.Omega.{arith}
-use mathlib.Core.Path.{_≡_, refl, sym, ap, _∙_}
-use mathlib.Core.Bool.{Bool, true, false}
+use mathlib.Core.Path.{_≡_, sym, _∙_}
+use mathlib.Core.Bool.{true, false}
 use mathlib.Core.List.{List}
 use lib.ListN.{length, take, drop, length-drop}
 use lib.Seq.{length-take-le}
 use borrow.Author.Tests.{lt-ltb, le-ltb, eq-eqb, ne-eqb}
 use Rattle.octets.specs.Number.{number, unsigned}
-use Rattle.tib_field.specs.Octets.{orZero, begins}
-use Rattle.tib_field.proofs.Numbers.{few-octets}
-use Rattle.tib_msg.specs.declared.Walk.{Walk}
-use Rattle.tib_msg.specs.declared.Walk.the-variants.{Accepted, Refused}
+use Rattle.tib_field.specs.Mark.{begins}
+use Rattle.octets.proofs.Number.{unsigned-is}
+use Rattle.reading.specs.Reading.{messageLimit}
+use Rattle.reading.specs.Checks.{walkOf}
+use Rattle.reading.specs.declared.Walk.the-variants.{Refused}
 use Rattle.tib_msg_field.specs.Layout.{magic}
 use Rattle.tib_msg_field.specs.Reading.{fieldsFrom, reading}
-use Rattle.tib_msg.specs.Found.{walkOf}
+use Rattle.tib_msg.specs.Answers.{depth}
 
 module _ (s : List ℕ) where
-  pub too-long : 65536 < length s → Refused 1 0 ≡ walkOf (reading s)
+  pub too-long : messageLimit < length s → Refused 1 0 ≡ walkOf length depth (reading s)
   unfolding reading walkOf
-  too-long h = rw (lt-ltb 65536 (length s) h)
+  too-long h = rw (lt-ltb messageLimit (length s) h)
 
-  module _ (a : length s ≤ 65536) where
-    pub header-cut : length s < 9 → Refused 3 0 ≡ walkOf (reading s)
+  module _ (a : length s ≤ messageLimit) where
+    pub header-cut : length s < 9 → Refused 3 0 ≡ walkOf length depth (reading s)
     unfolding reading walkOf
-    header-cut h = rw (le-ltb 65536 (length s) a, lt-ltb (length s) 9 h)
+    header-cut h = rw (le-ltb messageLimit (length s) a, lt-ltb (length s) 9 h)
 
     module _ (b : 9 ≤ length s) where
-      pub other-magic : begins magic s ≡ false → Refused 13 0 ≡ walkOf (reading s)
+      pub other-magic : begins magic s ≡ false → Refused 13 0 ≡ walkOf length depth (reading s)
       unfolding reading walkOf
-      other-magic e = rw (le-ltb 65536 (length s) a, le-ltb (length s) 9 b, e)
+      other-magic e = rw (le-ltb messageLimit (length s) a, le-ltb (length s) 9 b, e)
 
-      module _ (c : begins magic s ≡ true) (l : ℕ) (e : l ≡ orZero (unsigned (take (9 - 5) (drop 5 s)))) where
+      module _ (c : begins magic s ≡ true) (l : ℕ) (e : l ≡ unsigned (take (9 - 5) (drop 5 s))) where
         size-read : number (take 4 (drop 5 s)) ≡ l
         size-read =
             let m = length-drop 5 s in
             let n = length-take-le 4 (drop 5 s) (omega arith) in
-            sym (e ∙ few-octets (take 4 (drop 5 s)) (omega arith))
+            sym (e ∙ unsigned-is (take 4 (drop 5 s)) (omega arith))
 
-        pub other-size : (l ≡ length s - 9 → ⊥) → Refused 14 0 ≡ walkOf (reading s)
+        pub other-size : (l ≡ length s - 9 → ⊥) → Refused 14 0 ≡ walkOf length depth (reading s)
         unfolding reading walkOf
-        other-size h = rw (le-ltb 65536 (length s) a, le-ltb (length s) 9 b, c, size-read, ne-eqb l (length s - 9) h)
+        other-size h = rw (le-ltb messageLimit (length s) a, le-ltb (length s) 9 b, c, size-read, ne-eqb l (length s - 9) h)
 
-        pub good-header : l ≡ length s - 9 → walkOf (fieldsFrom (suc (length s)) 9 (drop 9 s)) ≡ walkOf (reading s)
+        pub good-header : l ≡ length s - 9 → walkOf length depth (fieldsFrom (suc (length s)) 9 (drop 9 s)) ≡ walkOf length depth (reading s)
         unfolding reading
-        good-header h = rw (le-ltb 65536 (length s) a, le-ltb (length s) 9 b, c, size-read, eq-eqb l (length s - 9) h)
+        good-header h = rw (le-ltb messageLimit (length s) a, le-ltb (length s) 9 b, c, size-read, eq-eqb l (length s - 9) h)

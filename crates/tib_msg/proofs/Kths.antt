@@ -1,139 +1,104 @@
--- The walk to the k-th field of a message that is accepted.
-use Prim.Native.Nat.{ℕ, zero, suc, _+_, _-_, _≤_, _<_}
+-- The walk to the k-th field of a message that is accepted, and the answer for the field that it finds.
+use Prim.Native.Nat.{ℕ, _+_, _-_, _≤_}
 use native.Mathlib.Omega.{arith}
-use mathlib.Core.Path.{_≡_, refl, sym, ap, ap₂, _∙_, subst}
-use mathlib.Core.Bool.{Bool, true}
-use mathlib.Core.List.{List, [], _∷_, _++_}
-use lib.ListN.{length, take, drop, length-append, length-drop}
-use lib.Seq.{drop-drop, drop-at}
+use mathlib.Core.Path.{_≡_, refl, sym, ap, _∙_, subst}
+use mathlib.Core.Bool.{Bool}
+use mathlib.Core.List.{List, [], _++_}
+use mathlib.Core.Option.{Option, none, some}
+use lib.ListN.{length, drop}
+use Rattle.reading.specs.Reading.{IsAccepted}
+use Rattle.tib_field.specs.Kth.{kthOf, answerFor}
 use Rattle.tib_field.specs.Refused.{refusedField}
 use Rattle.tib_field.specs.declared.Field.{Field}
+use Rattle.tib_field.proofs.Kths.{Going as Passing, Look, ends, stands, look, kth-stands}
+use Rattle.tib_field.proofs.Answers.{field-of-kth}
 use Rattle.tib_msg_field.specs.declared.Sizes.{Sizes}
-use Rattle.tib_msg_field.specs.declared.Step.{Step}
 use Rattle.tib_msg_field.specs.declared.Step.the-variants.{Done, Fault, Over}
-use Rattle.tib_msg.specs.declared.Kth.{Kth}
 use Rattle.tib_msg.specs.declared.Kth.the-variants.{At, Absent}
-use Rattle.tib_msg_field.specs.Layout.{isWidth, Hint, none, array, partial, value, Parts, octets, Allowed, joined, AllAllowed}
-use Rattle.tib_msg_field.specs.Reading.{nextField, sizes, total, partsAt, accepted, reading}
-use Rattle.tib_msg.specs.Answers.{shown, kthShown}
-use Rattle.tib_msg.specs.Found.{kth, kthOf, IsAccepted}
+use Rattle.tib_msg_field.specs.Layout.{isWidth, Hint, none as no-hint, array, partial, value, Parts, octets, Allowed}
+use Rattle.tib_msg_field.specs.Reading.{nextField, sizes, total, partsAt, reading}
+use Rattle.tib_msg.specs.Answers.{shown, places, field}
+use Rattle.tib_msg.specs.Found.{foundAt}
 use Rattle.tib_msg_field.proofs.Hints.{true-is, width-small}
 use Rattle.tib_msg_field.proofs.Steps.{step-of-field, step-of-end, parts-of-field, length-octets}
-use Rattle.tib_msg.proofs.Turns.{step-inside}
-use Rattle.tib_msg_field.proofs.Accepted.{Fields, accepted-fields}
+use Rattle.tib_msg_field.proofs.Accepted.{accepted-tested}
+
+-- The field that is looked for.
+abbrev wanted : List ℕ → ℕ → Option (ℕ × Parts)
+wanted s k = kthOf places k (reading s)
 
 -- The fields that are left begin at i, and the `left`-th of them is the one that is looked for.
-pub record Going (s : List ℕ) (k i left : ℕ) : Type 0 where
-  pub rest : List Parts
-  pub fields : Fields (drop i s) rest
-  pub inside : i ≤ length s
-  pub same : kthOf k (reading s) ≡ kth left i rest
+abbrev pub Going : List ℕ → ℕ → ℕ → ℕ → Type 0
+Going s k i left = Passing octets Allowed s (wanted s k) i left
 
-pub start : (s : List ℕ) (k : ℕ) → IsAccepted s → Going s k 9 k
-unfolding kthOf
+pub start : (s : List ℕ) (k : ℕ) → IsAccepted (reading s) → Going s k 9 k
+unfolding IsAccepted kthOf places
 start s k a =
-    let f = accepted-fields s (a .fields) (a .same) in
-    record { rest = a .fields; fields = f .1; inside = f .0; same = rw (a .same) }
-
--- What the next step finds where fields are left, and where none is.
-next-of : (s : List ℕ) (fs : List Parts) → Fields s fs → (f : Parts) (gs : List Parts) → fs ≡ f ∷ gs → nextField s ≡ Over (sizes f)
-unfolding joined AllAllowed
-next-of s fs h f gs e =
-    let a = subst AllAllowed e (h .allowed) in
-    rw (h .divides, e) (step-of-field f (joined gs) (a .0))
-
-next-of-none : (s : List ℕ) (fs : List Parts) → Fields s fs → fs ≡ [] → nextField s ≡ Done
-unfolding joined
-next-of-none s fs h e = rw (h .divides, e) step-of-end
-
--- Past a field that is not looked for.
-kth-next : (left i : ℕ) (f : Parts) (gs : List Parts) (j : ℕ) → (left ≡ 0 → ⊥) → j ≡ i + length (octets f)
-    → kth left i (f ∷ gs) ≡ kth (left - 1) j gs
-unfolding kth
-kth-next zero i f gs j h e = absurd (h refl)
-kth-next (suc left) i f gs j h e = let k : suc left - 1 ≡ left = omega arith in rw (k, e)
+    let t = accepted-tested s (a .0) (a .1) in
+    record { rest = a .0; fields = t .fields; inside = t .header; same = rw (a .1) }
 
 module _ (s : List ℕ) (k i left : ℕ) (now : Going s k i left) where
-  pub ended : nextField (drop i s) ≡ Done → Absent ≡ kthOf k (reading s)
-  unfolding kth
-  ended e = go (now .rest) refl
+  abbrev Here : Type 0
+  Here = Look octets Allowed s (wanted s k) i left
+
+  here : Here
+  here = look octets Allowed s (wanted s k) i left now
+
+  -- What the next step finds where no field is left, and where one is.
+  next-of-none : drop i s ≡ [] → nextField (drop i s) ≡ Done
+  next-of-none d = ap nextField d ∙ step-of-end
+
+  next-of : (f : Parts) (rest : List ℕ) → Allowed f → drop i s ≡ octets f ++ rest → nextField (drop i s) ≡ Over (sizes f)
+  next-of f rest a d = ap nextField d ∙ step-of-field f rest a
+
+  pub ended : nextField (drop i s) ≡ Done → Absent ≡ foundAt (wanted s k)
+  unfolding foundAt
+  ended e = go here
     where
-      go : (fs : List Parts) → now .rest ≡ fs → Absent ≡ kthOf k (reading s)
-      go [] f = sym (now .same ∙ rw f)
-      go (f ∷ gs) g =
-          let n = next-of (drop i s) (now .rest) (now .fields) f gs g in
+      go : Here → Absent ≡ foundAt (wanted s k)
+      go (ends d w) = sym (ap foundAt w)
+      go (stands f rest a d fits this later) =
+          let n = next-of f rest a d in
           let z : _≡_ {A = ℕ} 0 1 = cc in absurd (omega arith)
 
-  pub no-fault : (n : ℕ) → nextField (drop i s) ≡ Fault n → Absent ≡ kthOf k (reading s)
-  no-fault m e = go (now .rest) refl
+  pub no-fault : (n : ℕ) → nextField (drop i s) ≡ Fault n → Absent ≡ foundAt (wanted s k)
+  no-fault m e = go here
     where
-      go : (fs : List Parts) → now .rest ≡ fs → Absent ≡ kthOf k (reading s)
-      go [] f =
-          let n = next-of-none (drop i s) (now .rest) (now .fields) f in
+      go : Here → Absent ≡ foundAt (wanted s k)
+      go (ends d w) =
+          let n = next-of-none d in
           let z : _≡_ {A = ℕ} 0 1 = cc in absurd (omega arith)
-      go (f ∷ gs) g =
-          let n = next-of (drop i s) (now .rest) (now .fields) f gs g in
+      go (stands f rest a d fits this later) =
+          let n = next-of f rest a d in
           let z : _≡_ {A = ℕ} 0 1 = cc in absurd (omega arith)
 
-  module _ (z : Sizes) (e : nextField (drop i s) ≡ Over z) where
-    pub record OneMore : Type 0 where
-      pub field : Parts
-      pub rest : List Parts
-      pub divides : now .rest ≡ field ∷ rest
-      pub sized : sizes field ≡ z
-
-    one-more : OneMore
-    one-more = go (now .rest) refl
-      where
-        go : (fs : List Parts) → now .rest ≡ fs → OneMore
-        go [] f =
-            let n = next-of-none (drop i s) (now .rest) (now .fields) f in
-            let y : _≡_ {A = ℕ} 0 1 = cc in absurd (omega arith)
-        go (f ∷ gs) g =
-            let n = next-of (drop i s) (now .rest) (now .fields) f gs g in
-            record { field = f; rest = gs; divides = g; sized = cc }
-
-    pub room : i + total z ≤ length s
-    room =
-        let h = step-inside (drop i s) z e in
-        let l = length-drop i s in
-        let a = now .inside in
-        let p = h .0 in
-        let q = h .1 in
-        omega arith
-
-    pub this-one : left ≡ 0 → At i z ≡ kthOf k (reading s)
-    unfolding kth
-    this-one h =
-        let o = one-more in
-        sym (now .same ∙ rw (h, o .divides, o .sized))
-
+  -- The field that the next step finds: it is the one, or another is still to come.
+  pub record OneMore (z : Sizes) : Type 0 where
+    pub fits : i + total z ≤ length s
+    pub this-one : left ≡ 0 → At i z ≡ foundAt (wanted s k)
     pub later-one : (j : ℕ) → (left ≡ 0 → ⊥) → j ≡ i + total z → Going s k j (left - 1)
-    unfolding kth joined AllAllowed
-    later-one j h place =
-        let o = one-more in
-        let f = o .field in
-        let t : length (octets f) ≡ total z = length-octets f ∙ ap total (o .sized) in
-        let p : left ≡ suc (left - 1) = omega arith in
-        let d : drop i s ≡ octets f ++ joined (o .rest) = now .fields .divides ∙ ap joined (o .divides) in
-        let l = ap length d ∙ length-append (octets f) (joined (o .rest)) in
-        let m = length-drop i s in
-        let a = subst AllAllowed (o .divides) (now .fields .allowed) in
-        let b = now .inside in
-        record {
-          rest = o .rest;
-          fields =
-              record {
-                divides = rw (place, ← drop-drop (total z) i s, d) (drop-at (octets f) (joined (o .rest)) (total z) t);
-                allowed = a .1;
-              };
-          inside = omega arith;
-          same = now .same ∙ ap (kth left i) (o .divides) ∙ kth-next left i f (o .rest) j h (rw t place);
-        }
+
+  pub one-more : (z : Sizes) → nextField (drop i s) ≡ Over z → OneMore z
+  unfolding foundAt
+  one-more z e = go here
+    where
+      go : Here → OneMore z
+      go (ends d w) =
+          let n = next-of-none d in
+          let y : _≡_ {A = ℕ} 0 1 = cc in absurd (omega arith)
+      go (stands f rest a d fits this later) =
+          let n = next-of f rest a d in
+          let q : sizes f ≡ z = cc in
+          let t : length (octets f) ≡ total z = length-octets f ∙ ap total q in
+          record {
+            fits = omega arith;
+            this-one = λ h. ap (At i) (sym q) ∙ sym (ap foundAt (this h));
+            later-one = λ j h place. subst (λ (x : ℕ). Going s k x (left - 1)) (ap (λ (x : ℕ). i + x) t ∙ sym place) (later h);
+          }
 
 -- A hint has ten octets at most.
 hint-small : (kind size : ℕ) (t : Bool) (hint : List ℕ) → Hint kind size t hint → length hint ≤ 10
-hint-small kind size t hint (none j k) = omega arith
+hint-small kind size t hint (no-hint j k) = omega arith
 hint-small kind size t hint (array a n k p q w d) = omega arith
 hint-small kind size t hint (partial n k) = omega arith
 hint-small kind size t hint (value a s j k p q w) = let h = width-small (length s) (true-is (isWidth (length s)) w) in omega arith
@@ -144,30 +109,31 @@ pub record KthFound (s : List ℕ) (place : ℕ) (z : Sizes) (answer : Field) : 
   pub small : z .hint ≤ 10
   pub shows : shown place (partsAt (drop place s) z) ≡ answer
 
-pub kth-found : (s : List ℕ) (fs : List Parts) (k i : ℕ) → Fields (drop i s) fs → i ≤ length s → (place : ℕ) (z : Sizes)
-    → kth k i fs ≡ At place z → KthFound s place z (kthShown k i fs)
-unfolding kth kthShown joined AllAllowed sizes
-kth-found s [] k i h l place z e = let y : _≡_ {A = ℕ} 0 1 = cc in absurd (omega arith)
-kth-found s (f ∷ fs) zero i h l place z e =
-    let p : i ≡ place = cc in
-    let q : sizes f ≡ z = cc in
-    let d = h .divides in
-    let a = ap length d ∙ length-append (octets f) (joined fs) in
-    let b = length-drop i s in
-    let c = length-octets f in
-    let g = hint-small _ _ _ (f .hint) (h .allowed .0 .hint) in
-    let m : KthFound s i (sizes f) (shown i f)
-    = record { inside = omega arith; small = g; shows = rw d (ap (shown i) (parts-of-field f (joined fs))) } in
-    subst (λ (x : ℕ). KthFound s x z (shown i f)) p (subst (λ (y : Sizes). KthFound s i y (shown i f)) q m)
-kth-found s (f ∷ fs) (suc k) i h l place z e =
-    let a = ap length (h .divides) ∙ length-append (octets f) (joined fs) in
-    let b = length-drop i s in
-    let d : drop (i + length (octets f)) s ≡ joined fs
-    = rw (← drop-drop (length (octets f)) i s, h .divides) (drop-at (octets f) (joined fs) (length (octets f)) refl) in
-    kth-found s fs k (i + length (octets f)) (record { divides = d; allowed = h .allowed .1 }) (omega arith) place z e
+module _ (s : List ℕ) (k : ℕ) (a : IsAccepted (reading s)) where
+  pub field-found : (place : ℕ) (z : Sizes) → foundAt (wanted s k) ≡ At place z → KthFound s place z (field s k)
+  unfolding foundAt sizes answerFor field
+  field-found place z e = go (wanted s k) refl e
+    where
+      go : (w : Option (ℕ × Parts)) → wanted s k ≡ w → foundAt w ≡ At place z → KthFound s place z (field s k)
+      go none f g = let y : _≡_ {A = ℕ} 0 1 = cc in absurd (omega arith)
+      go (some p) f g =
+          let h = kth-stands octets Allowed s (wanted s k) 9 k (start s k a) (p .0) (p .1) f in
+          let x : p .0 ≡ place = cc in
+          let y : sizes (p .1) ≡ z = cc in
+          let l = length-octets (p .1) in
+          let i = h .inside in
+          let m : KthFound s (p .0) (sizes (p .1)) (field s k)
+          = record {
+            inside = omega arith;
+            small = hint-small _ _ _ (p .1 .hint) (h .good .hint);
+            shows = rw (h .divides) (ap (shown (p .0)) (parts-of-field (p .1) (h .rest))) ∙ field-of-kth shown places k (reading s) a (some p) f;
+          } in
+          subst (λ (n : ℕ). KthFound s n z (field s k)) x (subst (λ (t : Sizes). KthFound s (p .0) t (field s k)) y m)
 
-pub kth-absent : (fs : List Parts) (k i : ℕ) → kth k i fs ≡ Absent → refusedField 18 0 ≡ kthShown k i fs
-unfolding kth kthShown
-kth-absent [] k i e = refl
-kth-absent (f ∷ fs) zero i e = let z : _≡_ {A = ℕ} 0 1 = cc in absurd (omega arith)
-kth-absent (f ∷ fs) (suc k) i e = kth-absent fs k (i + length (octets f)) e
+  pub field-absent : foundAt (wanted s k) ≡ Absent → refusedField 18 0 ≡ field s k
+  unfolding foundAt answerFor field
+  field-absent e = go (wanted s k) refl e
+    where
+      go : (w : Option (ℕ × Parts)) → wanted s k ≡ w → foundAt w ≡ Absent → refusedField 18 0 ≡ field s k
+      go none f g = field-of-kth shown places k (reading s) a none f
+      go (some p) f g = let y : _≡_ {A = ℕ} 0 1 = cc in absurd (omega arith)

@@ -1,18 +1,16 @@
 -- The answer for a field, by its sizes and its place in the message.
-use Prim.Native.Nat.{ℕ, zero, suc, _+_, _-_, _≤_, _<_}
-use native.Mathlib.Nat.{add-assoc}
+use Prim.Native.Nat.{ℕ, _+_, _-_, _≤_, _<_}
 use native.Mathlib.Omega.{arith}
-use mathlib.Core.Path.{_≡_, refl, sym, ap, ap₂, _∙_, subst}
+use mathlib.Core.Path.{_≡_, refl, ap, _∙_}
 use mathlib.Core.Bool.{Bool, true, false, cond, _||_}
 use mathlib.Core.List.{List, [], _∷_}
 use lib.ListN.{length, getD, take, drop, length-drop}
-use lib.Seq.{drop-drop, length-take-le, getD-drop}
+use lib.Seq.{drop-drop, length-take-le}
 use lib.Dec.{eqb}
 use borrow.Author.Tests.{eq-eqb, ne-eqb}
 use Rattle.octets.specs.Number.{number, unsigned}
-use Rattle.tib_field.specs.Octets.{orZero}
 use Rattle.tib_field.proofs.Slices.{tail-part}
-use Rattle.tib_field.proofs.Numbers.{few-octets}
+use Rattle.octets.proofs.Number.{unsigned-is}
 use Rattle.tib_msg_field.specs.declared.Sizes.{Sizes}
 use Rattle.tib_msg_field.specs.Reading.{total, partsAt}
 use Rattle.tib_real.specs.declared.types.Real.{Real}
@@ -44,11 +42,11 @@ unfolding hintNumber
 number-partial k s d e = rw (ne-eqb k 8 d, eq-eqb k 9 e)
 
 pub number-value : (k : ℕ) (s : List ℕ) → (k ≡ 8 → ⊥) → (k ≡ 9 → ⊥) → length s ≤ 10
-    → orZero (unsigned (take (length s - 2) (drop 2 s))) ≡ hintNumber k s
+    → unsigned (take (length s - 2) (drop 2 s)) ≡ hintNumber k s
 unfolding hintNumber
 number-value k s d e h =
     rw (ne-eqb k 8 d, ne-eqb k 9 e, tail-part s 2)
-    (few-octets (drop 2 s) (rw (length-drop 2 s) (omega arith)))
+    (unsigned-is (drop 2 s) (rw (length-drop 2 s) (omega arith)))
 
 -- Where the parts of a field stand in the message.
 module _ (s : List ℕ) (at : ℕ) (z : Sizes) (inside : at + total z ≤ length s) where

@@ -1,25 +1,28 @@
 -- What the readers of TibMsg answer, by a message's reading.
-use Prim.Native.Nat.{ℕ, zero, suc, _+_}
+use Prim.Native.Nat.{ℕ, _+_}
 use mathlib.Core.Bool.{Bool, cond, _||_}
-use mathlib.Core.List.{List, [], _∷_}
+use mathlib.Core.List.{List}
 use lib.ListN.{length, getD, drop}
 use lib.Dec.{eqb}
 use Rattle.octets.specs.Number.{number}
 use Rattle.tib_real.specs.FromOctets.{realOf}
 use Rattle.tib_real.specs.declared.types.Real.{Real}
-use Rattle.tib_field.specs.Refused.{refusedCheck, noReal, refusedField}
-use Rattle.tib_field.specs.declared.Checked.{Checked}
+use Rattle.reading.specs.Checks.{counts}
+use Rattle.reading.specs.declared.Checked.{Checked}
+use Rattle.tib_field.specs.Refused.{noReal}
+use Rattle.tib_field.specs.Fields.{placed}
+use Rattle.tib_field.specs.Kth.{fieldOf}
 use Rattle.tib_field.specs.declared.Field.{Field}
 use Rattle.tib_msg_field.specs.Layout.{kind, hinted, Parts, octets}
-use Rattle.tib_msg_field.specs.Reading.{Reading, accepted, refused, reading}
+use Rattle.tib_msg_field.specs.Reading.{reading}
 
--- A refusal, or the count of fields. No field's data are read as a message, so the depth is 1.
-unfoldable pub counts : Reading → Checked
-counts (accepted fs) = record { refusal = 0; place = 0; fields = length fs; depth = 1 }
-counts (refused number place) = refusedCheck number place
+-- No field's data are read as a message, so the depth is 1.
+unfoldable pub depth : List Parts → ℕ
+depth fs = 1
 
+-- The check of a message: its refusal, or the count of its fields.
 unfoldable pub check : List ℕ → Checked
-check s = counts (reading s)
+check s = counts length depth (reading s)
 
 -- The number of a hint: an array's element size and a partial's offset stand in the second octet, any other number after it.
 unfoldable pub hintNumber : ℕ → List ℕ → ℕ
@@ -46,16 +49,10 @@ shown at f =
       real = realShown (kind (f .octet)) (f .contents) (hintNumber (kind (f .octet)) (f .hint)) (hinted (f .octet));
     }
 
--- The k-th, from 0, of fields that begin at a place; 18 where there is none.
-unfoldable pub kthShown : ℕ → ℕ → List Parts → Field
-kthShown k at [] = refusedField 18 0
-kthShown zero at (f ∷ fs) = shown at f
-kthShown (suc k) at (f ∷ fs) = kthShown k (at + length (octets f)) fs
-
-unfoldable pub fieldOf : ℕ → Reading → Field
-fieldOf k (accepted fs) = kthShown k 9 fs
-fieldOf k (refused number place) = refusedField number place
+-- The fields with the places where they begin, the first after the header.
+unfoldable pub places : List Parts → List (ℕ × Parts)
+places fs = placed octets 9 fs
 
 -- The k-th field of a message.
 unfoldable pub field : List ℕ → ℕ → Field
-field s k = fieldOf k (reading s)
+field s k = fieldOf shown places k (reading s)

@@ -1,5 +1,6 @@
 // Reading TibMsg messages: the check of a whole message, and its k-th field.
-use tib_field::Checked;
+use reading::Checked;
+use reading::Walk;
 use tib_field::Field;
 use tib_msg_field::Sizes;
 use tib_msg_field::Step;
@@ -8,14 +9,11 @@ ghost use mathlib.Core.Path.{_≡_};
 ghost use Prim.Native.Nat.{suc, _+_, _≤_, _<_, _^_};
 ghost use lib.ListN.{length, getD, drop};
 ghost use Rattle.tib_msg_field.specs.Reading.{total, partsAt, fieldsFrom, reading};
-ghost use Rattle.tib_msg.specs.Answers.{check as check-of, hintNumber, realShown, shown as shown-of, field as field-of};
-ghost use Rattle.tib_msg.specs.Found.{walkOf, kthOf, IsAccepted};
-
-// What a message comes to: the count of its fields, or a refusal.
-enum Walk {
-    Accepted(u64),
-    Refused { number: u64, place: u64 },
-}
+ghost use Rattle.reading.specs.Reading.{IsAccepted};
+ghost use Rattle.reading.specs.Checks.{walkOf};
+ghost use Rattle.tib_field.specs.Kth.{kthOf};
+ghost use Rattle.tib_msg.specs.Answers.{depth, check as check-of, hintNumber, realShown, shown as shown-of, places, field as field-of};
+ghost use Rattle.tib_msg.specs.Found.{foundAt};
 
 // A field of a message by its place, or that there is none.
 enum Kth {
@@ -34,19 +32,14 @@ fn past(at: usize, z: Sizes) -> usize
 // The fields of a message after a header that is good.
 fn walk_fields(s: &[u8]) -> Walk
     requires { ⌜ 9 ≤ length (now s) ⌝ }
-    ensures { λ r. ⌜ r ≡ walkOf (fieldsFrom (suc (length (now (s .entry)))) 9 (drop 9 (now (s .entry)))) ⌝ }
+    ensures { λ r. ⌜ r ≡ walkOf length depth (fieldsFrom (suc (length (now (s .entry)))) 9 (drop 9 (now (s .entry)))) ⌝ }
 {
     let mut i: usize = 9;
     let mut fields: u64 = 0;
     loop {
         match tib_msg_field::next_field(&s[i..]) {
-            Step::Done => return Walk::Accepted(fields),
-            Step::Fault(k) => {
-                return Walk::Refused {
-                    number: k,
-                    place: i as u64,
-                };
-            }
+            Step::Done => return Walk::Accepted(fields, 1),
+            Step::Fault(k) => return Walk::Refused(k, i as u64),
             Step::Over(z) => {
                 i = past(i, z);
                 fields += 1;
@@ -58,11 +51,11 @@ fn walk_fields(s: &[u8]) -> Walk
 fn refuse(number: u64) -> Walk
     ensures { λ r. ⌜ r ≡ Walk.Refused number 0 ⌝ }
 {
-    Walk::Refused { number, place: 0 }
+    Walk::Refused(number, 0)
 }
 
 fn read(message: &[u8]) -> Walk
-    ensures { λ r. ⌜ r ≡ walkOf (reading (now (message .entry))) ⌝ }
+    ensures { λ r. ⌜ r ≡ walkOf length depth (reading (now (message .entry))) ⌝ }
 {
     let n = message.len();
     if 65536 < n {
@@ -85,21 +78,13 @@ fn read(message: &[u8]) -> Walk
 pub fn check(message: &[u8]) -> Checked
     ensures { λ r. ⌜ r ≡ check-of (now (message .entry)) ⌝ }
 {
-    match read(message) {
-        Walk::Accepted(fields) => Checked {
-            refusal: 0,
-            place: 0,
-            fields,
-            depth: 1,
-        },
-        Walk::Refused { number, place } => tib_field::refused_check(number, place),
-    }
+    reading::answer(read(message))
 }
 
 // The place and the sizes of the k-th field of a message that is accepted.
 fn find(s: &[u8], k: u64) -> Kth
-    requires { ⌜ IsAccepted (now s) ⌝ }
-    ensures { λ r. ⌜ r ≡ kthOf k (reading (now (s .entry))) ⌝ }
+    requires { ⌜ IsAccepted (reading (now s)) ⌝ }
+    ensures { λ r. ⌜ r ≡ foundAt (kthOf places k (reading (now (s .entry)))) ⌝ }
 {
     let mut i: usize = 9;
     let mut left = k;
@@ -124,7 +109,7 @@ fn first(s: &[u8]) -> u64
     if s.len() == 0 {
         return 0;
     }
-    tib_field::wide(s[0])
+    numbers::wide(s[0])
 }
 
 // The number of a hint, by the field's type and the hint's octets.
@@ -136,10 +121,10 @@ fn hint_number(k: u64, s: &[u8]) -> u64
         return 0;
     }
     if k == 8 {
-        return tib_field::wide(s[1]);
+        return numbers::wide(s[1]);
     }
     if k == 9 {
-        return tib_field::wide(s[1]);
+        return numbers::wide(s[1]);
     }
     tib_field::number(&s[2..])
 }
@@ -185,8 +170,8 @@ pub fn field(message: &[u8], k: u64) -> Field
     ensures { λ r. ⌜ r ≡ field-of (now (message .entry)) k ⌝ }
 {
     match read(message) {
-        Walk::Refused { number, place } => tib_field::refused_field(number, place),
-        Walk::Accepted(_) => match find(message, k) {
+        Walk::Refused(number, place) => tib_field::refused_field(number, place),
+        Walk::Accepted(_, _) => match find(message, k) {
             Kth::At { place, sizes } => shown(message, place, sizes),
             Kth::Absent => tib_field::refused_field(18, 0),
         },

@@ -1,52 +1,56 @@
 -- A message is accepted by the reading exactly when it is a whole message, with the same division, and it has one division.
-use Prim.Native.Nat.{ℕ, zero, suc, _+_, _-_, _^_, _≤_, _<_}
+use Prim.Native.Nat.{ℕ, zero, suc, _+_, _-_, _≤_, _<_}
 use native.Mathlib.Omega.{arith}
-use mathlib.Core.Path.{_≡_, refl, sym, ap, ap₂, _∙_, subst}
-use mathlib.Core.Bool.{Bool, true, false, cond, not}
+use mathlib.Core.Path.{_≡_, refl, sym, ap, _∙_, subst}
+use mathlib.Core.Bool.{true, not}
 use mathlib.Core.List.{List, [], _∷_, _++_}
 use mathlib.Core.Logic.{_↔_}
 use lib.ListN.{length, take, drop, length-append, length-drop, take-append-drop}
 use lib.Seq.{take-at, drop-at, length-take-le, drop-drop}
 use lib.Dec.{eqb, ltb}
-use borrow.Author.Tests.{ltb-false, le-ltb, eqb-true, eq-eqb}
+use borrow.Author.Tests.{ltb-false, le-ltb, eqb-true, eq-eqb, not-false}
 use Rattle.octets.specs.Number.{number}
-use Rattle.tib_field.specs.Octets.{begins}
+use Rattle.reading.specs.Reading.{Reading, accepted, refused, onAccepted, messageLimit}
+use Rattle.tib_field.specs.Mark.{begins}
 use Rattle.tib_field.proofs.Marks.{mark-begins, begins-mark}
 use Rattle.tib_msg_field.specs.declared.Sizes.{Sizes}
 use Rattle.tib_msg_field.specs.declared.Step.{Step}
 use Rattle.tib_msg_field.specs.declared.Step.the-variants.{Done, Fault, Over}
-use Rattle.tib_msg_field.specs.Layout.{Parts, octets, Allowed, joined, AllAllowed, magic, Whole}
-use Rattle.tib_msg_field.specs.Reading.{nextField, sizes, total, partsAt, Reading, accepted, refused, onFields, afterStep, fieldsFrom, reading}
+use Rattle.tib_field.specs.Fields.{Each, joined}
+use Rattle.tib_field.proofs.Fields.{Row}
+use Rattle.tib_field.proofs.Choices.{fails}
+use Rattle.tib_field.proofs.Refusals.{not-accepted}
+use Rattle.tib_msg_field.specs.Layout.{Parts, octets, Allowed, magic, Whole}
+use Rattle.tib_msg_field.specs.Reading.{nextField, sizes, total, partsAt, afterStep, fieldsFrom, reading}
 use Rattle.tib_msg_field.proofs.Steps.{Found, step-found, step-of-field, step-of-end, step-done, parts-of-field, rest-of-field, length-octets}
 
 -- Octets that are allowed fields joined.
-pub record Fields (s : List ℕ) (fs : List Parts) : Type 0 where
-  pub divides : s ≡ joined fs
-  pub allowed : AllAllowed fs
+abbrev pub Fields : List ℕ → List Parts → Type 0
+Fields s fs = Row octets Allowed s fs
 
 -- An allowed field and the division of the octets after it.
 one-more : (s : List ℕ) (z : Sizes) (fs : List Parts) → Found s z → Fields (drop (total z) s) fs → Fields s (partsAt s z ∷ fs)
-unfolding joined AllAllowed
+unfolding joined Each
 one-more s z fs f g =
     let p : partsAt s z ≡ f .field = rw (← f .sized) (rw (f .divides) (parts-of-field (f .field) (f .rest))) in
     let q : drop (total z) s ≡ f .rest = rw (← f .sized) (rw (f .divides) (rest-of-field (f .field) (f .rest))) in
     rw p
     (record {
       divides = f .divides ∙ ap (λ (r : List ℕ). octets (f .field) ++ r) (sym q ∙ g .divides);
-      allowed = (f .allowed, g .allowed);
+      each = (f .allowed, g .each);
     })
 
-after-fields : (next : ℕ → List ℕ → Reading) → ((at : ℕ) (r : List ℕ) (fs : List Parts) → next at r ≡ accepted fs → Fields r fs)
+after-fields : (next : ℕ → List ℕ → Reading (List Parts)) → ((at : ℕ) (r : List ℕ) (fs : List Parts) → next at r ≡ accepted fs → Fields r fs)
     → (at : ℕ) (s : List ℕ) (fs : List Parts) (p : Step) → nextField s ≡ p → afterStep next at s p ≡ accepted fs → Fields s fs
-unfolding afterStep onFields joined AllAllowed
+unfolding afterStep onAccepted joined Each
 after-fields next later at s fs Done h e =
     let k : [] ≡ fs = cc in
-    let g : Fields s [] = record { divides = step-done s h; allowed = tt } in
+    let g : Fields s [] = record { divides = step-done s h; each = tt } in
     subst (Fields s) k g
 after-fields next later at s fs (Fault number) h e = let z : _≡_ {A = ℕ} 0 1 = cc in absurd (omega arith)
 after-fields next later at s fs (Over z) h e = go (next (at + total z) (drop (total z) s)) refl e
   where
-    go : (r : Reading) → next (at + total z) (drop (total z) s) ≡ r → onFields (partsAt s z ∷ []) r ≡ accepted fs → Fields s fs
+    go : (r : Reading (List Parts)) → next (at + total z) (drop (total z) s) ≡ r → onAccepted (λ (gs : List Parts). partsAt s z ∷ gs) r ≡ accepted fs → Fields s fs
     go (accepted rest) f g =
         subst (Fields s) (cc) (one-more s z rest (step-found s z h) (later (at + total z) (drop (total z) s) rest f))
     go (refused number place) f g = let y : _≡_ {A = ℕ} 0 1 = cc in absurd (omega arith)
@@ -61,61 +65,64 @@ pub field-size : (f : Parts) → 2 ≤ total (sizes f)
 unfolding total
 field-size f = omega arith
 
-pub fields-accepted : (fs : List Parts) (left at : ℕ) → AllAllowed fs → length (joined fs) < left → fieldsFrom left at (joined fs) ≡ accepted fs
-unfolding fieldsFrom afterStep onFields joined AllAllowed
+pub fields-accepted : (fs : List Parts) (left at : ℕ) → Each Allowed fs → length (joined octets fs) < left → fieldsFrom left at (joined octets fs) ≡ accepted fs
+unfolding fieldsFrom afterStep onAccepted joined Each
 fields-accepted [] zero at a h = absurd (omega arith)
 fields-accepted [] (suc left) at a h = rw step-of-end
 fields-accepted (f ∷ fs) zero at a h = absurd (omega arith)
 fields-accepted (f ∷ fs) (suc left) at a h =
     let k = field-size f in
-    let l : length (octets f ++ joined fs) ≡ total (sizes f) + length (joined fs) = rw (length-append, length-octets f) in
+    let l : length (octets f ++ joined octets fs) ≡ total (sizes f) + length (joined octets fs) = rw (length-append, length-octets f) in
     let r = fields-accepted fs left (at + total (sizes f)) (a .1) (omega arith) in
-    rw (step-of-field f (joined fs) (a .0), parts-of-field f (joined fs), rest-of-field f (joined fs), r)
+    rw (step-of-field f (joined octets fs) (a .0), parts-of-field f (joined octets fs), rest-of-field f (joined octets fs), r)
 
-passes : (t : Bool) (r : Reading) (k p : ℕ) (fs : List Parts) → cond (not t) (refused k p) r ≡ accepted fs → (t ≡ true) × (r ≡ accepted fs)
-passes true r k p fs e = (refl, e)
-passes false r k p fs e = let z : _≡_ {A = ℕ} 0 1 = cc in absurd (omega arith)
+-- What an accepted message has: the tests of its header passed, and fields stand after it.
+pub record Tested (s : List ℕ) (fs : List Parts) : Type 0 where
+  pub short : length s ≤ messageLimit
+  pub header : 9 ≤ length s
+  pub marked : begins magic s ≡ true
+  pub counted : number (take 4 (drop 5 s)) ≡ length s - 9
+  pub fields : Fields (drop 9 s) fs
 
-fails : (t : Bool) (r : Reading) (k p : ℕ) (fs : List Parts) → cond t (refused k p) r ≡ accepted fs → (t ≡ false) × (r ≡ accepted fs)
-fails true r k p fs e = let z : _≡_ {A = ℕ} 0 1 = cc in absurd (omega arith)
-fails false r k p fs e = (refl, e)
-
--- The fields of an accepted message are what stands after its header.
-pub accepted-fields : (s : List ℕ) (fs : List Parts) → reading s ≡ accepted fs → (9 ≤ length s) × Fields (drop 9 s) fs
+pub accepted-tested : (s : List ℕ) (fs : List Parts) → reading s ≡ accepted fs → Tested s fs
 unfolding reading
-accepted-fields s fs e =
-    let a = fails (ltb (2 ^ 16) (length s)) _ 1 0 fs e in
-    let b = fails (ltb (length s) 9) _ 3 0 fs (a .1) in
-    let c = passes (begins magic s) _ 13 0 fs (b .1) in
-    let d = passes (eqb (number (take 4 (drop 5 s))) (length s - 9)) _ 14 0 fs (c .1) in
-    (ltb-false (length s) 9 (b .0), fields-whole (suc (length s)) 9 (drop 9 s) fs (d .1))
+accepted-tested s fs e =
+    let q = accepted fs in
+    let n = length s in
+    let a = fails q (ltb messageLimit n) (refused 1 0) _ (not-accepted 1 0 fs) e in
+    let b = fails q (ltb n 9) (refused 3 0) _ (not-accepted 3 0 fs) (a .1) in
+    let c = fails q (not (begins magic s)) (refused 13 0) _ (not-accepted 13 0 fs) (b .1) in
+    let d = fails q (not (eqb (number (take 4 (drop 5 s))) (n - 9))) (refused 14 0) _ (not-accepted 14 0 fs) (c .1) in
+    record {
+      short = ltb-false messageLimit n (a .0);
+      header = ltb-false n 9 (b .0);
+      marked = not-false (begins magic s) (c .0);
+      counted = eqb-true (number (take 4 (drop 5 s))) (n - 9) (not-false (eqb (number (take 4 (drop 5 s))) (n - 9)) (d .0));
+      fields = fields-whole (suc n) 9 (drop 9 s) fs (d .1);
+    }
 
 pub accepted-whole : (s : List ℕ) (fs : List Parts) → reading s ≡ accepted fs → Whole s fs
-unfolding reading
 accepted-whole s fs e =
-    let a = fails (ltb (2 ^ 16) (length s)) _ 1 0 fs e in
-    let b = fails (ltb (length s) 9) _ 3 0 fs (a .1) in
-    let c = passes (begins magic s) _ 13 0 fs (b .1) in
-    let d = passes (eqb (number (take 4 (drop 5 s))) (length s - 9)) _ 14 0 fs (c .1) in
-    let f = fields-whole (suc (length s)) 9 (drop 9 s) fs (d .1) in
-    let h = ltb-false (length s) 9 (b .0) in
+    let t = accepted-tested s fs e in
+    let f = t .fields in
+    let h = t .header in
     let l : length (take 4 (drop 5 s)) ≡ 4 = length-take-le 4 (drop 5 s) (rw length-drop (omega arith)) in
-    let m : length (joined fs) ≡ length s - 9 = ap length (sym (f .divides)) ∙ length-drop 9 s in
-    let q : take 4 (drop 5 s) ++ joined fs ≡ drop 5 s = rw (← f .divides, ← drop-drop 4 5 s) (take-append-drop 4 (drop 5 s)) in
+    let m : length (joined octets fs) ≡ length s - 9 = ap length (sym (f .divides)) ∙ length-drop 9 s in
+    let q : take 4 (drop 5 s) ++ joined octets fs ≡ drop 5 s = rw (← f .divides, ← drop-drop 4 5 s) (take-append-drop 4 (drop 5 s)) in
     record {
       size = take 4 (drop 5 s);
-      divides = begins-mark magic s (c .0) ∙ ap (λ (r : List ℕ). magic ++ r) (sym q);
+      divides = begins-mark magic s (t .marked) ∙ ap (λ (r : List ℕ). magic ++ r) (sym q);
       width = l;
-      counted = eqb-true (number (take 4 (drop 5 s))) (length s - 9) (d .0) ∙ sym m;
-      allowed = f .allowed;
-      short = ltb-false (2 ^ 16) (length s) (a .0);
+      counted = t .counted ∙ sym m;
+      allowed = f .each;
+      short = t .short;
     }
 
 pub whole-accepted : (s : List ℕ) (fs : List Parts) → Whole s fs → reading s ≡ accepted fs
 unfolding reading
 whole-accepted s fs w =
-    let r = w .size ++ joined fs in
-    let b = joined fs in
+    let r = w .size ++ joined octets fs in
+    let b = joined octets fs in
     let l : length r ≡ 4 + length b = length-append (w .size) b ∙ ap (λ (n : ℕ). n + length b) (w .width) in
     let m : length (magic ++ r) ≡ 9 + length b = length-append magic r ∙ omega arith in
     let t : take 4 r ≡ w .size = take-at (w .size) b 4 (w .width) in
@@ -127,7 +134,7 @@ whole-accepted s fs w =
     let p : begins magic s ≡ true = rw (w .divides) (mark-begins magic r) in
     let q : take 4 (drop 5 s) ≡ w .size = rw (w .divides) t in
     let v : drop 9 s ≡ b = rw (w .divides) d in
-    rw (le-ltb (2 ^ 16) (length s) u, le-ltb (length s) 9 (omega arith), p, q, eq-eqb (number (w .size)) (length s - 9) e, v)
+    rw (le-ltb (messageLimit) (length s) u, le-ltb (length s) 9 (omega arith), p, q, eq-eqb (number (w .size)) (length s - 9) e, v)
     (fields-accepted fs (suc (length s)) 9 (w .allowed) (omega arith))
 
 -- The reading accepts a message with a division exactly where the message is whole and that is its division.

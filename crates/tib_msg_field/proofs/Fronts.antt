@@ -1,26 +1,21 @@
 -- What the reading finds at the front of octets, test by test.
-use Prim.Native.Nat.{ℕ, zero, suc, _+_, _-_, _/_, _%_, _≤_, _<_}
+use Prim.Native.Nat.{ℕ, suc, _-_, _/_, _%_, _≤_, _<_}
 use native.Mathlib.Omega.{arith}
-use mathlib.Core.Path.{_≡_, refl, sym, ap, _∙_}
+use mathlib.Core.Path.{_≡_, refl, _∙_}
 use mathlib.Core.Bool.{Bool, true, false, cond}
 use mathlib.Core.List.{List, [], _∷_}
-use lib.ListN.{length, getD, take, drop, length-take}
+use lib.ListN.{length, getD, take, drop}
 use lib.Seq.{length-take-le}
-use lib.Dec.{eqb, ltb}
+use lib.Dec.{eqb}
 use borrow.Author.Tests.{lt-ltb, le-ltb}
+use Rattle.tib_msg_field.specs.declared.HintPart.the-variants.{Fault as HintFault}
 use Rattle.octets.specs.Number.{number, unsigned}
-use Rattle.tib_field.specs.Octets.{orZero}
-use Rattle.tib_field.specs.Name.{nameFront}
-use Rattle.tib_field.specs.declared.Front.{Front}
-use Rattle.tib_field.specs.declared.Front.the-variants.{End, Fault as NameFault, Name as Sized}
 use Rattle.tib_field.proofs.Slices.{tail-part, front-part}
-use Rattle.tib_field.proofs.Numbers.{few-octets}
-use Rattle.tib_msg_field.specs.declared.Step.{Step}
-use Rattle.tib_msg_field.specs.declared.Step.the-variants.{Done, Fault, Over}
+use Rattle.octets.proofs.Number.{unsigned-is}
+use Rattle.tib_msg_field.specs.declared.Step.the-variants.{Fault}
 use Rattle.tib_msg_field.specs.declared.HintPart.{HintPart}
-use Rattle.tib_msg_field.specs.declared.HintPart.the-variants.{Fault as HintFault, Size}
 use Rattle.tib_msg_field.specs.Layout.{kind, sizeWidth, sizeAllowed}
-use Rattle.tib_msg_field.specs.Reading.{typeAllowed, arrayHint, partialHint, valueHint, hintFront, hintAt, withHint, fromData, fromSize, fromType, afterName, nextField}
+use Rattle.tib_msg_field.specs.Reading.{typeAllowed, arrayHint, partialHint, valueHint, hintFront, hintAt, withHint, fromData, fromSize, fromType}
 
 pub hint-cut : (k size : ℕ) (s : List ℕ) → length s < 2 → HintFault 3 ≡ hintFront k size s
 unfolding hintFront
@@ -57,12 +52,12 @@ module _ (n c w : ℕ) (s : List ℕ) (e : w ≡ sizeWidth c) where
   unfolding fromSize
   size-cut h = rw (← e, lt-ltb (length s) w h)
 
-  module _ (h : w ≤ length s) (l : ℕ) (r : l ≡ orZero (unsigned (take (w - 0) (drop 0 s)))) where
+  module _ (h : w ≤ length s) (l : ℕ) (r : l ≡ unsigned (take (w - 0) (drop 0 s))) where
     size-read : l ≡ number (take w s)
     size-read =
         let a = length-take-le w s h in
         let b = size-few c in
-        r ∙ rw (front-part s w) (few-octets (take w s) (omega arith))
+        r ∙ rw (front-part s w) (unsigned-is (take w s) (omega arith))
 
     pub size-bad : (k : ℕ) → k ≡ kind c → sizeAllowed k l ≡ false → Fault 16 ≡ fromSize n c (sizeWidth c) s
     unfolding fromSize
@@ -91,20 +86,3 @@ module _ (n : ℕ) (s : List ℕ) (h : length s ≡ 0 → ⊥) where
   pub type-good : typeAllowed (getD s 0 0) ≡ true
       → fromSize n (getD s 0 0) (sizeWidth (getD s 0 0)) (take (length s - 1) (drop 1 s)) ≡ fromType n s
   type-good e = rw (tail-part s 1) (rw e at (type-some n s h))
-
-module _ (s : List ℕ) where
-  pub at-end : nameFront s ≡ End → Done ≡ nextField s
-  unfolding nextField afterName
-  at-end e = rw e
-
-  pub bad-name : (k : ℕ) → nameFront s ≡ NameFault k → Fault k ≡ nextField s
-  unfolding nextField afterName
-  bad-name k e = rw e
-
-  pub good-name : (n : ℕ) → nameFront s ≡ Sized n → fromType n (take (length s - (1 + n)) (drop (1 + n) s)) ≡ nextField s
-  unfolding nextField afterName
-  good-name n e = rw (e, tail-part s (1 + n))
-
--- What a reader that was handed the octets from i on found.
-pub seen : (s : List ℕ) (i : ℕ) (r p : Step) → r ≡ nextField (take (length s - i) (drop i s)) → r ≡ p → nextField (drop i s) ≡ p
-seen s i r p e f = ap nextField (sym (tail-part s i)) ∙ sym e ∙ f

@@ -1,13 +1,14 @@
 -- The computed tests of a type octet and of a hint are the layout's rules.
-use Prim.Native.Nat.{ℕ, zero, suc, _+_, _-_, _/_, _%_, _≤_, _<_}
+use Prim.Native.Nat.{ℕ, _+_, _-_, _/_, _%_, _≤_, _<_}
 use native.Mathlib.Omega.{arith}
-use mathlib.Core.Path.{_≡_, refl, sym, ap, ap₂, _∙_, subst}
+use mathlib.Core.Path.{_≡_, refl, sym, ap, subst}
 use mathlib.Core.Bool.{Bool, true, false, cond, _&&_, _||_, not}
 use mathlib.Core.List.{List, [], _∷_, _++_}
 use lib.ListN.{length, take, drop, length-append, take-append-drop}
 use lib.Seq.{length-take-le}
 use lib.Dec.{T, eqb, leb, ltb}
 use borrow.Author.Tests.{leb-true, le-leb, eqb-true, eqb-false, eq-eqb, ne-eqb, ltb-false, le-ltb}
+use Rattle.tib_field.proofs.Choices.{both}
 use Rattle.tib_msg_field.specs.declared.HintPart.{HintPart}
 use Rattle.tib_msg_field.specs.declared.HintPart.the-variants.{Fault as HintFault, Size}
 use Rattle.tib_msg_field.specs.Layout.{kind, hinted, isWidth, Hint, none, array, partial, value}
@@ -19,10 +20,6 @@ is-true t e = subst T (sym e) tt
 pub true-is : (t : Bool) → T t → t ≡ true
 true-is true h = refl
 true-is false h = absurd h
-
-both : (a b : Bool) → (a && b) ≡ true → (a ≡ true) × (b ≡ true)
-both true b e = (refl, e)
-both false b e = let z : _≡_ {A = ℕ} 0 1 = cc in absurd (omega arith)
 
 -- A width is one of four numbers.
 pub width-small : (n : ℕ) → isWidth n ≡ true → (0 < n) × (n ≤ 8)

@@ -1,5 +1,5 @@
 -- A refusal's number is never 0, which stands for acceptance.
-use Prim.Native.Nat.{ℕ, zero, suc, _+_, _-_, _%_, _^_, _<_}
+use Prim.Native.Nat.{ℕ, zero, suc, _+_, _-_, _%_, _<_}
 use native.Mathlib.Omega.{arith}
 use mathlib.Core.Path.{_≡_, subst}
 use mathlib.Core.Bool.{cond, not, _&&_}
@@ -7,17 +7,17 @@ use mathlib.Core.List.{List, [], _∷_}
 use lib.ListN.{length, take, drop}
 use lib.Dec.{eqb, leb, ltb}
 use Rattle.octets.specs.Number.{number}
-use Rattle.tib_field.specs.Octets.{begins}
-use Rattle.tib_field.specs.Name.{nameFront}
-use Rattle.tib_field.specs.declared.Front.{Front}
-use Rattle.tib_field.specs.declared.Front.the-variants.{End, Fault as NameFault, Name}
-use Rattle.tib_field.proofs.Refusals.{either, OfName, name-refused}
+use Rattle.reading.specs.Reading.{Reading, refused, messageLimit}
+use Rattle.tib_field.specs.Mark.{begins}
+use Rattle.tib_field.proofs.Choices.{either}
+use Rattle.tib_field.proofs.Refusals.{OfReading, on-accepted}
+use Rattle.tib_field.proofs.Fronts.{of-next}
 use Rattle.tib_msg_field.specs.declared.Step.{Step}
 use Rattle.tib_msg_field.specs.declared.Step.the-variants.{Done, Fault, Over}
 use Rattle.tib_msg_field.specs.declared.HintPart.{HintPart}
 use Rattle.tib_msg_field.specs.declared.HintPart.the-variants.{Fault as HintFault, Size}
 use Rattle.tib_msg_field.specs.Layout.{kind, hinted, sizeWidth, isWidth, sizeAllowed, Parts, magic}
-use Rattle.tib_msg_field.specs.Reading.{typeAllowed, arrayHint, partialHint, valueHint, hintFront, hintAt, withHint, fromData, fromSize, fromType, afterName, nextField, total, partsAt, Reading, accepted, refused, onFields, afterStep, fieldsFrom, reading}
+use Rattle.tib_msg_field.specs.Reading.{typeAllowed, arrayHint, partialHint, valueHint, hintFront, hintAt, withHint, fromData, fromSize, fromType, nextField, total, partsAt, afterStep, fieldsFrom, reading}
 
 -- The number is above 0 where a hint, a step or a reading is refused.
 NumberedHint : HintPart → Type 0
@@ -29,9 +29,11 @@ Numbered Done = Unit {0}
 Numbered (Fault k) = 0 < k
 Numbered (Over z) = Unit {0}
 
-NumberedReading : Reading → Type 0
-NumberedReading (accepted fs) = Unit {0}
-NumberedReading (refused k place) = 0 < k
+unfoldable Positive : ℕ → Type 0
+Positive k = 0 < k
+
+NumberedReading : Reading (List Parts) → Type 0
+NumberedReading r = OfReading Positive r
 
 value-numbered : (t n left : ℕ) → NumberedHint (valueHint t n left)
 unfolding NumberedHint valueHint
@@ -78,46 +80,35 @@ unfolding Numbered fromType
 type-numbered n [] = omega arith
 type-numbered n (c ∷ s) = either Numbered (typeAllowed c) (fromSize n c (sizeWidth c) s) (Fault 16) (size-numbered n c (sizeWidth c) s) (omega arith)
 
-after-numbered : (s : List ℕ) (f : Front) → OfName (λ (k : ℕ). 0 < k) f → Numbered (afterName s f)
-unfolding OfName Numbered afterName
-after-numbered s End p = tt
-after-numbered s (NameFault k) p = p
-after-numbered s (Name n) p = type-numbered n (drop (1 + n) s)
-
 step-numbered : (s : List ℕ) → Numbered (nextField s)
-unfolding nextField
-step-numbered s = after-numbered s (nameFront s) (name-refused (λ (k : ℕ). 0 < k) (omega arith) (omega arith) s)
+unfolding nextField Numbered Positive
+step-numbered s = of-next Done Fault fromType Positive Numbered (omega arith) (omega arith) tt (λ k p. p) type-numbered s
 
-fields-on : (fs : List Parts) (r : Reading) → NumberedReading r → NumberedReading (onFields fs r)
-unfolding NumberedReading onFields
-fields-on fs (accepted gs) p = tt
-fields-on fs (refused k place) p = p
-
-step-read : (next : ℕ → List ℕ → Reading) → ((at : ℕ) (s : List ℕ) → NumberedReading (next at s)) → (at : ℕ) (s : List ℕ) (p : Step)
+step-read : (next : ℕ → List ℕ → Reading (List Parts)) → ((at : ℕ) (s : List ℕ) → NumberedReading (next at s)) → (at : ℕ) (s : List ℕ) (p : Step)
     → Numbered p → NumberedReading (afterStep next at s p)
-unfolding Numbered NumberedReading afterStep
+unfolding Numbered NumberedReading OfReading Positive afterStep
 step-read next later at s Done h = tt
 step-read next later at s (Fault k) h = h
-step-read next later at s (Over z) h = fields-on (partsAt s z ∷ []) _ (later (at + total z) (drop (total z) s))
+step-read next later at s (Over z) h = on-accepted Positive (λ (fs : List Parts). partsAt s z ∷ fs) _ (later (at + total z) (drop (total z) s))
 
 fields-numbered : (left at : ℕ) (s : List ℕ) → NumberedReading (fieldsFrom left at s)
-unfolding NumberedReading fieldsFrom
+unfolding NumberedReading OfReading Positive fieldsFrom
 fields-numbered zero at s = omega arith
 fields-numbered (suc left) at s = step-read (fieldsFrom left) (fields-numbered left) at s (nextField s) (step-numbered s)
 
 reading-numbered : (s : List ℕ) → NumberedReading (reading s)
-unfolding NumberedReading reading
+unfolding NumberedReading OfReading Positive reading
 reading-numbered s =
     let r = fieldsFrom (suc (length s)) 9 (drop 9 s) in
     let d = not (eqb (number (take 4 (drop 5 s))) (length s - 9)) in
     let c = not (begins magic s) in
     let b = ltb (length s) 9 in
-    either NumberedReading (ltb (2 ^ 16) (length s)) (refused 1 0) (cond b (refused 3 0) (cond c (refused 13 0) (cond d (refused 14 0) r))) (omega arith)
+    either NumberedReading (ltb (messageLimit) (length s)) (refused 1 0) (cond b (refused 3 0) (cond c (refused 13 0) (cond d (refused 14 0) r))) (omega arith)
     (either NumberedReading b (refused 3 0) (cond c (refused 13 0) (cond d (refused 14 0) r)) (omega arith)
     (either NumberedReading c (refused 13 0) (cond d (refused 14 0) r) (omega arith)
     (either NumberedReading d (refused 14 0) r (omega arith) (fields-numbered (suc (length s)) 9 (drop 9 s)))))
 
 -- A message is never refused with 0.
 pub refusal-positive : (s : List ℕ) (k place : ℕ) → reading s ≡ refused k place → 0 < k
-unfolding NumberedReading
+unfolding NumberedReading OfReading Positive
 refusal-positive s k place e = subst NumberedReading e (reading-numbered s)

@@ -1,25 +1,24 @@
 -- One step of the reading takes exactly one field that the layout allows.
-use Prim.Native.Nat.{ℕ, zero, suc, _+_, _-_, _≤_, _<_}
+use Prim.Native.Nat.{ℕ, suc, _+_, _-_}
 use native.Mathlib.Omega.{arith}
-use mathlib.Core.Path.{_≡_, refl, sym, ap, ap₂, _∙_, subst}
-use mathlib.Core.Bool.{Bool, true, false, cond}
+use mathlib.Core.Path.{_≡_, refl, sym, ap, subst}
+use mathlib.Core.Bool.{cond}
 use mathlib.Core.List.{List, [], _∷_, _++_, append-assoc}
-use lib.ListN.{length, getD, take, drop, length-append, take-append-drop}
+use lib.ListN.{length, take, drop, length-append, take-append-drop}
 use lib.Seq.{take-at, drop-at, length-take-le}
-use lib.Dec.{T, ltb}
+use lib.Dec.{ltb}
 use borrow.Author.Tests.{ltb-false, le-ltb}
 use Rattle.octets.specs.Number.{number}
-use Rattle.tib_field.specs.Name.{Name, nameFront}
-use Rattle.tib_field.specs.declared.Front.{Front}
-use Rattle.tib_field.specs.declared.Front.the-variants.{End, Fault as NameFault, Name as Sized}
-use Rattle.tib_field.proofs.Names.{front-end, front-found, front-of-name}
+use Rattle.tib_field.specs.Name.{Name, nameFront, afterName}
+use Rattle.tib_field.proofs.Choices.{either, passes, fails}
+use Rattle.tib_field.proofs.Fronts.{next-of-name, name-found, next-done}
 use Rattle.tib_msg_field.specs.declared.Sizes.{Sizes}
 use Rattle.tib_msg_field.specs.declared.Step.{Step}
 use Rattle.tib_msg_field.specs.declared.Step.the-variants.{Done, Fault, Over}
 use Rattle.tib_msg_field.specs.declared.HintPart.{HintPart}
 use Rattle.tib_msg_field.specs.declared.HintPart.the-variants.{Fault as HintFault, Size}
-use Rattle.tib_msg_field.specs.Layout.{kind, hinted, sizeWidth, sizeAllowed, Parts, octets, Allowed}
-use Rattle.tib_msg_field.specs.Reading.{typeAllowed, hintAt, withHint, fromData, fromSize, fromType, afterName, nextField, sizes, total, partsAt}
+use Rattle.tib_msg_field.specs.Layout.{kind, sizeWidth, sizeAllowed, Parts, octets, Allowed}
+use Rattle.tib_msg_field.specs.Reading.{typeAllowed, hintAt, withHint, fromData, fromSize, fromType, nextField, sizes, total, partsAt}
 use Rattle.tib_msg_field.proofs.Hints.{is-true, true-is, good-type, hint-found, hint-of, type-of}
 
 -- A field and the octets after it, part by part.
@@ -36,13 +35,8 @@ pub record Found (s : List ℕ) (z : Sizes) : Type 0 where
   pub sized : sizes field ≡ z
   pub allowed : Allowed field
 
-passes : (t : Bool) (p : Step) (k : ℕ) (z : Sizes) → cond t p (Fault k) ≡ Over z → (t ≡ true) × (p ≡ Over z)
-passes true p k z e = (refl, e)
-passes false p k z e = let y : _≡_ {A = ℕ} 0 1 = cc in absurd (omega arith)
-
-fails : (t : Bool) (p : Step) (k : ℕ) (z : Sizes) → cond t (Fault k) p ≡ Over z → (t ≡ false) × (p ≡ Over z)
-fails true p k z e = let y : _≡_ {A = ℕ} 0 1 = cc in absurd (omega arith)
-fails false p k z e = (refl, e)
+fault-not-over : (k : ℕ) (z : Sizes) → Fault k ≡ Over z → ⊥
+fault-not-over k z e = let y : _≡_ {A = ℕ} 0 1 = cc in absurd (omega arith)
 
 -- A step over a field had a hint of some size.
 over-hint : (n c w l : ℕ) (p : HintPart) (z : Sizes) → withHint n c w l p ≡ Over z
@@ -58,10 +52,10 @@ module _ (name : List ℕ) (good : Name name) (z : Sizes) where
   type-found (c ∷ s) e =
       let w = sizeWidth c in
       let l = number (take w s) in
-      let p = passes (typeAllowed c) (fromSize (length name) c w s) 16 z e in
-      let q = fails (ltb (length s) w) _ 3 z (p .1) in
-      let r = passes (sizeAllowed (kind c) l) (fromData (length name) c w l (drop w s)) 16 z (q .1) in
-      let t = fails (ltb (length (drop w s)) l) _ 4 z (r .1) in
+      let p = passes (Over z) (typeAllowed c) (fromSize (length name) c w s) (Fault 16) (fault-not-over 16 z) e in
+      let q = fails (Over z) (ltb (length s) w) (Fault 3) _ (fault-not-over 3 z) (p .1) in
+      let r = passes (Over z) (sizeAllowed (kind c) l) (fromData (length name) c w l (drop w s)) (Fault 16) (fault-not-over 16 z) (q .1) in
+      let t = fails (Over z) (ltb (length (drop w s)) l) (Fault 4) _ (fault-not-over 4 z) (r .1) in
       let g = good-type c (p .0) in
       let h = over-hint (length name) c w l (hintAt c l (drop l (drop w s))) z (t .1) in
       let f = hint-found c l (drop l (drop w s)) (h .0) g (h .1) in
@@ -87,35 +81,22 @@ module _ (name : List ℕ) (good : Name name) (z : Sizes) where
       }
 
 pub step-found : (s : List ℕ) (z : Sizes) → nextField s ≡ Over z → Found s z
-unfolding nextField afterName
-step-found s z e = go (nameFront s) refl e
-  where
-    go : (k : Front) → nameFront s ≡ k → afterName s k ≡ Over z → Found s z
-    go End f g = let y : _≡_ {A = ℕ} 0 1 = cc in absurd (omega arith)
-    go (NameFault k) f g = let y : _≡_ {A = ℕ} 0 1 = cc in absurd (omega arith)
-    go (Sized n) f g =
-        let r = front-found s n f in
-        let k : 1 + n ≡ suc n = omega arith in
-        let d : drop (1 + n) s ≡ r .rest = rw k (ap (drop (suc n)) (r .divides)) ∙ drop-at (r .name) (r .rest) n (r .sized) in
-        let h : fromType n (r .rest) ≡ Over z = rw d at g in
-        subst (λ (x : List ℕ). Found x z) (sym (r .divides))
-        (rw (r .sized) at (type-found (r .name) (r .good) z (r .rest) (rw (r .sized) h)))
+unfolding nextField
+step-found s z e =
+    let r = name-found Done Fault fromType s (Over z) (λ f. let y : _≡_ {A = ℕ} 0 1 = cc in absurd (omega arith)) (λ k. fault-not-over k z) e in
+    subst (λ (x : List ℕ). Found x z) (sym (r .divides)) (type-found (r .name) (r .good) z (r .rest) (r .same))
 
 -- An allowed field at the front of octets is what the step finds.
 pub step-of-field : (f : Parts) (rest : List ℕ) → Allowed f → nextField (octets f ++ rest) ≡ Over (sizes f)
-unfolding nextField afterName fromType fromSize fromData withHint octets sizes
+unfolding nextField fromType fromSize fromData withHint octets sizes
 step-of-field f rest a =
-    let n = length (f .name) in
-    let k : 1 + n ≡ suc n = omega arith in
     let s = f .size ++ (f .contents ++ (f .hint ++ rest)) in
     let t = f .contents ++ (f .hint ++ rest) in
     let p = length-append (f .size) t in
     let q = length-append (f .contents) (f .hint ++ rest) in
     rw (
       flat f rest,
-      front-of-name (f .name) (f .octet ∷ s) (a .name),
-      k,
-      drop-at (f .name) (f .octet ∷ s) n refl,
+      next-of-name Done Fault fromType (f .name) (f .octet ∷ s) (a .name),
       type-of (f .octet) (length (f .contents)) (f .hint) (a .clear) (a .known) (a .hint),
       ← a .width,
       le-ltb (length s) (length (f .size)) (omega arith),
@@ -137,10 +118,6 @@ NotDone Done = ⊥
 NotDone (Fault k) = Unit {0}
 NotDone (Over z) = Unit {0}
 
-either : (t : Bool) (p q : Step) → NotDone p → NotDone q → NotDone (cond t p q)
-either true p q a b = a
-either false p q a b = b
-
 hint-not-done : (n c w l : ℕ) (p : HintPart) → NotDone (withHint n c w l p)
 unfolding withHint NotDone
 hint-not-done n c w l (HintFault k) = tt
@@ -149,7 +126,7 @@ hint-not-done n c w l (Size h) = tt
 data-not-done : (n c w l : ℕ) (s : List ℕ) → NotDone (fromData n c w l s)
 unfolding fromData NotDone
 data-not-done n c w l s =
-    either (ltb (length s) l) (Fault 4) (withHint n c w l (hintAt c l (drop l s))) tt (hint-not-done n c w l (hintAt c l (drop l s)))
+    either NotDone (ltb (length s) l) (Fault 4) (withHint n c w l (hintAt c l (drop l s))) tt (hint-not-done n c w l (hintAt c l (drop l s)))
 
 size-not-done : (n c w : ℕ) (s : List ℕ) → NotDone (fromSize n c w s)
 unfolding fromSize NotDone
@@ -157,23 +134,18 @@ size-not-done n c w s =
     let l = number (take w s) in
     let p = fromData n c w l (drop w s) in
     let t = sizeAllowed (kind c) l in
-    either (ltb (length s) w) (Fault 3) (cond t p (Fault 16)) tt (either t p (Fault 16) (data-not-done n c w l (drop w s)) tt)
+    either NotDone (ltb (length s) w) (Fault 3) (cond t p (Fault 16)) tt (either NotDone t p (Fault 16) (data-not-done n c w l (drop w s)) tt)
 
 type-not-done : (n : ℕ) (s : List ℕ) → NotDone (fromType n s)
 unfolding fromType NotDone
 type-not-done n [] = tt
 type-not-done n (c ∷ s) =
-    either (typeAllowed c) (fromSize n c (sizeWidth c) s) (Fault 16) (size-not-done n c (sizeWidth c) s) tt
+    either NotDone (typeAllowed c) (fromSize n c (sizeWidth c) s) (Fault 16) (size-not-done n c (sizeWidth c) s) tt
 
--- Only where no octet is left does the reading end.
 pub step-done : (s : List ℕ) → nextField s ≡ Done → s ≡ []
-unfolding nextField afterName NotDone
-step-done s e = go (nameFront s) refl e
-  where
-    go : (k : Front) → nameFront s ≡ k → afterName s k ≡ Done → s ≡ []
-    go End f g = front-end s f
-    go (NameFault k) f g = let y : _≡_ {A = ℕ} 0 1 = cc in absurd (omega arith)
-    go (Sized m) f g = absurd (subst NotDone g (type-not-done m (drop (1 + m) s)))
+unfolding nextField NotDone
+step-done s e =
+    next-done Done Fault fromType s (λ k f. subst NotDone f tt) (λ n r f. subst NotDone f (type-not-done n r)) e
 
 pub length-octets : (f : Parts) → length (octets f) ≡ total (sizes f)
 unfolding octets total sizes

@@ -1,12 +1,14 @@
 -- What a TibMsg message is, independent of any way to read it: a header, and fields joined, each as the layout allows.
-use Prim.Native.Nat.{ℕ, _+_, _/_, _%_, _^_, _≤_}
+use Prim.Native.Nat.{ℕ, _+_, _/_, _%_, _≤_}
 use mathlib.Core.Path.{_≡_}
 use mathlib.Core.Bool.{Bool, true, false, cond, _||_}
 use mathlib.Core.List.{List, [], _∷_, _++_}
 use lib.ListN.{length}
 use lib.Dec.{T, eqb}
 use Rattle.octets.specs.Number.{number}
+use Rattle.reading.specs.Reading.{messageLimit}
 use Rattle.tib_field.specs.Name.{Name}
+use Rattle.tib_field.specs.Fields.{Each, joined}
 
 -- The type octet. Its low four bits are the type.
 unfoldable pub kind : ℕ → ℕ
@@ -58,14 +60,6 @@ pub record Allowed (f : Parts) : Type 0 where
   pub contents : T (sizeAllowed (kind (f .octet)) (length (f .contents)))
   pub hint : Hint (kind (f .octet)) (length (f .contents)) (hinted (f .octet)) (f .hint)
 
-unfoldable pub joined : List Parts → List ℕ
-joined [] = []
-joined (f ∷ fs) = octets f ++ joined fs
-
-unfoldable pub AllAllowed : List Parts → Type 0
-AllAllowed [] = Unit {0}
-AllAllowed (f ∷ fs) = Allowed f × AllAllowed fs
-
 -- The first octets of every message: the magic number and the version.
 abbrev pub magic : List ℕ
 magic = 0xce ∷ 0x13 ∷ 0xaa ∷ 0x1f ∷ 0x01 ∷ []
@@ -73,8 +67,8 @@ magic = 0xce ∷ 0x13 ∷ 0xaa ∷ 0x1f ∷ 0x01 ∷ []
 -- A whole message, at most 65,536 octets long, and its division into fields. The size in the header does not count the header.
 pub record Whole (s : List ℕ) (fs : List Parts) : Type 0 where
   pub size : List ℕ
-  pub divides : s ≡ magic ++ (size ++ joined fs)
+  pub divides : s ≡ magic ++ (size ++ joined octets fs)
   pub width : length size ≡ 4
-  pub counted : number size ≡ length (joined fs)
-  pub allowed : AllAllowed fs
-  pub short : length s ≤ 2 ^ 16
+  pub counted : number size ≡ length (joined octets fs)
+  pub allowed : Each Allowed fs
+  pub short : length s ≤ messageLimit

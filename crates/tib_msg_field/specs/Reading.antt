@@ -1,15 +1,14 @@
 -- Reading a TibMsg message: its division into fields, or the first refusal with its place. In each part of a field a missing octet is
 -- refused before a bad one.
-use Prim.Native.Nat.{ℕ, zero, suc, _+_, _-_, _/_, _%_, _^_}
-use mathlib.Core.Bool.{Bool, true, false, cond, _&&_, _||_, not}
-use mathlib.Core.List.{List, [], _∷_, _++_}
+use Prim.Native.Nat.{ℕ, zero, suc, _+_, _-_, _/_, _%_}
+use mathlib.Core.Bool.{Bool, cond, _&&_, _||_, not}
+use mathlib.Core.List.{List, [], _∷_}
 use lib.ListN.{length, take, drop}
 use lib.Dec.{eqb, leb, ltb}
 use Rattle.octets.specs.Number.{number}
-use Rattle.tib_field.specs.Octets.{begins}
-use Rattle.tib_field.specs.Name.{nameFront}
-use Rattle.tib_field.specs.declared.Front.{Front}
-use Rattle.tib_field.specs.declared.Front.the-variants.{End, Fault as NameFault, Name}
+use Rattle.reading.specs.Reading.{Reading, accepted, refused, onAccepted, messageLimit}
+use Rattle.tib_field.specs.Mark.{begins}
+use Rattle.tib_field.specs.Name.{nameFront, afterName}
 use Rattle.tib_msg_field.specs.declared.Sizes.{Sizes}
 use Rattle.tib_msg_field.specs.declared.Step.{Step}
 use Rattle.tib_msg_field.specs.declared.Step.the-variants.{Done, Fault, Over}
@@ -64,14 +63,9 @@ unfoldable pub fromType : ℕ → List ℕ → Step
 fromType n [] = Fault 3
 fromType n (c ∷ s) = cond (typeAllowed c) (fromSize n c (sizeWidth c) s) (Fault 16)
 
-unfoldable pub afterName : List ℕ → Front → Step
-afterName s End = Done
-afterName s (NameFault k) = Fault k
-afterName s (Name n) = fromType n (drop (1 + n) s)
-
 -- What stands at the front of octets: their end, a fault, or a field.
 unfoldable pub nextField : List ℕ → Step
-nextField s = afterName s (nameFront s)
+nextField s = afterName Done Fault fromType s (nameFront s)
 
 -- The sizes of a field's parts.
 unfoldable pub sizes : Parts → Sizes
@@ -102,30 +96,21 @@ partsAt s z =
       hint = take (z .hint) afterData;
     }
 
-pub data Reading : Type 0 where
-  accepted : List Parts → Reading
-  refused : ℕ → ℕ → Reading
-
--- A reading with fields put before its own.
-unfoldable pub onFields : List Parts → Reading → Reading
-onFields fs (accepted gs) = accepted (fs ++ gs)
-onFields fs (refused number place) = refused number place
-
 -- What a step at the front of octets, at a place, comes to, where `next` reads the fields that follow.
-unfoldable pub afterStep : (ℕ → List ℕ → Reading) → ℕ → List ℕ → Step → Reading
+unfoldable pub afterStep : (ℕ → List ℕ → Reading (List Parts)) → ℕ → List ℕ → Step → Reading (List Parts)
 afterStep next at s Done = accepted []
 afterStep next at s (Fault number) = refused number at
-afterStep next at s (Over z) = onFields (partsAt s z ∷ []) (next (at + total z) (drop (total z) s))
+afterStep next at s (Over z) = onAccepted (λ (fs : List Parts). partsAt s z ∷ fs) (next (at + total z) (drop (total z) s))
 
 -- The fields from a place on. `left` bounds the fields that are still looked at.
-unfoldable pub fieldsFrom : ℕ → ℕ → List ℕ → Reading
+unfoldable pub fieldsFrom : ℕ → ℕ → List ℕ → Reading (List Parts)
 fieldsFrom zero at s = refused 3 at
 fieldsFrom (suc left) at s = afterStep (fieldsFrom left) at s (nextField s)
 
 -- The whole message. A field takes an octet or more, so one look more than there are octets is enough.
-unfoldable pub reading : List ℕ → Reading
+unfoldable pub reading : List ℕ → Reading (List Parts)
 reading s =
-    cond (ltb (2 ^ 16) (length s)) (refused 1 0)
+    cond (ltb messageLimit (length s)) (refused 1 0)
     (cond (ltb (length s) 9) (refused 3 0)
     (cond (not (begins magic s)) (refused 13 0)
     (cond (not (eqb (number (take 4 (drop 5 s))) (length s - 9))) (refused 14 0)

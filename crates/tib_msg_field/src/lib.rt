@@ -31,7 +31,7 @@ enum HintPart {
 pub fn kind(c: u8) -> u64
     ensures { λ r. ⌜ r ≡ kind-of c ⌝ }
 {
-    tib_field::wide(c & 15)
+    numbers::wide(c & 15)
 }
 
 pub fn hinted(c: u8) -> bool
@@ -159,8 +159,8 @@ fn hint_front(k: u64, size: u64, s: &[u8]) -> HintPart
     if s.len() < 2 {
         return HintPart::Fault(3);
     }
-    let t = tib_field::wide(s[0]);
-    let n = tib_field::wide(s[1]);
+    let t = numbers::wide(s[0]);
+    let n = numbers::wide(s[1]);
     if k == 8 {
         return array_hint(size, t, n);
     }
@@ -232,7 +232,7 @@ fn from_type(n: usize, s: &[u8]) -> Step
 }
 
 // What stands at the front of octets. The size of the name is read from its octet, not handed on by the test of the name, so that the
-// place of the next field need not wait for that test.
+// place of the next field does not depend on that test.
 pub fn next_field(s: &[u8]) -> Step
     ensures { λ r. ⌜ r ≡ nextField (now (s .entry)) ⌝ }
 {
@@ -243,7 +243,7 @@ pub fn next_field(s: &[u8]) -> Step
     if fault != 0 {
         return Step::Fault(fault);
     }
-    let n = tib_field::wide(s[0]) as usize;
+    let n = numbers::wide(s[0]) as usize;
     let start = 1 + n;
     from_type(n, &s[start..])
 }

@@ -1,40 +1,26 @@
 -- Reading a real from its octets.
-use Prim.Native.Nat.{ℕ, _≤_, _<_, _^_}
+use Prim.Native.Nat.{ℕ, _<_, _^_}
 use native.Mathlib.Omega.{arith}
 use mathlib.Core.Path.{_≡_, subst}
 use mathlib.Core.Bool.{Bool, false}
 use mathlib.Core.List.{List}
 use lib.ListN.{length}
-use borrow.Author.Tests.{le-leb, ne-eqb}
+use borrow.Author.Tests.{ne-eqb}
 use Rattle.octets.specs.Number.{Octets, number, unsigned}
-use Rattle.octets.specs.declared.Unsigned.the-variants.{Value, Long}
-use Rattle.octets.proofs.Number.{number-below}
+use Rattle.octets.proofs.Number.{number-below, unsigned-is}
 use Rattle.tib_real.specs.Widened.{widened}
 use Rattle.tib_real.specs.FromOctets.{made, realOf}
 
-unsigned-short : (s : List ℕ) → length s ≤ 8 → unsigned s ≡ Value (number s)
-unfolding unsigned
-unsigned-short s h = rw (le-leb (length s) 8 h)
+pub four-octets : (s : List ℕ) → Octets s → length s ≡ 4 → unsigned s < 2 ^ 32
+four-octets s o h = rw (unsigned-is s (omega arith)) (subst (λ (n : ℕ). number s < 256 ^ n) h (number-below s o))
 
-pub read-value : (s : List ℕ) (v : ℕ) → length s ≤ 8 → unsigned s ≡ Value v → v ≡ number s
-read-value s v h e = let k = unsigned-short s h in cc
-
-pub read-long : (s : List ℕ) → length s ≤ 8 → unsigned s ≡ Long → ⊥
-read-long s h e =
-    let k = unsigned-short s h in
-    let z : _≡_ {A = ℕ} 0 1 = cc in
-    absurd (omega arith)
-
-pub four-octets : (s : List ℕ) → Octets s → length s ≡ 4 → number s < 2 ^ 32
-four-octets s o h = subst (λ (n : ℕ). number s < 256 ^ n) h (number-below s o)
-
-pub of-eight : (s : List ℕ) (h : ℕ) (p : Bool) → length s ≡ 8 → made (number s) h p ≡ realOf s h p
+pub of-eight : (s : List ℕ) (h : ℕ) (p : Bool) → length s ≡ 8 → made (unsigned s) h p ≡ realOf s h p
 unfolding realOf
-of-eight s h p e = rw e
+of-eight s h p e = rw (unsigned-is s (omega arith), e)
 
-pub of-four : (s : List ℕ) (h : ℕ) (p : Bool) → length s ≡ 4 → made (widened (number s)) h p ≡ realOf s h p
+pub of-four : (s : List ℕ) (h : ℕ) (p : Bool) → length s ≡ 4 → made (widened (unsigned s)) h p ≡ realOf s h p
 unfolding realOf
-of-four s h p e = rw e
+of-four s h p e = rw (unsigned-is s (omega arith), e)
 
 pub of-others : (s : List ℕ) (h : ℕ) (p : Bool) → (length s ≡ 8 → ⊥) → (length s ≡ 4 → ⊥) → made 0 0 false ≡ realOf s h p
 unfolding realOf

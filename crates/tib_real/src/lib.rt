@@ -1,14 +1,11 @@
 // The reals of the Tib formats: their value from four or eight octets, and reading them in fractions.
 pub mod types;
 
-use octets::Unsigned;
 use types::Fractions;
 use types::Real;
 ghost use mathlib.Core.Path.{_≡_};
 ghost use Prim.Native.Nat.{_<_, _≤_, _^_};
-ghost use lib.ListN.{length};
 ghost use lib.Ieee.{binary64, ofBits};
-ghost use Rattle.octets.specs.Number.{number};
 ghost use Rattle.tib_real.specs.Widened.{widened};
 ghost use Rattle.tib_real.specs.FromOctets.{made, realOf};
 ghost use Rattle.tib_real.specs.InFractions.{refused as refused-answer, inFractions, fractionsOf};
@@ -48,28 +45,16 @@ fn widen(b: u64) -> u64
     f64::to_bits(f32::from_bits(b as u32) as f64)
 }
 
-// The number that a few octets hold.
-fn big_endian(s: &[u8]) -> u64
-    requires { ⌜ length (now s) ≤ 8 ⌝ }
-    ensures { λ r. ⌜ r ≡ number (now (s .entry)) ⌝ }
-{
-    let read = octets_read::uint(s);
-    match read {
-        Unsigned::Value(v) => v,
-        Unsigned::Long => 0,
-    }
-}
-
 // Octets of another length are no real. They answer one of zeros, so that no caller needs a refusal for them.
 pub fn real(s: &[u8], hint: u64, hinted: bool) -> Real
     ensures { λ r. ⌜ r ≡ realOf (now (s .entry)) hint hinted ⌝ }
 {
     let n = s.len();
     if n == 8 {
-        return with_bits(big_endian(s), hint, hinted);
+        return with_bits(octets_read::uint(s), hint, hinted);
     }
     if n == 4 {
-        return with_bits(widen(big_endian(s)), hint, hinted);
+        return with_bits(widen(octets_read::uint(s)), hint, hinted);
     }
     with_bits(0, 0, false)
 }

@@ -1,15 +1,16 @@
 -- What the check answers: it accepts exactly the whole messages, and counts the fields and the depth of their division.
 use Prim.Native.Nat.{ℕ}
-use native.Mathlib.Omega.{arith}
-use mathlib.Core.Path.{_≡_, refl}
+use mathlib.Core.Path.{_≡_}
 use mathlib.Core.List.{List}
 use mathlib.Core.Logic.{_↔_}
+use Rattle.reading.specs.Checks.{counts}
 use Rattle.tib_field.specs.Refused.{refusedField}
+use Rattle.tib_field.proofs.Answers.{refused-as-checked as field-refused-as-checked, accepts-exactly}
 use Rattle.tib_rv_field.specs.Layout.{Fields, depth, Whole}
-use Rattle.tib_rv_field.specs.Reading.{Reading, accepted, refused, reading}
-use Rattle.tib_rv_field.proofs.Accepted.{accepted-whole, whole-accepted}
+use Rattle.tib_rv_field.specs.Reading.{reading}
+use Rattle.tib_rv_field.proofs.Accepted.{whole-accepted, accepted-exactly}
 use Rattle.tib_rv_field.proofs.Refusals.{refusal-positive}
-use Rattle.tib_rv.specs.Answers.{count, counts, check, fieldOf, field}
+use Rattle.tib_rv.specs.Answers.{count, check, shown, places, field}
 
 module _ (s : List ℕ) where
   -- The counts of a whole message are its division's, over all depths.
@@ -20,18 +21,10 @@ module _ (s : List ℕ) where
 
   -- 0 is answered exactly for a whole message.
   pub check-accepts-exactly : (check s .refusal ≡ 0) ↔ ((fields : Fields) × Whole s fields)
-  unfolding check counts
-  check-accepts-exactly = (λ e. go (reading s) refl e, λ w. rw (whole-accepted s (w .0) (w .1)))
-    where
-      go : (r : Reading) → reading s ≡ r → counts r .refusal ≡ 0 → (fields : Fields) × Whole s fields
-      go (accepted fields) f e = (fields, accepted-whole s fields f)
-      go (refused k place) f e = let h = refusal-positive s k place f in absurd (omega arith)
+  unfolding check
+  check-accepts-exactly = accepts-exactly count depth (Whole s) (reading s) (accepted-exactly s) (refusal-positive s)
 
   -- What the check refuses is refused with the same number and place, whichever field is asked for.
   pub refused-as-checked : (k : ℕ) → (check s .refusal ≡ 0 → ⊥) → field s k ≡ refusedField (check s .refusal) (check s .place)
-  unfolding check counts field fieldOf
-  refused-as-checked k n = go (reading s) n
-    where
-      go : (r : Reading) → (counts r .refusal ≡ 0 → ⊥) → fieldOf k r ≡ refusedField (counts r .refusal) (counts r .place)
-      go (accepted fields) n = absurd (n refl)
-      go (refused number place) n = refl
+  unfolding check field
+  refused-as-checked k n = field-refused-as-checked count depth shown places k (reading s) n

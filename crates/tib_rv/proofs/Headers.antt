@@ -1,4 +1,4 @@
--- The tests of a header.
+-- The tests of a message's length and of its header.
 use Prim.Native.Nat.{ℕ, _-_, _≤_, _<_}
 use native.Mathlib.Omega.{arith}
 use mathlib.Core.Path.{_≡_, sym, ap, _∙_}
@@ -8,13 +8,25 @@ use lib.ListN.{length, take, drop}
 use lib.Seq.{length-take-le}
 use borrow.Author.Tests.{lt-ltb, le-ltb, eq-eqb, ne-eqb}
 use Rattle.octets.specs.Number.{number, unsigned}
-use Rattle.tib_field.specs.Octets.{orZero, begins}
+use Rattle.tib_field.specs.Mark.{begins}
 use Rattle.tib_field.proofs.Slices.{tail-part}
-use Rattle.tib_field.proofs.Numbers.{few-octets}
-use Rattle.tib_rv_field.specs.Layout.{magic}
-use Rattle.tib_rv_field.specs.Reading.{headerFault}
+use Rattle.octets.proofs.Number.{unsigned-is}
+use Rattle.reading.specs.Reading.{messageLimit}
+use Rattle.reading.specs.Checks.{walkOf}
+use Rattle.reading.specs.declared.Walk.the-variants.{Refused}
+use Rattle.tib_rv_field.specs.Layout.{magic, depth}
+use Rattle.tib_rv_field.specs.Reading.{headerFault, messageFrom, reading}
+use Rattle.tib_rv.specs.Answers.{count}
 
 module _ (s : List ℕ) where
+  pub too-long : messageLimit < length s → Refused 1 0 ≡ walkOf count depth (reading s)
+  unfolding reading walkOf
+  too-long h = rw (lt-ltb messageLimit (length s) h)
+
+  pub not-too-long : length s ≤ messageLimit → walkOf count depth (messageFrom 8 0 0 s) ≡ walkOf count depth (reading s)
+  unfolding reading
+  not-too-long h = rw (le-ltb messageLimit (length s) h)
+
   pub header-cut : length s < 8 → 3 ≡ headerFault s
   unfolding headerFault
   header-cut h = rw (lt-ltb (length s) 8 h)
@@ -27,11 +39,11 @@ module _ (s : List ℕ) where
     unfolding headerFault
     other-magic h = rw (le-ltb (length s) 8 w, mark-read, h)
 
-    module _ (l : ℕ) (f : l ≡ orZero (unsigned (take (4 - 0) (drop 0 s)))) (g : t ≡ true) where
+    module _ (l : ℕ) (f : l ≡ unsigned (take (4 - 0) (drop 0 s))) (g : t ≡ true) where
       size-read : number (take 4 s) ≡ l
       size-read =
           let n = length-take-le 4 s (omega arith) in
-          sym (f ∙ few-octets (take 4 s) (omega arith))
+          sym (f ∙ unsigned-is (take 4 s) (omega arith))
 
       pub other-size : (l ≡ length s → ⊥) → 14 ≡ headerFault s
       unfolding headerFault

@@ -1,26 +1,25 @@
 -- The state of the walk through the fields of one message, and what each turn of its loop does to it.
 use Prim.Native.Nat.{ℕ, zero, suc, _+_, _-_, _≤_, _<_, max}
-use native.Mathlib.Nat.{add-assoc}
 use native.Mathlib.Omega.{arith}
 use mathlib.Core.Path.{_≡_, refl, sym, ap, ap₂, _∙_, subst}
-use mathlib.Core.Bool.{Bool, true, false, cond}
-use mathlib.Core.List.{List, [], _∷_, _++_}
+use mathlib.Core.List.{List, _++_}
 use lib.ListN.{length, take, drop, length-append, length-drop}
-use lib.Seq.{drop-drop, length-take-le}
-use lib.Dec.{eqb}
-use borrow.Author.Tests.{eq-eqb, ne-eqb}
+use lib.Seq.{drop-drop}
+use borrow.Author.Tests.{ne-eqb}
 use Rattle.tib_rv_field.specs.declared.Sizes.{Sizes}
-use Rattle.tib_rv_field.specs.declared.Step.{Step}
 use Rattle.tib_rv_field.specs.declared.Step.the-variants.{Done, Fault, Over, Into}
-use Rattle.tib_rv.specs.declared.Walk.{Walk}
-use Rattle.tib_rv.specs.declared.Walk.the-variants.{Accepted, Refused}
-use Rattle.tib_rv_field.specs.Layout.{Parts, octets, holder, magic, Fields, end, leaf, nested, joined, message, depth, Allowed}
-use Rattle.tib_rv_field.specs.Reading.{nextField, sizes, lead, total, partsAt, Reading, accepted, refused, onFields, inOrder, Inner, nestedOf, afterStep, fieldsFrom, headerFault, messageFrom}
+use Rattle.reading.specs.Reading.{Reading, accepted, refused}
+use Rattle.reading.specs.Checks.{walkOf}
+use Rattle.reading.specs.declared.Walk.{Walk}
+use Rattle.reading.specs.declared.Walk.the-variants.{Accepted, Refused}
+use Rattle.reading.proofs.Adding.{after, after-none}
+use Rattle.tib_field.proofs.Turns.{Walking, walking-first, looks, stepped}
+use Rattle.tib_rv_field.specs.Layout.{Parts, octets, holder, magic, Fields, end, leaf, nested, joined, message, depth}
+use Rattle.tib_rv_field.specs.Reading.{nextField, sizes, lead, total, partsAt, Inner, afterStep, fieldsFrom, headerFault, messageFrom}
 use Rattle.tib_rv.specs.Answers.{count}
-use Rattle.tib_rv.specs.Found.{walkOf}
 use Rattle.tib_rv_field.proofs.Steps.{step-found, step-held, length-octets}
-use Rattle.tib_rv_field.proofs.Accepted.{GoodMessage, accepted-good, field-size, header-good, GoodHeader}
-use Rattle.tib_rv.proofs.Adding.{after, after-after, after-first, walk-leaf, walk-nested, walk-refused}
+use Rattle.tib_rv_field.proofs.Accepted.{accepted-good, field-size, depth-positive}
+use Rattle.tib_rv.proofs.Adding.{walk-leaf, walk-nested, walk-refused}
 
 -- A field that is found lies within the octets, and takes two of them or more.
 inside-of : (f : Parts) (rest s : List ℕ) (z : Sizes) → s ≡ octets f ++ rest → sizes f ≡ z → (2 ≤ total z) × (total z ≤ length s)
@@ -51,128 +50,92 @@ unfolding total lead
 lead-within z = (omega arith, omega arith)
 
 module _ (inner : Inner) (at : ℕ) (s : List ℕ) where
+  abbrev rest : ℕ → ℕ → Walk
+  rest left i = walkOf count depth (fieldsFrom inner left (at + i) (drop i s))
+
   abbrev pub whole : Walk
-  whole = walkOf (fieldsFrom inner (suc (length s)) (at + 8) (drop 8 s))
+  whole = rest (suc (length s)) 8
 
   -- After i octets, with f fields so far of depth d: what the rest comes to decides.
-  pub record State (i f d : ℕ) : Type 0 where
-    pub left : ℕ
-    pub inside : i ≤ length s
-    pub enough : length s < i + left
-    pub few : f ≤ i
-    pub deep : 1 ≤ d
-    pub same : whole ≡ after f d (walkOf (fieldsFrom inner left (at + i) (drop i s)))
+  abbrev pub State : ℕ → ℕ → ℕ → Type 0
+  State i f d = Walking whole rest (length s) i f d
 
   pub start : 8 ≤ length s → State 8 0 1
   start h =
-      record {
-        left = suc (length s);
-        inside = h;
-        enough = omega arith;
-        few = omega arith;
-        deep = omega arith;
-        same = sym (after-first (fieldsFrom inner (suc (length s)) (at + 8) (drop 8 s)));
-      }
+      walking-first whole rest (length s) 8 h
+      (sym (after-none count depth depth-positive (fieldsFrom inner (suc (length s)) (at + 8) (drop 8 s))))
 
   module _ (i f d : ℕ) (now : State i f d) where
     -- One more look is left, and it is a step.
-    looks : whole ≡ after f d (walkOf (afterStep inner (fieldsFrom inner (now .left - 1)) (at + i) (drop i s) (nextField (drop i s))))
+    looked : whole ≡ after f d (walkOf count depth (afterStep inner (fieldsFrom inner (now .left - 1)) (at + i) (drop i s) (nextField (drop i s))))
     unfolding fieldsFrom
-    looks = go (now .left) (now .enough) (now .same)
-      where
-        go : (left : ℕ) → length s < i + left → whole ≡ after f d (walkOf (fieldsFrom inner left (at + i) (drop i s)))
-            → whole ≡ after f d (walkOf (afterStep inner (fieldsFrom inner (left - 1)) (at + i) (drop i s) (nextField (drop i s))))
-        go zero h e = let k = now .inside in absurd (omega arith)
-        go (suc left) h e = let k : suc left - 1 ≡ left = omega arith in rw k e
+    looked = looks whole rest (length s) i f d now
 
     pub at-end : nextField (drop i s) ≡ Done → Accepted f d ≡ whole
     unfolding afterStep walkOf after count depth
-    at-end e = let h = now .deep in sym (looks ∙ rw e (ap₂ Accepted (omega arith) (omega arith)))
+    at-end e = let h = now .deep in sym (looked ∙ rw e (ap₂ Accepted (omega arith) (omega arith)))
 
     pub at-fault : (k : ℕ) → nextField (drop i s) ≡ Fault k → Refused k (at + i) ≡ whole
     unfolding afterStep walkOf after
-    at-fault k e = sym (looks ∙ rw e)
+    at-fault k e = sym (looked ∙ rw e)
 
-    -- A step over a field that adds g fields of depth e to the state.
-    stepped : (z : Sizes) (g e j : ℕ) → 2 ≤ total z → total z ≤ length (drop i s) → g ≤ total z → j ≡ i + total z
-        → whole ≡ after f d (after g e (walkOf (fieldsFrom inner (now .left - 1) (at + i + total z) (drop (total z) (drop i s)))))
-        → State j (f + g) (max d e)
-    stepped z g e j p q b place same =
+    -- The end of a field lies within the octets, and beyond its start.
+    fits : (z : Sizes) → (2 ≤ total z) × (total z ≤ length (drop i s)) → (i < i + total z) × (i + total z ≤ length s)
+    fits z h =
+        let p = h .0 in
+        let q = h .1 in
         let r = length-drop i s in
-        let u = now .enough in
-        let v = now .few in
         let w = now .inside in
-        let x = now .deep in
-        let y : at + i + total z ≡ at + j = omega arith in
-        record {
-          left = now .left - 1;
-          inside = omega arith;
-          enough = omega arith;
-          few = omega arith;
-          deep = omega arith;
-          same =
-              same
-              ∙ after-after f d g e (walkOf (fieldsFrom inner (now .left - 1) (at + i + total z) (drop (total z) (drop i s))))
-              ∙ rw (y, drop-drop (total z) i s, place);
-        }
+        (omega arith, omega arith)
+
+    pub over-fits : (z : Sizes) → nextField (drop i s) ≡ Over z → (i < i + total z) × (i + total z ≤ length s)
+    over-fits z e = fits z (over-inside (drop i s) z e)
+
+    pub into-fits : (z : Sizes) → nextField (drop i s) ≡ Into z → (i < i + total z) × (i + total z ≤ length s)
+    into-fits z e = fits z (into-inside (drop i s) z e)
+
+    -- What follows a field, by its place in the octets.
+    follows : (z : Sizes) (j : ℕ) → j ≡ i + total z
+        → walkOf count depth (fieldsFrom inner (now .left - 1) (at + i + total z) (drop (total z) (drop i s))) ≡ rest (now .left - 1) j
+    follows z j place = let y : at + i + total z ≡ at + j = omega arith in rw (y, drop-drop (total z) i s, place)
 
     pub over-leaf : (z : Sizes) (j : ℕ) → nextField (drop i s) ≡ Over z → j ≡ i + total z → State j (f + 1) d
     unfolding afterStep
     over-leaf z j e place =
-        let h = over-inside (drop i s) z e in
-        let p = h .0 in
+        let p = over-inside (drop i s) z e .0 in
         let m : max d 0 ≡ d = omega arith in
         let r = fieldsFrom inner (now .left - 1) (at + i + total z) (drop (total z) (drop i s)) in
         subst (State j (f + 1)) m
-        (stepped z 1 0 j p (h .1) (omega arith) place (looks ∙ rw (e, walk-leaf (partsAt (drop i s) z) r)))
+        (stepped whole rest (length s) i f d now (total z) 1 0 j p (over-fits z e .1) (omega arith) place
+        (looked ∙ rw (e, walk-leaf (partsAt (drop i s) z) r, follows z j place)))
 
     -- The nested message, by the part of the octets that it is.
     inner-walk : (z : Sizes) (a e : ℕ) (w : Walk) → a ≡ i + lead z → e ≡ i + total z
-        → w ≡ walkOf (inner (at + i) (at + a) (take (e - a) (drop a s)))
-        → walkOf (inner (at + i) (at + i + lead z) (partsAt (drop i s) z .contents)) ≡ w
+        → w ≡ walkOf count depth (inner (at + i) (at + a) (take (e - a) (drop a s)))
+        → walkOf count depth (inner (at + i) (at + i + lead z) (partsAt (drop i s) z .contents)) ≡ w
     inner-walk z a e w p q h =
         let y : at + i + lead z ≡ at + a = omega arith in
         rw (y, data-part s i z, ← p, ← q) (sym h)
 
     pub over-nested : (z : Sizes) (a e : ℕ) (w : Walk) (g h m : ℕ) → nextField (drop i s) ≡ Into z → a ≡ i + lead z → e ≡ i + total z
-        → w ≡ walkOf (inner (at + i) (at + a) (take (e - a) (drop a s))) → w ≡ Accepted g h → g ≤ e - a → m ≡ max d (h + 1)
+        → w ≡ walkOf count depth (inner (at + i) (at + a) (take (e - a) (drop a s))) → w ≡ Accepted g h → g ≤ e - a → m ≡ max d (h + 1)
         → State e (f + (1 + g)) m
     unfolding afterStep total
     over-nested z a e w g h m k p q o v b n =
-        let t = into-inside (drop i s) z k in
-        let x = t .0 in
+        let x = into-inside (drop i s) z k .0 in
         let r = fieldsFrom inner (now .left - 1) (at + i + total z) (drop (total z) (drop i s)) in
         let c : h + 1 ≡ suc h = omega arith in
         let l = lead-within z .0 in
         subst (State e (f + (1 + g))) (sym (n ∙ ap (max d) c))
-        (stepped z (1 + g) (suc h) e x (t .1) (omega arith) q
-        (looks ∙ rw (k, walk-nested (partsAt (drop i s) z) (inner (at + i) (at + i + lead z) (partsAt (drop i s) z .contents)) g h r (inner-walk z a e w p q o ∙ v))))
+        (stepped whole rest (length s) i f d now (total z) (1 + g) (suc h) e x (into-fits z k .1) (omega arith) q
+        (looked ∙ rw (k, walk-nested (partsAt (drop i s) z) (inner (at + i) (at + i + lead z) (partsAt (drop i s) z .contents)) g h r (inner-walk z a e w p q o ∙ v), follows z e q)))
 
     pub refused-nested : (z : Sizes) (a e : ℕ) (w : Walk) (number place : ℕ) → nextField (drop i s) ≡ Into z → a ≡ i + lead z → e ≡ i + total z
-        → w ≡ walkOf (inner (at + i) (at + a) (take (e - a) (drop a s))) → w ≡ Refused number place → Refused number place ≡ whole
+        → w ≡ walkOf count depth (inner (at + i) (at + a) (take (e - a) (drop a s))) → w ≡ Refused number place → Refused number place ≡ whole
     unfolding afterStep after
     refused-nested z a e w number place k p q o v =
         let r = fieldsFrom inner (now .left - 1) (at + i + total z) (drop (total z) (drop i s)) in
-        sym (looks ∙ rw (k, walk-refused (partsAt (drop i s) z) (inner (at + i) (at + i + lead z) (partsAt (drop i s) z .contents)) number place r (inner-walk z a e w p q o ∙ v)))
-
-    -- The end of a field lies within the octets, and beyond its start.
-    pub over-room : (z : Sizes) → nextField (drop i s) ≡ Over z → (i < i + total z) × (i + total z ≤ length s)
-    over-room z e =
-        let h = over-inside (drop i s) z e in
-        let p = h .0 in
-        let q = h .1 in
-        let r = length-drop i s in
-        let w = now .inside in
-        (omega arith, omega arith)
-
-    pub into-room : (z : Sizes) → nextField (drop i s) ≡ Into z → (i < i + total z) × (i + total z ≤ length s)
-    into-room z e =
-        let h = into-inside (drop i s) z e in
-        let p = h .0 in
-        let q = h .1 in
-        let r = length-drop i s in
-        let w = now .inside in
-        (omega arith, omega arith)
+        sym (looked ∙ rw (k, walk-refused (partsAt (drop i s) z) (inner (at + i) (at + i + lead z) (partsAt (drop i s) z .contents)) number place r (inner-walk z a e w p q o ∙ v)))
 
 -- A message has no more fields than octets.
 held-length : (name m : List ℕ) → 1 + length m ≤ length (octets (holder name m))
@@ -195,13 +158,13 @@ fields-few (nested name size inside rest) =
     rw length-append (omega arith)
 
 -- The counts of an accepted message are small.
-pub counts-small : (room field at : ℕ) (s : List ℕ) (f d : ℕ) → walkOf (messageFrom room field at s) ≡ Accepted f d → (f ≤ length s) × (d ≤ room)
+pub counts-small : (levels field at : ℕ) (s : List ℕ) (f d : ℕ) → walkOf count depth (messageFrom levels field at s) ≡ Accepted f d → (f ≤ length s) × (d ≤ levels)
 unfolding walkOf message
-counts-small room field at s f d e = go (messageFrom room field at s) refl e
+counts-small levels field at s f d e = go (messageFrom levels field at s) refl e
   where
-    go : (r : Reading) → messageFrom room field at s ≡ r → walkOf r ≡ Accepted f d → (f ≤ length s) × (d ≤ room)
+    go : (r : Reading Fields) → messageFrom levels field at s ≡ r → walkOf count depth r ≡ Accepted f d → (f ≤ length s) × (d ≤ levels)
     go (accepted fs) h w =
-        let g = accepted-good room field at s fs h in
+        let g = accepted-good levels field at s fs h in
         let p : count fs ≡ f = cc in
         let q : depth fs ≡ d = cc in
         let k = fields-few fs in
@@ -210,21 +173,21 @@ counts-small room field at s f d e = go (messageFrom room field at s) refl e
         (omega arith, omega arith)
     go (refused number place) h w = let z : _≡_ {A = ℕ} 0 1 = cc in absurd (omega arith)
 
--- A message whose header is good, where there is room for it, is its fields.
-pub header-open : (room field at : ℕ) (s : List ℕ) → (room ≡ 0 → ⊥) → headerFault s ≡ 0
-    → walkOf (fieldsFrom (messageFrom (room - 1)) (suc (length s)) (at + 8) (drop 8 s)) ≡ walkOf (messageFrom room field at s)
+-- A message whose header is good, where it is not too deep, is its fields.
+pub header-open : (levels field at : ℕ) (s : List ℕ) → (levels ≡ 0 → ⊥) → headerFault s ≡ 0
+    → walkOf count depth (fieldsFrom (messageFrom (levels - 1)) (suc (length s)) (at + 8) (drop 8 s)) ≡ walkOf count depth (messageFrom levels field at s)
 unfolding messageFrom
 header-open zero field at s h e = absurd (h refl)
-header-open (suc room) field at s h e =
-    let k : suc room - 1 ≡ room = omega arith in
+header-open (suc levels) field at s h e =
+    let k : suc levels - 1 ≡ levels = omega arith in
     rw (k, e)
 
-pub header-bad : (room field at : ℕ) (s : List ℕ) (k : ℕ) → (room ≡ 0 → ⊥) → k ≡ headerFault s → (k ≡ 0 → ⊥)
-    → Refused k at ≡ walkOf (messageFrom room field at s)
+pub header-bad : (levels field at : ℕ) (s : List ℕ) (k : ℕ) → (levels ≡ 0 → ⊥) → k ≡ headerFault s → (k ≡ 0 → ⊥)
+    → Refused k at ≡ walkOf count depth (messageFrom levels field at s)
 unfolding messageFrom walkOf
 header-bad zero field at s k h e n = absurd (h refl)
-header-bad (suc room) field at s k h e n = rw (← e, ne-eqb k 0 n)
+header-bad (suc levels) field at s k h e n = rw (← e, ne-eqb k 0 n)
 
-pub no-room : (room field at : ℕ) (s : List ℕ) → room ≡ 0 → Refused 5 field ≡ walkOf (messageFrom room field at s)
+pub too-deep : (levels field at : ℕ) (s : List ℕ) → levels ≡ 0 → Refused 5 field ≡ walkOf count depth (messageFrom levels field at s)
 unfolding messageFrom walkOf
-no-room room field at s e = rw e
+too-deep levels field at s e = rw e

@@ -1,13 +1,16 @@
 -- What the readers of TibrvMsg answer, by a message's reading.
-use Prim.Native.Nat.{ℕ, zero, suc, _+_}
+use Prim.Native.Nat.{ℕ, _+_}
 use mathlib.Core.Bool.{false}
 use mathlib.Core.List.{List, [], _∷_}
 use lib.ListN.{length}
-use Rattle.tib_field.specs.Refused.{refusedCheck, noReal, refusedField}
-use Rattle.tib_field.specs.declared.Checked.{Checked}
+use Rattle.reading.specs.Checks.{counts}
+use Rattle.reading.specs.declared.Checked.{Checked}
+use Rattle.tib_field.specs.Refused.{noReal}
+use Rattle.tib_field.specs.Fields.{placed}
+use Rattle.tib_field.specs.Kth.{fieldOf}
 use Rattle.tib_field.specs.declared.Field.{Field}
 use Rattle.tib_rv_field.specs.Layout.{Parts, octets, holder, Fields, end, leaf, nested, message, depth}
-use Rattle.tib_rv_field.specs.Reading.{Reading, accepted, refused, reading}
+use Rattle.tib_rv_field.specs.Reading.{reading}
 
 -- The count of fields, at all depths.
 unfoldable pub count : Fields → ℕ
@@ -15,13 +18,9 @@ count end = 0
 count (leaf f rest) = 1 + count rest
 count (nested name size inside rest) = 1 + count inside + count rest
 
--- A refusal, or the counts of the division.
-unfoldable pub counts : Reading → Checked
-counts (accepted fs) = record { refusal = 0; place = 0; fields = count fs; depth = depth fs }
-counts (refused number place) = refusedCheck number place
-
+-- The check of a message: its refusal, or the counts of its division.
 unfoldable pub check : List ℕ → Checked
-check s = counts (reading s)
+check s = counts count depth (reading s)
 
 -- The outermost fields. The data of one that holds a message are the whole message.
 unfoldable pub outermost : Fields → List Parts
@@ -47,16 +46,10 @@ shown at f =
       real = noReal;
     }
 
--- The k-th, from 0, of fields that begin at a place; 18 where there is none.
-unfoldable pub kthShown : ℕ → ℕ → List Parts → Field
-kthShown k at [] = refusedField 18 0
-kthShown zero at (f ∷ fs) = shown at f
-kthShown (suc k) at (f ∷ fs) = kthShown k (at + length (octets f)) fs
-
-unfoldable pub fieldOf : ℕ → Reading → Field
-fieldOf k (accepted fs) = kthShown k 8 (outermost fs)
-fieldOf k (refused number place) = refusedField number place
+-- The outermost fields with the places where they begin, the first after the header.
+unfoldable pub places : Fields → List (ℕ × Parts)
+places fs = placed octets 8 (outermost fs)
 
 -- The k-th outermost field of a message.
 unfoldable pub field : List ℕ → ℕ → Field
-field s k = fieldOf k (reading s)
+field s k = fieldOf shown places k (reading s)

@@ -1,20 +1,19 @@
 // Reading TibrvMsg messages: the check of a whole message, and its k-th field.
-use tib_field::Checked;
+use reading::Checked;
+use reading::Walk;
 use tib_field::Field;
 use tib_rv_field::Sizes;
 use tib_rv_field::Step;
 ghost use mathlib.Core.Path.{_≡_};
-ghost use Prim.Native.Nat.{_+_, _≤_, _<_, _^_, max};
+ghost use Prim.Native.Nat.{_+_, _≤_, _<_, _^_};
 ghost use lib.ListN.{length};
 ghost use Rattle.tib_rv_field.specs.Reading.{nextField, lead as lead-of, total, headerFault, messageFrom, reading};
-ghost use Rattle.tib_rv.specs.Answers.{check as check-of, field as field-of};
-ghost use Rattle.tib_rv.specs.Found.{walkOf, outerOf, kthOf, shownSizes, IsAccepted};
-
-// What a message comes to: the count of its fields at all depths and its depth, or a refusal's number and place.
-enum Walk {
-    Accepted(u64, u64),
-    Refused(u64, u64),
-}
+ghost use Rattle.tib_rv_field.specs.Layout.{depth};
+ghost use Rattle.reading.specs.Reading.{messageLimit, IsAccepted};
+ghost use Rattle.reading.specs.Checks.{walkOf};
+ghost use Rattle.tib_field.specs.Kth.{kthOf};
+ghost use Rattle.tib_rv.specs.Answers.{count, check as check-of, places, field as field-of};
+ghost use Rattle.tib_rv.specs.Found.{outerOf, foundAt, shownSizes};
 
 // A field of either kind, or that there is none.
 enum Outer {
@@ -59,26 +58,20 @@ fn past(at: usize, z: Sizes) -> usize
     data_at(at, z) + z.contents
 }
 
-fn larger(a: u64, b: u64) -> u64
-    ensures { λ r. ⌜ r ≡ max a b ⌝ }
-{
-    if a < b { b } else { a }
-}
-
 fn refused(number: u64, place: u64) -> Walk
     ensures { λ r. ⌜ r ≡ Walk.Refused number place ⌝ }
 {
     Walk::Refused(number, place)
 }
 
-// A message whose header starts at a place, in a field at another place. `room` is how many messages deep it may be, itself counted; a
+// A message whose header starts at a place, in a field at another place. `levels` is how many messages deep it may be, itself counted; a
 // nested message has one less.
-fn message(s: &[u8], room: u64, field: u64, at: u64) -> Walk
-    requires { ⌜ at + length (now s) ≤ 65536 ⌝ }
-    requires { ⌜ room ≤ 8 ⌝ }
-    ensures { λ r. ⌜ r ≡ walkOf (messageFrom room field at (now (s .entry))) ⌝ }
+fn message(s: &[u8], levels: u64, field: u64, at: u64) -> Walk
+    requires { ⌜ at + length (now s) ≤ messageLimit ⌝ }
+    requires { ⌜ levels ≤ 8 ⌝ }
+    ensures { λ r. ⌜ r ≡ walkOf count depth (messageFrom levels field at (now (s .entry))) ⌝ }
 {
-    if room == 0 {
+    if levels == 0 {
         return refused(5, field);
     }
     let fault = header_fault(s);
@@ -99,12 +92,12 @@ fn message(s: &[u8], room: u64, field: u64, at: u64) -> Walk
             Step::Into(z) => {
                 let a = data_at(i, z);
                 let e = past(i, z);
-                match message(&s[a..e], room - 1, at + (i as u64), at + (a as u64)) {
+                match message(&s[a..e], levels - 1, at + (i as u64), at + (a as u64)) {
                     Walk::Refused(number, place) => return refused(number, place),
                     Walk::Accepted(f, d) => {
                         i = e;
                         fields = fields + (1 + f);
-                        depth = larger(depth, d + 1);
+                        depth = numbers::larger(depth, d + 1);
                     }
                 }
             }
@@ -113,7 +106,7 @@ fn message(s: &[u8], room: u64, field: u64, at: u64) -> Walk
 }
 
 fn read(s: &[u8]) -> Walk
-    ensures { λ r. ⌜ r ≡ walkOf (reading (now (s .entry))) ⌝ }
+    ensures { λ r. ⌜ r ≡ walkOf count depth (reading (now (s .entry))) ⌝ }
 {
     if 65536 < s.len() {
         return refused(1, 0);
@@ -125,15 +118,7 @@ fn read(s: &[u8]) -> Walk
 pub fn check(message: &[u8]) -> Checked
     ensures { λ r. ⌜ r ≡ check-of (now (message .entry)) ⌝ }
 {
-    match read(message) {
-        Walk::Accepted(fields, depth) => Checked {
-            refusal: 0,
-            place: 0,
-            fields,
-            depth,
-        },
-        Walk::Refused(number, place) => tib_field::refused_check(number, place),
-    }
+    reading::answer(read(message))
 }
 
 // The field at the front of octets, whether it holds a message or not.
@@ -150,8 +135,8 @@ fn next_outer(s: &[u8]) -> Outer
 
 // The place and the sizes of the k-th outermost field of a message that is accepted.
 fn find(s: &[u8], k: u64) -> Kth
-    requires { ⌜ IsAccepted (now s) ⌝ }
-    ensures { λ r. ⌜ r ≡ kthOf k (reading (now (s .entry))) ⌝ }
+    requires { ⌜ IsAccepted (reading (now s)) ⌝ }
+    ensures { λ r. ⌜ r ≡ foundAt (kthOf places k (reading (now (s .entry)))) ⌝ }
 {
     let mut i: usize = 8;
     let mut left = k;
@@ -179,7 +164,7 @@ fn shown(at: usize, z: Sizes) -> Field
         place: 0,
         name_place: (at + 1) as u64,
         name_length: z.name as u64,
-        kind: tib_field::wide(z.octet),
+        kind: numbers::wide(z.octet),
         data_place: data_at(at, z) as u64,
         data_length: z.contents as u64,
         hinted: false,

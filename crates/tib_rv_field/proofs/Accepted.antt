@@ -1,35 +1,38 @@
 -- A message is accepted by the reading exactly when it is a whole message, with the same division, and it has one division.
-use Prim.Native.Nat.{ℕ, zero, suc, _+_, _-_, _^_, _≤_, _<_, max}
+use Prim.Native.Nat.{ℕ, zero, suc, _+_, _-_, _≤_, _<_}
 use native.Mathlib.Omega.{arith}
 use mathlib.Core.Path.{_≡_, refl, sym, ap, ap₂, _∙_, subst}
-use mathlib.Core.Bool.{Bool, true, false, cond, not}
-use mathlib.Core.List.{List, [], _∷_, _++_}
+use mathlib.Core.Bool.{true, cond, not}
+use mathlib.Core.List.{List, _∷_, _++_}
 use mathlib.Core.Logic.{_↔_}
 use lib.ListN.{length, take, drop, length-append, length-drop, take-append-drop}
 use lib.Seq.{take-at, drop-at, length-take-le, drop-drop}
 use lib.Dec.{eqb, ltb}
-use borrow.Author.Tests.{ltb-false, le-ltb, eqb-true, eq-eqb}
+use borrow.Author.Tests.{ltb-false, le-ltb, eqb-true, eq-eqb, not-false}
 use Rattle.octets.specs.Number.{number}
-use Rattle.tib_field.specs.Octets.{begins}
+use Rattle.reading.specs.Reading.{Reading, accepted, refused, onAccepted, inOrder, messageLimit}
+use Rattle.tib_field.specs.Mark.{begins}
 use Rattle.tib_field.proofs.Marks.{mark-begins, begins-mark}
+use Rattle.tib_field.proofs.Choices.{passes, fails}
+use Rattle.tib_field.proofs.Refusals.{not-accepted}
 use Rattle.tib_rv_field.specs.declared.Sizes.{Sizes}
 use Rattle.tib_rv_field.specs.declared.Step.{Step}
 use Rattle.tib_rv_field.specs.declared.Step.the-variants.{Done, Fault, Over, Into}
-use Rattle.tib_rv_field.specs.Layout.{Parts, octets, Leaf, holder, magic, Fields, end, leaf, nested, joined, message, depth, Header, Allowed, Whole}
-use Rattle.tib_rv_field.specs.Reading.{nextField, sizes, lead, total, partsAt, Reading, accepted, refused, onFields, inOrder, Inner, nestedOf, afterStep, fieldsFrom, headerFault, messageFrom, reading}
-use Rattle.tib_rv_field.proofs.Steps.{Found, Held, Counted, step-found, step-held, step-of-leaf, step-of-held, step-of-end, step-done, parts-of-field, rest-of-field, length-octets}
+use Rattle.tib_rv_field.specs.Layout.{Parts, octets, holder, magic, Fields, end, leaf, nested, joined, message, depth, Header, Allowed, Whole}
+use Rattle.tib_rv_field.specs.Reading.{nextField, sizes, lead, total, partsAt, Inner, nestedOf, afterStep, fieldsFrom, headerFault, messageFrom, reading}
+use Rattle.tib_rv_field.proofs.Steps.{Found, Held, Counted, step-found, step-held, step-of-leaf, step-of-held, step-of-end, step-done, parts-of-field, rest-of-field}
 
--- Octets that are allowed fields joined, in a message that may be `room` messages deep.
-pub record Good (room : ℕ) (s : List ℕ) (fs : Fields) : Type 0 where
+-- Octets that are allowed fields joined, in a message that may be `levels` messages deep.
+pub record Good (levels : ℕ) (s : List ℕ) (fs : Fields) : Type 0 where
   pub divides : s ≡ joined fs
   pub allowed : Allowed fs
-  pub shallow : depth fs ≤ room
+  pub shallow : depth fs ≤ levels
 
 -- A message of these fields. Its first four octets are its size.
-pub record GoodMessage (room : ℕ) (s : List ℕ) (fs : Fields) : Type 0 where
+pub record GoodMessage (levels : ℕ) (s : List ℕ) (fs : Fields) : Type 0 where
   pub divides : s ≡ message (take 4 s) fs
   pub header : Header (take 4 s) fs
-  pub fields : Good room (joined fs) fs
+  pub fields : Good levels (joined fs) fs
 
 -- The parts and the rest that a step's sizes name.
 leaf-parts : (s : List ℕ) (z : Sizes) (f : Found s z) → (partsAt s z ≡ f .field) × (drop (total z) s ≡ f .rest)
@@ -47,8 +50,8 @@ held-parts s z f =
       ap₂ (λ (n : ℕ) (r : List ℕ). drop n r) (ap total (sym (f .sized))) (f .divides) ∙ rest-of-field h (f .rest),
     )
 
-module _ (room : ℕ) (s : List ℕ) (z : Sizes) (rest : Fields) where
-  one-leaf : Found s z → Good (suc room) (drop (total z) s) rest → Good (suc room) s (leaf (partsAt s z) rest)
+module _ (levels : ℕ) (s : List ℕ) (z : Sizes) (rest : Fields) where
+  one-leaf : Found s z → Good (suc levels) (drop (total z) s) rest → Good (suc levels) s (leaf (partsAt s z) rest)
   unfolding joined Allowed depth
   one-leaf f g =
       let p = leaf-parts s z f in
@@ -59,13 +62,13 @@ module _ (room : ℕ) (s : List ℕ) (z : Sizes) (rest : Fields) where
         shallow = g .shallow;
       })
 
-  one-held : (inside : Fields) → Held s z → GoodMessage room (partsAt s z .contents) inside → Good (suc room) (drop (total z) s) rest
-      → Good (suc room) s (nestedOf (partsAt s z) inside rest)
+  one-held : (inside : Fields) → Held s z → GoodMessage levels (partsAt s z .contents) inside → Good (suc levels) (drop (total z) s) rest
+      → Good (suc levels) s (nestedOf (partsAt s z) inside rest)
   unfolding joined Allowed depth nestedOf message
   one-held inside f i g =
       let p = held-parts s z f in
       let m = f .octets-held in
-      let j : GoodMessage room m inside = subst (λ (x : Parts). GoodMessage room (x .contents) inside) (p .0) i in
+      let j : GoodMessage levels m inside = subst (λ (x : Parts). GoodMessage levels (x .contents) inside) (p .0) i in
       let a = j .fields .shallow in
       let b = g .shallow in
       rw (p .0)
@@ -78,35 +81,35 @@ module _ (room : ℕ) (s : List ℕ) (z : Sizes) (rest : Fields) where
       })
 
 -- Where nested messages are accepted only if they are good, so are the fields of a message.
-module _ (room : ℕ) (inner : Inner)
-    (below : (field at : ℕ) (m : List ℕ) (fs : Fields) → inner field at m ≡ accepted fs → GoodMessage room m fs) where
-  after-good : (next : ℕ → List ℕ → Reading) → ((at : ℕ) (r : List ℕ) (fs : Fields) → next at r ≡ accepted fs → Good (suc room) r fs)
-      → (at : ℕ) (s : List ℕ) (fs : Fields) (p : Step) → nextField s ≡ p → afterStep inner next at s p ≡ accepted fs → Good (suc room) s fs
-  unfolding afterStep onFields inOrder joined Allowed depth
+module _ (levels : ℕ) (inner : Inner)
+    (below : (field at : ℕ) (m : List ℕ) (fs : Fields) → inner field at m ≡ accepted fs → GoodMessage levels m fs) where
+  after-good : (next : ℕ → List ℕ → Reading Fields) → ((at : ℕ) (r : List ℕ) (fs : Fields) → next at r ≡ accepted fs → Good (suc levels) r fs)
+      → (at : ℕ) (s : List ℕ) (fs : Fields) (p : Step) → nextField s ≡ p → afterStep inner next at s p ≡ accepted fs → Good (suc levels) s fs
+  unfolding afterStep onAccepted inOrder joined Allowed depth
   after-good next later at s fs Done h e =
       let k : end ≡ fs = cc in
-      let g : Good (suc room) s end = record { divides = step-done s h; allowed = tt; shallow = omega arith } in
-      subst (Good (suc room) s) k g
+      let g : Good (suc levels) s end = record { divides = step-done s h; allowed = tt; shallow = omega arith } in
+      subst (Good (suc levels) s) k g
   after-good next later at s fs (Fault number) h e = let z : _≡_ {A = ℕ} 0 1 = cc in absurd (omega arith)
   after-good next later at s fs (Over z) h e = go (next (at + total z) (drop (total z) s)) refl e
     where
-      go : (r : Reading) → next (at + total z) (drop (total z) s) ≡ r → onFields (leaf (partsAt s z)) r ≡ accepted fs → Good (suc room) s fs
+      go : (r : Reading Fields) → next (at + total z) (drop (total z) s) ≡ r → onAccepted (leaf (partsAt s z)) r ≡ accepted fs → Good (suc levels) s fs
       go (accepted rest) f g =
-          subst (Good (suc room) s) (cc) (one-leaf room s z rest (step-found s z h) (later (at + total z) (drop (total z) s) rest f))
+          subst (Good (suc levels) s) (cc) (one-leaf levels s z rest (step-found s z h) (later (at + total z) (drop (total z) s) rest f))
       go (refused number place) f g = let y : _≡_ {A = ℕ} 0 1 = cc in absurd (omega arith)
   after-good next later at s fs (Into z) h e =
       go (inner at (at + lead z) (partsAt s z .contents)) refl (next (at + total z) (drop (total z) s)) refl e
     where
-      go : (q : Reading) → inner at (at + lead z) (partsAt s z .contents) ≡ q → (r : Reading) → next (at + total z) (drop (total z) s) ≡ r
-          → inOrder (nestedOf (partsAt s z)) q r ≡ accepted fs → Good (suc room) s fs
+      go : (q : Reading Fields) → inner at (at + lead z) (partsAt s z .contents) ≡ q → (r : Reading Fields) → next (at + total z) (drop (total z) s) ≡ r
+          → inOrder (nestedOf (partsAt s z)) q r ≡ accepted fs → Good (suc levels) s fs
       go (accepted inside) d (accepted rest) f g =
-          subst (Good (suc room) s) (cc)
-          (one-held room s z rest inside (step-held s z h) (below at (at + lead z) (partsAt s z .contents) inside d)
+          subst (Good (suc levels) s) (cc)
+          (one-held levels s z rest inside (step-held s z h) (below at (at + lead z) (partsAt s z .contents) inside d)
           (later (at + total z) (drop (total z) s) rest f))
       go (accepted inside) d (refused number place) f g = let y : _≡_ {A = ℕ} 0 1 = cc in absurd (omega arith)
       go (refused number place) d r f g = let y : _≡_ {A = ℕ} 0 1 = cc in absurd (omega arith)
 
-  fields-good : (left at : ℕ) (s : List ℕ) (fs : Fields) → fieldsFrom inner left at s ≡ accepted fs → Good (suc room) s fs
+  fields-good : (left at : ℕ) (s : List ℕ) (fs : Fields) → fieldsFrom inner left at s ≡ accepted fs → Good (suc levels) s fs
   unfolding fieldsFrom
   fields-good zero at s fs e = let z : _≡_ {A = ℕ} 0 1 = cc in absurd (omega arith)
   fields-good (suc left) at s fs e = after-good (fieldsFrom inner left) (fields-good left) at s fs (nextField s) refl e
@@ -119,15 +122,14 @@ pub record GoodHeader (s : List ℕ) : Type 0 where
 
 pub header-good : (s : List ℕ) → headerFault s ≡ 0 → GoodHeader s
 unfolding headerFault
-header-good s e = go (ltb (length s) 8) refl (begins magic (drop 4 s)) refl (eqb (number (take 4 s)) (length s)) refl e
-  where
-    go : (a : Bool) → ltb (length s) 8 ≡ a → (b : Bool) → begins magic (drop 4 s) ≡ b → (c : Bool) → eqb (number (take 4 s)) (length s) ≡ c
-        → _≡_ {A = ℕ} (cond a 3 (cond (not b) 13 (cond (not c) 14 0))) 0 → GoodHeader s
-    go true f b g c h w = absurd (omega arith)
-    go false f false g c h w = absurd (omega arith)
-    go false f true g false h w = absurd (omega arith)
-    go false f true g true h w =
-        record { whole = ltb-false (length s) 8 f; marked = g; counted = eqb-true (number (take 4 s)) (length s) h }
+header-good s e =
+    let n = length s in
+    let m = begins magic (drop 4 s) in
+    let c = eqb (number (take 4 s)) n in
+    let p = fails 0 (ltb n 8) 3 (cond (not m) 13 (cond (not c) 14 0)) (omega arith) e in
+    let q = fails 0 (not m) 13 (cond (not c) 14 0) (omega arith) (p .1) in
+    let r = fails 0 (not c) 14 0 (omega arith) (q .1) in
+    record { whole = ltb-false n 8 (p .0); marked = not-false m (q .0); counted = eqb-true (number (take 4 s)) n (not-false c (r .0)) }
 
 good-header : (s : List ℕ) → GoodHeader s → headerFault s ≡ 0
 unfolding headerFault
@@ -135,9 +137,9 @@ good-header s g =
     rw (le-ltb (length s) 8 (g .whole), g .marked, eq-eqb (number (take 4 s)) (length s) (g .counted))
 
 -- A header and the fields after it are a message.
-one-message : (room : ℕ) (s : List ℕ) (fs : Fields) → GoodHeader s → Good room (drop 8 s) fs → GoodMessage room s fs
+one-message : (levels : ℕ) (s : List ℕ) (fs : Fields) → GoodHeader s → Good levels (drop 8 s) fs → GoodMessage levels s fs
 unfolding message
-one-message room s fs h g =
+one-message levels s fs h g =
     let w = h .whole in
     let l : length (take 4 s) ≡ 4 = length-take-le 4 s (omega arith) in
     let p : drop 4 s ≡ magic ++ joined fs
@@ -149,20 +151,14 @@ one-message room s fs h g =
       fields = record { divides = refl; allowed = g .allowed; shallow = g .shallow };
     }
 
-passes : (k : ℕ) (r : Reading) (at : ℕ) (fs : Fields) → cond (eqb k 0) r (refused k at) ≡ accepted fs → (k ≡ 0) × (r ≡ accepted fs)
-passes k r at fs e = go (eqb k 0) refl e
-  where
-    go : (t : Bool) → eqb k 0 ≡ t → cond t r (refused k at) ≡ accepted fs → (k ≡ 0) × (r ≡ accepted fs)
-    go true f g = (eqb-true k 0 f, g)
-    go false f g = let z : _≡_ {A = ℕ} 0 1 = cc in absurd (omega arith)
-
-pub accepted-good : (room field at : ℕ) (s : List ℕ) (fs : Fields) → messageFrom room field at s ≡ accepted fs → GoodMessage room s fs
+pub accepted-good : (levels field at : ℕ) (s : List ℕ) (fs : Fields) → messageFrom levels field at s ≡ accepted fs → GoodMessage levels s fs
 unfolding messageFrom
 accepted-good zero field at s fs e = let z : _≡_ {A = ℕ} 0 1 = cc in absurd (omega arith)
-accepted-good (suc room) field at s fs e =
-    let p = passes (headerFault s) (fieldsFrom (messageFrom room) (suc (length s)) (at + 8) (drop 8 s)) at fs e in
-    one-message (suc room) s fs (header-good s (p .0))
-    (fields-good room (messageFrom room) (accepted-good room) (suc (length s)) (at + 8) (drop 8 s) fs (p .1))
+accepted-good (suc levels) field at s fs e =
+    let k = headerFault s in
+    let p = passes (accepted fs) (eqb k 0) (fieldsFrom (messageFrom levels) (suc (length s)) (at + 8) (drop 8 s)) (refused k at) (not-accepted k at fs) e in
+    one-message (suc levels) s fs (header-good s (eqb-true k 0 (p .0)))
+    (fields-good levels (messageFrom levels) (accepted-good levels) (suc (length s)) (at + 8) (drop 8 s) fs (p .1))
 
 -- A field takes two octets or more.
 pub field-size : (f : Parts) → 2 ≤ length (octets f)
@@ -178,11 +174,11 @@ message-counted size fs h =
     (record { four = omega arith; same = ap number t ∙ h .counted }, t)
 
 -- Where good nested messages are accepted, so is a message of good fields.
-module _ (room : ℕ) (inner : Inner)
-    (below : (field at : ℕ) (m : List ℕ) (fs : Fields) → GoodMessage room m fs → inner field at m ≡ accepted fs) where
-  fields-accepted : (fs : Fields) (left at : ℕ) → Allowed fs → depth fs ≤ suc room → length (joined fs) < left
+module _ (levels : ℕ) (inner : Inner)
+    (below : (field at : ℕ) (m : List ℕ) (fs : Fields) → GoodMessage levels m fs → inner field at m ≡ accepted fs) where
+  fields-accepted : (fs : Fields) (left at : ℕ) → Allowed fs → depth fs ≤ suc levels → length (joined fs) < left
       → fieldsFrom inner left at (joined fs) ≡ accepted fs
-  unfolding fieldsFrom afterStep onFields inOrder nestedOf joined message Allowed depth
+  unfolding fieldsFrom afterStep onAccepted inOrder nestedOf joined message Allowed depth
   fields-accepted end zero at a d h = absurd (omega arith)
   fields-accepted end (suc left) at a d h = rw step-of-end
   fields-accepted (leaf f rest) zero at a d h = absurd (omega arith)
@@ -196,7 +192,7 @@ module _ (room : ℕ) (inner : Inner)
       let m = message size inside in
       let f = holder name m in
       let c = message-counted size inside (a .0 .1) in
-      let g : GoodMessage room m inside
+      let g : GoodMessage levels m inside
       = record {
         divides = ap (λ (x : List ℕ). message x inside) (sym (c .1));
         header = subst (λ (x : List ℕ). Header x inside) (sym (c .1)) (a .0 .1);
@@ -220,9 +216,9 @@ depth-positive end = omega arith
 depth-positive (leaf f rest) = depth-positive rest
 depth-positive (nested name size inside rest) = omega arith
 
-pub message-parts : (room : ℕ) (s : List ℕ) (fs : Fields) → GoodMessage room s fs → GoodHeader s × (drop 8 s ≡ joined fs)
+pub message-parts : (levels : ℕ) (s : List ℕ) (fs : Fields) → GoodMessage levels s fs → GoodHeader s × (drop 8 s ≡ joined fs)
 unfolding message
-message-parts room s fs g =
+message-parts levels s fs g =
     let w = g .header .width in
     let p : drop 4 s ≡ magic ++ joined fs = ap (drop 4) (g .divides) ∙ drop-at (take 4 s) (magic ++ joined fs) 4 w in
     let l = ap length p in
@@ -235,16 +231,16 @@ message-parts room s fs g =
       sym (drop-drop 4 4 s) ∙ ap (drop 4) p,
     )
 
-pub good-accepted : (room field at : ℕ) (s : List ℕ) (fs : Fields) → GoodMessage room s fs → messageFrom room field at s ≡ accepted fs
+pub good-accepted : (levels field at : ℕ) (s : List ℕ) (fs : Fields) → GoodMessage levels s fs → messageFrom levels field at s ≡ accepted fs
 unfolding messageFrom
 good-accepted zero field at s fs g = let h = depth-positive fs in let k = g .fields .shallow in absurd (omega arith)
-good-accepted (suc room) field at s fs g =
-    let p = message-parts (suc room) s fs g in
+good-accepted (suc levels) field at s fs g =
+    let p = message-parts (suc levels) s fs g in
     let l = length-drop 8 s in
     let m = ap length (p .1) in
     let h = p .0 .whole in
     rw (good-header s (p .0), p .1)
-    (fields-accepted room (messageFrom room) (good-accepted room) fs (suc (length s)) (at + 8) (g .fields .allowed) (g .fields .shallow) (omega arith))
+    (fields-accepted levels (messageFrom levels) (good-accepted levels) fs (suc (length s)) (at + 8) (g .fields .allowed) (g .fields .shallow) (omega arith))
 
 whole-good : (s : List ℕ) (fs : Fields) → Whole s fs → GoodMessage 8 s fs
 unfolding message
@@ -256,14 +252,11 @@ whole-good s fs w =
       fields = record { divides = refl; allowed = w .allowed; shallow = w .shallow };
     }
 
-pub accepted-message : (s : List ℕ) (fs : Fields) → reading s ≡ accepted fs → (length s ≤ 2 ^ 16) × GoodMessage 8 s fs
+pub accepted-message : (s : List ℕ) (fs : Fields) → reading s ≡ accepted fs → (length s ≤ messageLimit) × GoodMessage 8 s fs
 unfolding reading
-accepted-message s fs e = go (ltb (2 ^ 16) (length s)) refl e
-  where
-    go : (t : Bool) → ltb (2 ^ 16) (length s) ≡ t → cond t (refused 1 0) (messageFrom 8 0 0 s) ≡ accepted fs
-        → (length s ≤ 2 ^ 16) × GoodMessage 8 s fs
-    go true f g = let z : _≡_ {A = ℕ} 0 1 = cc in absurd (omega arith)
-    go false f g = (ltb-false (2 ^ 16) (length s) f, accepted-good 8 0 0 s fs g)
+accepted-message s fs e =
+    let p = fails (accepted fs) (ltb messageLimit (length s)) (refused 1 0) (messageFrom 8 0 0 s) (not-accepted 1 0 fs) e in
+    (ltb-false messageLimit (length s) (p .0), accepted-good 8 0 0 s fs (p .1))
 
 pub accepted-whole : (s : List ℕ) (fs : Fields) → reading s ≡ accepted fs → Whole s fs
 accepted-whole s fs e =
@@ -279,7 +272,7 @@ accepted-whole s fs e =
 
 pub whole-accepted : (s : List ℕ) (fs : Fields) → Whole s fs → reading s ≡ accepted fs
 unfolding reading
-whole-accepted s fs w = rw (le-ltb (2 ^ 16) (length s) (w .short)) (good-accepted 8 0 0 s fs (whole-good s fs w))
+whole-accepted s fs w = rw (le-ltb (messageLimit) (length s) (w .short)) (good-accepted 8 0 0 s fs (whole-good s fs w))
 
 -- The reading accepts a message with a division exactly where the message is whole and that is its division.
 pub accepted-exactly : (s : List ℕ) (fs : Fields) → (reading s ≡ accepted fs) ↔ Whole s fs

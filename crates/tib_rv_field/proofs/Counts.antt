@@ -1,13 +1,14 @@
 -- The computed tests of a size are the layout's forms.
-use Prim.Native.Nat.{ℕ, zero, suc, _+_, _-_, _≤_, _<_}
+use Prim.Native.Nat.{ℕ, suc, _+_, _-_, _≤_, _<_}
 use native.Mathlib.Omega.{arith}
-use mathlib.Core.Path.{_≡_, refl, sym, ap, ap₂, _∙_, subst}
-use mathlib.Core.Bool.{Bool, true, false, cond, _&&_, _||_, not}
+use mathlib.Core.Path.{_≡_, refl, sym, subst}
+use mathlib.Core.Bool.{Bool, true, false, _||_, not}
 use mathlib.Core.List.{List, [], _∷_, _++_}
-use lib.ListN.{length, take, drop}
+use lib.ListN.{length, take}
 use lib.Seq.{take-at, length-take-le}
 use lib.Dec.{eqb, leb, ltb}
-use borrow.Author.Tests.{ltb-true, ltb-false, lt-ltb, le-ltb, eqb-true, eqb-false, eq-eqb, ne-eqb, leb-true, le-leb}
+use borrow.Author.Tests.{ltb-true, ltb-false, lt-ltb, eqb-true, eqb-false, eq-eqb, ne-eqb, leb-true, le-leb}
+use Rattle.tib_field.proofs.Choices.{both}
 use Rattle.octets.specs.Number.{number}
 use Rattle.tib_rv_field.specs.Layout.{Size, one, two, four}
 use Rattle.tib_rv_field.specs.Reading.{following, own, counted, countAllowed}
@@ -108,10 +109,6 @@ announced size k (four s n l e) =
 pub record GoodCount (c m k : ℕ) : Type 0 where
   pub enough : own m ≤ k
   pub marked : c ≡ 1 → m ≡ 0x7a
-
-both : (a b : Bool) → (a && b) ≡ true → (a ≡ true) × (b ≡ true)
-both true b e = (refl, e)
-both false b e = let z : _≡_ {A = ℕ} 0 1 = cc in absurd (omega arith)
 
 implied : (a b : Bool) → (not a || b) ≡ true → a ≡ true → b ≡ true
 implied true b e f = e

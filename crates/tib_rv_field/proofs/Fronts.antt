@@ -1,7 +1,7 @@
 -- What the reading finds at the front of octets, test by test.
-use Prim.Native.Nat.{ℕ, suc, _+_, _-_, _≤_, _<_}
+use Prim.Native.Nat.{ℕ, suc, _-_, _≤_, _<_}
 use native.Mathlib.Omega.{arith}
-use mathlib.Core.Path.{_≡_, refl, sym, ap, _∙_}
+use mathlib.Core.Path.{_≡_, refl, _∙_}
 use mathlib.Core.Bool.{cond}
 use mathlib.Core.List.{List, [], _∷_}
 use lib.ListN.{length, getD, take, drop, length-drop}
@@ -9,14 +9,11 @@ use lib.Seq.{length-take-le}
 use lib.Dec.{ltb}
 use borrow.Author.Tests.{lt-ltb, le-ltb, ne-eqb}
 use Rattle.octets.specs.Number.{number, unsigned}
-use Rattle.tib_field.specs.Octets.{orZero}
-use Rattle.tib_field.specs.Name.{nameFront}
-use Rattle.tib_field.specs.declared.Front.the-variants.{End, Fault as NameFault, Name as Sized}
 use Rattle.tib_field.proofs.Slices.{tail-part, front-part}
-use Rattle.tib_field.proofs.Numbers.{few-octets}
+use Rattle.octets.proofs.Number.{unsigned-is}
 use Rattle.tib_rv_field.specs.declared.Step.{Step}
-use Rattle.tib_rv_field.specs.declared.Step.the-variants.{Done, Fault}
-use Rattle.tib_rv_field.specs.Reading.{following, counted, fromCount, fromSize, fromType, afterName, nextField}
+use Rattle.tib_rv_field.specs.declared.Step.the-variants.{Fault}
+use Rattle.tib_rv_field.specs.Reading.{following, counted, fromCount, fromSize, fromType}
 
 pub size-none : (n c : ℕ) (s : List ℕ) → length s ≡ 0 → Fault 3 ≡ fromSize n c s
 unfolding fromSize
@@ -64,10 +61,10 @@ module _ (n c m w : ℕ) (s : List ℕ) where
   pub long-cut : length s < w → Fault 3 ≡ long n c m w s
   long-cut g = rw (lt-ltb (length s) w g)
 
-  pub long-whole : w ≤ length s → w ≤ 4 → (k : ℕ) → k ≡ orZero (unsigned (take (w - 0) (drop 0 s))) → fromCount n c m k (length s - w) ≡ long n c m w s
+  pub long-whole : w ≤ length s → w ≤ 4 → (k : ℕ) → k ≡ unsigned (take (w - 0) (drop 0 s)) → fromCount n c m k (length s - w) ≡ long n c m w s
   long-whole g few k r =
       let d = length-take-le w s g in
-      let a : k ≡ number (take w s) = r ∙ rw (front-part s w) (few-octets (take w s) (omega arith)) in
+      let a : k ≡ number (take w s) = r ∙ rw (front-part s w) (unsigned-is (take w s) (omega arith)) in
       rw (le-ltb (length s) w g, a)
 
 pub type-cut : (n : ℕ) (s : List ℕ) → length s ≡ 0 → Fault 3 ≡ fromType n s
@@ -82,20 +79,3 @@ type-some n (c ∷ s) h = refl
 
 pub type-whole : (n : ℕ) (s : List ℕ) → (length s ≡ 0 → ⊥) → fromSize n (getD s 0 0) (take (length s - 1) (drop 1 s)) ≡ fromType n s
 type-whole n s h = rw (tail-part s 1) (type-some n s h)
-
-module _ (s : List ℕ) where
-  pub at-end : nameFront s ≡ End → Done ≡ nextField s
-  unfolding nextField afterName
-  at-end e = rw e
-
-  pub bad-name : (k : ℕ) → nameFront s ≡ NameFault k → Fault k ≡ nextField s
-  unfolding nextField afterName
-  bad-name k e = rw e
-
-  pub good-name : (n : ℕ) → nameFront s ≡ Sized n → fromType n (take (length s - (1 + n)) (drop (1 + n) s)) ≡ nextField s
-  unfolding nextField afterName
-  good-name n e = rw (e, tail-part s (1 + n))
-
--- What a reader that was handed the octets from i on found.
-pub seen : (s : List ℕ) (i : ℕ) (r p : Step) → r ≡ nextField (take (length s - i) (drop i s)) → r ≡ p → nextField (drop i s) ≡ p
-seen s i r p e f = ap nextField (sym (tail-part s i)) ∙ sym e ∙ f

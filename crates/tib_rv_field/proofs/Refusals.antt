@@ -1,5 +1,5 @@
 -- The numbers of refusals: none is 0, which stands for acceptance, and 14 is the outermost message's alone.
-use Prim.Native.Nat.{ℕ, zero, suc, _+_, _-_, _^_, _<_}
+use Prim.Native.Nat.{ℕ, zero, suc, _+_, _-_, _<_}
 use native.Mathlib.Omega.{arith}
 use mathlib.Core.Path.{_≡_, refl, sym, _∙_, subst}
 use mathlib.Core.Bool.{Bool, true, false, cond, not}
@@ -7,29 +7,25 @@ use mathlib.Core.List.{List, [], _∷_}
 use lib.ListN.{length, take, drop}
 use lib.Dec.{eqb, ltb, eqb·suc-zero}
 use Rattle.octets.specs.Number.{number}
-use Rattle.tib_field.specs.Octets.{begins}
-use Rattle.tib_field.specs.Name.{nameFront}
-use Rattle.tib_field.specs.declared.Front.{Front}
-use Rattle.tib_field.specs.declared.Front.the-variants.{End, Fault as NameFault, Name}
-use Rattle.tib_field.proofs.Refusals.{either, OfName, name-refused}
+use Rattle.reading.specs.Reading.{Reading, refused, messageLimit}
+use Rattle.tib_field.specs.Mark.{begins}
+use Rattle.tib_field.proofs.Choices.{either}
+use Rattle.tib_field.proofs.Refusals.{OfReading, on-accepted, in-order}
+use Rattle.tib_field.proofs.Fronts.{of-next}
 use Rattle.tib_rv_field.specs.declared.Step.{Step}
 use Rattle.tib_rv_field.specs.declared.Step.the-variants.{Done, Fault, Over, Into}
 use Rattle.tib_rv_field.specs.Layout.{Fields, magic}
-use Rattle.tib_rv_field.specs.Reading.{following, own, counted, countAllowed, found, fromCount, fromSize, fromType, afterName, nextField, lead, total, partsAt, Reading, accepted, refused, onFields, inOrder, nestedOf, Inner, afterStep, fieldsFrom, headerFault, messageFrom, reading}
+use Rattle.tib_rv_field.specs.Reading.{following, own, counted, countAllowed, found, fromCount, fromSize, fromType, nextField, lead, total, partsAt, nestedOf, Inner, afterStep, fieldsFrom, headerFault, messageFrom, reading}
 use Rattle.tib_rv_field.proofs.Steps.{Counted}
 use Rattle.tib_rv_field.proofs.Accepted.{header-good}
 use Rattle.tib_rv_field.proofs.Announced.{inner-counted, counted-header}
 
--- P holds of the number, where a step or a reading is refused with one.
+-- P holds of the number, where a step is refused with one.
 unfoldable OfStep : (ℕ → Type 0) → Step → Type 0
 OfStep P Done = Unit {0}
 OfStep P (Fault k) = P k
 OfStep P (Over z) = Unit {0}
 OfStep P (Into z) = Unit {0}
-
-unfoldable OfReading : (ℕ → Type 0) → Reading → Type 0
-OfReading P (accepted fs) = Unit {0}
-OfReading P (refused k place) = P k
 
 -- A field is refused with 3, 4, 15 or 16.
 module _ (P : ℕ → Type 0) (three : P 3) (four : P 4) (name : P 15) (rule : P 16) where
@@ -59,36 +55,20 @@ module _ (P : ℕ → Type 0) (three : P 3) (four : P 4) (name : P 15) (rule : P
   type-refused n [] = three
   type-refused n (c ∷ s) = size-refused n c s
 
-  after-refused : (s : List ℕ) (f : Front) → OfName P f → OfStep P (afterName s f)
-  unfolding OfName OfStep afterName
-  after-refused s End p = tt
-  after-refused s (NameFault k) p = p
-  after-refused s (Name n) p = type-refused n (drop (1 + n) s)
-
   step-refused : (s : List ℕ) → OfStep P (nextField s)
-  unfolding nextField
-  step-refused s = after-refused s (nameFront s) (name-refused P three name s)
-
-  fields-on : (f : Fields → Fields) (r : Reading) → OfReading P r → OfReading P (onFields f r)
-  unfolding OfReading onFields
-  fields-on f (accepted fs) p = tt
-  fields-on f (refused k place) p = p
-
-  in-order : (f : Fields → Fields → Fields) (q r : Reading) → OfReading P q → OfReading P r → OfReading P (inOrder f q r)
-  unfolding OfReading inOrder
-  in-order f (accepted inside) r p h = fields-on (f inside) r h
-  in-order f (refused k place) r p h = p
+  unfolding nextField OfStep
+  step-refused s = of-next Done Fault fromType P (OfStep P) three name tt (λ k p. p) type-refused s
 
   -- A nested message is refused with these numbers, 5 and 13: it announces the octets that it has.
   module _ (inner : Inner) (below : (field at : ℕ) (m : List ℕ) → Counted m → OfReading P (inner field at m)) where
-    step-read : (next : ℕ → List ℕ → Reading) → ((at : ℕ) (r : List ℕ) → OfReading P (next at r)) → (at : ℕ) (s : List ℕ) (p : Step)
+    step-read : (next : ℕ → List ℕ → Reading Fields) → ((at : ℕ) (r : List ℕ) → OfReading P (next at r)) → (at : ℕ) (s : List ℕ) (p : Step)
         → nextField s ≡ p → OfStep P p → OfReading P (afterStep inner next at s p)
     unfolding OfStep OfReading afterStep
     step-read next later at s Done e h = tt
     step-read next later at s (Fault k) e h = h
-    step-read next later at s (Over z) e h = fields-on _ _ (later (at + total z) (drop (total z) s))
+    step-read next later at s (Over z) e h = on-accepted P _ _ (later (at + total z) (drop (total z) s))
     step-read next later at s (Into z) e h =
-        in-order (nestedOf (partsAt s z)) _ _ (below at (at + lead z) (partsAt s z .contents) (inner-counted s z e))
+        in-order P (nestedOf (partsAt s z)) _ _ (below at (at + lead z) (partsAt s z .contents) (inner-counted s z e))
         (later (at + total z) (drop (total z) s))
 
     fields-refused : (left at : ℕ) (s : List ℕ) → OfReading P (fieldsFrom inner left at s)
@@ -102,17 +82,17 @@ module _ (P : ℕ → Type 0) (three : P 3) (four : P 4) (name : P 15) (rule : P
     OfHeader zero = Unit {0}
     OfHeader (suc k) = P (suc k)
 
-    header-refused : (k at : ℕ) (r : Reading) → OfHeader k → OfReading P r → OfReading P (cond (eqb k 0) r (refused k at))
+    header-refused : (k at : ℕ) (r : Reading Fields) → OfHeader k → OfReading P r → OfReading P (cond (eqb k 0) r (refused k at))
     unfolding OfReading OfHeader
     header-refused zero at r p h = h
     header-refused (suc k) at r p h = rw (eqb·suc-zero k) p
 
-    message-refused : (room field at : ℕ) (m : List ℕ) → Counted m → OfReading P (messageFrom room field at m)
+    message-refused : (levels field at : ℕ) (m : List ℕ) → Counted m → OfReading P (messageFrom levels field at m)
     unfolding OfReading messageFrom OfHeader
     message-refused zero field at m c = deep
-    message-refused (suc room) field at m c =
+    message-refused (suc levels) field at m c =
         header-refused (headerFault m) at _ (counted-header OfHeader tt three mark m (c .same))
-        (fields-refused (messageFrom room) (message-refused room) (suc (length m)) (at + 8) (drop 8 m))
+        (fields-refused (messageFrom levels) (message-refused levels) (suc (length m)) (at + 8) (drop 8 m))
 
     -- The outermost message is refused with these numbers, 1 and 14.
     reading-refused : P 1 → P 14 → (s : List ℕ) → OfReading P (reading s)
@@ -123,7 +103,7 @@ module _ (P : ℕ → Type 0) (three : P 3) (four : P 4) (name : P 15) (rule : P
         let c = not (begins magic (drop 4 s)) in
         let h = either OfHeader (ltb (length s) 8) 3 (cond c 13 (cond b 14 0)) three
         (either OfHeader c 13 (cond b 14 0) mark (either OfHeader b 14 0 size tt)) in
-        either (OfReading P) (ltb (2 ^ 16) (length s)) (refused 1 0) (messageFrom 8 0 0 s) long
+        either (OfReading P) (ltb (messageLimit) (length s)) (refused 1 0) (messageFrom 8 0 0 s) long
         (header-refused (headerFault s) 0 f h
         (fields-refused (messageFrom 7) (message-refused 7) (suc (length s)) (0 + 8) (drop 8 s)))
 
@@ -138,7 +118,7 @@ refusal-positive s k place e =
 -- Where a message is refused with 14, it is its own size that is not the count of its octets, not that of a message nested in it.
 pub size-refused-outermost : (s : List ℕ) (place : ℕ) → reading s ≡ refused 14 place → (number (take 4 s) ≡ length s → ⊥) × (place ≡ 0)
 unfolding reading messageFrom OfReading
-size-refused-outermost s place e = go (ltb (2 ^ 16) (length s)) (headerFault s) refl e
+size-refused-outermost s place e = go (ltb (messageLimit) (length s)) (headerFault s) refl e
   where
     Other : ℕ → Type 0
     Other n = n ≡ 14 → ⊥

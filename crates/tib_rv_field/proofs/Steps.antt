@@ -1,5 +1,5 @@
 -- One step of the reading takes exactly one field that the layout allows.
-use Prim.Native.Nat.{ℕ, zero, suc, _+_, _-_, _≤_, _<_}
+use Prim.Native.Nat.{ℕ, suc, _+_, _-_, _≤_}
 use native.Mathlib.Omega.{arith}
 use mathlib.Core.Path.{_≡_, refl, sym, ap, ap₂, _∙_, subst}
 use mathlib.Core.Bool.{Bool, true, false, cond}
@@ -7,17 +7,16 @@ use mathlib.Core.List.{List, [], _∷_, _++_, append-assoc}
 use lib.ListN.{length, take, drop, length-append, length-drop, take-append-drop}
 use lib.Seq.{take-at, drop-at, length-take-le, take-append-le, take-take}
 use lib.Dec.{eqb, ltb}
-use borrow.Author.Tests.{ltb-false, le-ltb, eqb-true, eqb-false, eq-eqb, ne-eqb, le-leb}
+use borrow.Author.Tests.{ltb-false, le-ltb, eqb-true, eqb-false, ne-eqb, le-leb}
 use Rattle.octets.specs.Number.{number}
-use Rattle.tib_field.specs.Name.{Name, nameFront}
-use Rattle.tib_field.specs.declared.Front.{Front}
-use Rattle.tib_field.specs.declared.Front.the-variants.{End, Fault as NameFault, Name as Sized}
-use Rattle.tib_field.proofs.Names.{front-end, front-found, front-of-name}
+use Rattle.tib_field.specs.Name.{Name, nameFront, afterName}
+use Rattle.tib_field.proofs.Choices.{either, passes, fails}
+use Rattle.tib_field.proofs.Fronts.{next-of-name, AfterName, name-found, next-done}
 use Rattle.tib_rv_field.specs.declared.Sizes.{Sizes}
 use Rattle.tib_rv_field.specs.declared.Step.{Step}
 use Rattle.tib_rv_field.specs.declared.Step.the-variants.{Done, Fault, Over, Into}
 use Rattle.tib_rv_field.specs.Layout.{Parts, octets, Leaf, holder}
-use Rattle.tib_rv_field.specs.Reading.{following, own, counted, countAllowed, found, fromCount, fromSize, fromType, afterName, nextField, sizes, lead, total, partsAt}
+use Rattle.tib_rv_field.specs.Reading.{following, own, counted, countAllowed, found, fromCount, fromSize, fromType, nextField, sizes, lead, total, partsAt}
 use Rattle.tib_rv_field.proofs.Counts.{size-found, announced, good-count, plain-count}
 
 -- A field and the octets after it, part by part.
@@ -57,15 +56,9 @@ Finds (Over z) = Unit {0}
 Finds (Into z) = Unit {0}
 
 module _ (q : Step) (fine : Finds q) where
-  passes : (t : Bool) (p : Step) (k : ℕ) → cond t p (Fault k) ≡ q → (t ≡ true) × (p ≡ q)
+  no-fault : (k : ℕ) → Fault k ≡ q → ⊥
   unfolding Finds
-  passes true p k e = (refl, e)
-  passes false p k e = absurd (subst Finds (sym e) fine)
-
-  fails : (t : Bool) (p : Step) (k : ℕ) → cond t (Fault k) p ≡ q → (t ≡ false) × (p ≡ q)
-  unfolding Finds
-  fails true p k e = absurd (subst Finds (sym e) fine)
-  fails false p k e = (refl, e)
+  no-fault k e = subst Finds (sym e) fine
 
   -- What the step tested where it finds a field.
   pub record Tested (n c : ℕ) (s : List ℕ) : Type 0 where
@@ -75,7 +68,7 @@ module _ (q : Step) (fine : Finds q) where
     pub low : marker ≤ 0x7a
     pub wide : following marker ≤ length tail
     pub count : countAllowed c marker (counted marker tail) ≡ true
-    pub room : counted marker tail - own marker ≤ length tail - following marker
+    pub fits : counted marker tail - own marker ≤ length tail - following marker
     pub same : found n c marker (counted marker tail) ≡ q
 
   tested : (n c : ℕ) (s : List ℕ) → fromSize n c s ≡ q → Tested n c s
@@ -84,10 +77,10 @@ module _ (q : Step) (fine : Finds q) where
   tested n c (m ∷ t) e =
       let k = counted m t in
       let left = length t - following m in
-      let a = fails (ltb 0x7a m) (cond (ltb (length t) (following m)) (Fault 3) (fromCount n c m k left)) 16 e in
-      let b = fails (ltb (length t) (following m)) (fromCount n c m k left) 3 (a .1) in
-      let d = passes (countAllowed c m k) (cond (ltb left (k - own m)) (Fault 4) (found n c m k)) 16 (b .1) in
-      let f = fails (ltb left (k - own m)) (found n c m k) 4 (d .1) in
+      let a = fails q (ltb 0x7a m) (Fault 16) (cond (ltb (length t) (following m)) (Fault 3) (fromCount n c m k left)) (no-fault 16) e in
+      let b = fails q (ltb (length t) (following m)) (Fault 3) (fromCount n c m k left) (no-fault 3) (a .1) in
+      let d = passes q (countAllowed c m k) (cond (ltb left (k - own m)) (Fault 4) (found n c m k)) (Fault 16) (no-fault 16) (b .1) in
+      let f = fails q (ltb left (k - own m)) (Fault 4) (found n c m k) (no-fault 4) (d .1) in
       record {
         marker = m;
         tail = t;
@@ -95,7 +88,7 @@ module _ (q : Step) (fine : Finds q) where
         low = ltb-false 0x7a m (a .0);
         wide = ltb-false (length t) (following m) (b .0);
         count = d .0;
-        room = ltb-false left (k - own m) (f .0);
+        fits = ltb-false left (k - own m) (f .0);
         same = f .1;
       }
 
@@ -105,21 +98,9 @@ module _ (q : Step) (fine : Finds q) where
   type-tested n (c ∷ s) e = (c, s, refl, tested n c s e)
 
   -- A step that finds a field found a name.
-  name-tested : (s : List ℕ) → nextField s ≡ q
-      → (name : List ℕ) × (r : List ℕ) × (s ≡ length name ∷ (name ++ r)) × Name name × (fromType (length name) r ≡ q)
-  unfolding nextField afterName Finds
-  name-tested s e = go (nameFront s) refl e
-    where
-      go : (k : Front) → nameFront s ≡ k → afterName s k ≡ q
-          → (name : List ℕ) × (r : List ℕ) × (s ≡ length name ∷ (name ++ r)) × Name name × (fromType (length name) r ≡ q)
-      go End f g = absurd (subst Finds (sym g) fine)
-      go (NameFault k) f g = absurd (subst Finds (sym g) fine)
-      go (Sized n) f g =
-          let r = front-found s n f in
-          let k : 1 + n ≡ suc n = omega arith in
-          let d : drop (1 + n) s ≡ r .rest = rw k (ap (drop (suc n)) (r .divides)) ∙ drop-at (r .name) (r .rest) n (r .sized) in
-          let h : fromType n (r .rest) ≡ q = rw d at g in
-          (r .name, r .rest, r .divides ∙ ap (λ (x : ℕ). x ∷ (r .name ++ r .rest)) (sym (r .sized)), r .good, rw (r .sized) h)
+  name-tested : (s : List ℕ) → nextField s ≡ q → AfterName Done Fault fromType s q
+  unfolding nextField Finds
+  name-tested s e = name-found Done Fault fromType s q (λ f. subst Finds (sym f) fine) no-fault e
 
 found-over : (n c m k : ℕ) (z : Sizes) → found n c m k ≡ Over z
     → (c ≡ 1 → ⊥) × (record { name = n; octet = c; width = 1 + following m; contents = k - own m } ≡ z)
@@ -149,31 +130,31 @@ pub step-found : (s : List ℕ) (z : Sizes) → nextField s ≡ Over z → Found
 unfolding Finds octets sizes
 step-found s z e =
     let n = name-tested (Over z) tt s e in
-    let y = type-tested (Over z) tt (length (n .0)) (n .1) (n .4) in
+    let y = type-tested (Over z) tt (length (n .name)) (n .rest) (n .same) in
     let t = y .3 in
     let m = t .marker in
     let k = counted m (t .tail) in
     let w = following m in
     let l = k - own m in
-    let o = found-over (length (n .0)) (y .0) m k z (t .same) in
+    let o = found-over (length (n .name)) (y .0) m k z (t .same) in
     let g = good-count (y .0) m k (t .count) in
     let a : length (take w (t .tail)) ≡ w = length-take-le w (t .tail) (t .wide) in
     let d = length-drop w (t .tail) in
-    let r = t .room in
+    let r = t .fits in
     let b : length (take l (drop w (t .tail))) ≡ l = length-take-le l (drop w (t .tail)) (omega arith) in
     let v : take w (t .tail) ++ (take l (drop w (t .tail)) ++ drop l (drop w (t .tail))) ≡ t .tail
     = rw (take-append-drop l (drop w (t .tail))) (take-append-drop w (t .tail)) in
-    let p : s ≡ length (n .0) ∷ (n .0 ++ (y .0 ∷ (m ∷ t .tail)))
-    = n .2 ∙ ap (λ (x : List ℕ). length (n .0) ∷ (n .0 ++ x)) (y .2 ∙ ap (λ (x : List ℕ). y .0 ∷ x) (t .divides)) in
+    let p : s ≡ length (n .name) ∷ (n .name ++ (y .0 ∷ (m ∷ t .tail)))
+    = n .divides ∙ ap (λ (x : List ℕ). length (n .name) ∷ (n .name ++ x)) (y .2 ∙ ap (λ (x : List ℕ). y .0 ∷ x) (t .divides)) in
     let x : suc w ≡ 1 + w = omega arith in
     record {
-      field = record { name = n .0; octet = y .0; size = m ∷ take w (t .tail); contents = take l (drop w (t .tail)) };
+      field = record { name = n .name; octet = y .0; size = m ∷ take w (t .tail); contents = take l (drop w (t .tail)) };
       rest = drop l (drop w (t .tail));
-      divides = p ∙ sym (simp append-assoc (ap (λ (x : List ℕ). length (n .0) ∷ (n .0 ++ (y .0 ∷ (m ∷ x)))) v));
+      divides = p ∙ sym (simp append-assoc (ap (λ (x : List ℕ). length (n .name) ∷ (n .name ++ (y .0 ∷ (m ∷ x)))) v));
       sized = rw (a, b, x) (o .1);
       allowed =
           record {
-            name = n .3;
+            name = n .good;
             plain = o .0;
             size = rw b (size-found m (t .tail) (t .low) (t .wide) (g .enough));
           };
@@ -183,40 +164,38 @@ pub step-held : (s : List ℕ) (z : Sizes) → nextField s ≡ Into z → Held s
 unfolding Finds octets sizes following own counted
 step-held s z e =
     let n = name-tested (Into z) tt s e in
-    let y = type-tested (Into z) tt (length (n .0)) (n .1) (n .4) in
+    let y = type-tested (Into z) tt (length (n .name)) (n .rest) (n .same) in
     let t = y .3 in
     let m = t .marker in
-    let o = found-into (length (n .0)) (y .0) m (counted m (t .tail)) z (t .same) in
+    let o = found-into (length (n .name)) (y .0) m (counted m (t .tail)) z (t .same) in
     let g = good-count (y .0) m (counted m (t .tail)) (t .count) in
     let i : m ≡ 0x7a = g .marked (o .0) in
     let k = number (take 4 (t .tail)) in
     let c : counted m (t .tail) ≡ k = ap (λ (x : ℕ). counted x (t .tail)) i in
     let w : 4 ≤ length (t .tail) = subst (λ (x : ℕ). following x ≤ length (t .tail)) i (t .wide) in
     let q : 4 ≤ k = subst (λ (x : ℕ). own x ≤ counted x (t .tail)) i (g .enough) in
-    let r : k - 4 ≤ length (t .tail) - 4 = subst (λ (x : ℕ). counted x (t .tail) - own x ≤ length (t .tail) - following x) i (t .room) in
+    let r : k - 4 ≤ length (t .tail) - 4 = subst (λ (x : ℕ). counted x (t .tail) - own x ≤ length (t .tail) - following x) i (t .fits) in
     let b : length (take k (t .tail)) ≡ k = length-take-le k (t .tail) (omega arith) in
-    let p : s ≡ length (n .0) ∷ (n .0 ++ (1 ∷ (0x7a ∷ t .tail)))
-    = n .2 ∙ ap (λ (x : List ℕ). length (n .0) ∷ (n .0 ++ x))
+    let p : s ≡ length (n .name) ∷ (n .name ++ (1 ∷ (0x7a ∷ t .tail)))
+    = n .divides ∙ ap (λ (x : List ℕ). length (n .name) ∷ (n .name ++ x))
     (y .2 ∙ ap₂ (λ (a : ℕ) (x : List ℕ). a ∷ x) (o .0) (t .divides ∙ ap (λ (a : ℕ). a ∷ t .tail) i)) in
     let v : take k (t .tail) ++ drop k (t .tail) ≡ t .tail = take-append-drop k (t .tail) in
-    let f : record { name = length (n .0); octet = 1; width = 1; contents = k } ≡ z
-    = ap₂ (λ (a b : ℕ). record { name = length (n .0); octet = a; width = 1; contents = b }) (sym (o .0)) (sym c) ∙ o .1 in
+    let f : record { name = length (n .name); octet = 1; width = 1; contents = k } ≡ z
+    = ap₂ (λ (a b : ℕ). record { name = length (n .name); octet = a; width = 1; contents = b }) (sym (o .0)) (sym c) ∙ o .1 in
     record {
-      name = n .0;
+      name = n .name;
       octets-held = take k (t .tail);
       rest = drop k (t .tail);
-      divides = p ∙ sym (simp append-assoc (ap (λ (x : List ℕ). length (n .0) ∷ (n .0 ++ (1 ∷ (0x7a ∷ x)))) v));
+      divides = p ∙ sym (simp append-assoc (ap (λ (x : List ℕ). length (n .name) ∷ (n .name ++ (1 ∷ (0x7a ∷ x)))) v));
       sized = rw b f;
-      good = n .3;
+      good = n .good;
       measured = record { four = omega arith; same = rw (take-take 4 k (t .tail) q) (sym b) };
     }
 
 -- A field that the layout allows is what the step finds at the front of octets.
 pub step-of-leaf : (f : Parts) (rest : List ℕ) → Leaf f → nextField (octets f ++ rest) ≡ Over (sizes f)
-unfolding nextField afterName fromType fromSize fromCount found sizes
+unfolding nextField fromType fromSize fromCount found sizes
 step-of-leaf f rest a =
-    let n = length (f .name) in
-    let j : 1 + n ≡ suc n = omega arith in
     let l = length (f .contents) in
     let t = announced (f .size) l (a .size) in
     let m = t .marker in
@@ -229,9 +208,7 @@ step-of-leaf f rest a =
     let c : own m + l - own m ≡ l = omega arith in
     rw (
       flat f rest,
-      front-of-name (f .name) (f .octet ∷ (f .size ++ (f .contents ++ rest))) (a .name),
-      j,
-      drop-at (f .name) (f .octet ∷ (f .size ++ (f .contents ++ rest))) n refl,
+      next-of-name Done Fault fromType (f .name) (f .octet ∷ (f .size ++ (f .contents ++ rest))) (a .name),
       d,
       le-ltb 0x7a m (t .low),
       le-ltb (length s) w (omega arith),
@@ -244,19 +221,15 @@ step-of-leaf f rest a =
     )
 
 pub step-of-held : (name m rest : List ℕ) → Name name → Counted m → nextField (octets (holder name m) ++ rest) ≡ Into (sizes (holder name m))
-unfolding nextField afterName fromType fromSize fromCount found sizes following own counted countAllowed
+unfolding nextField fromType fromSize fromCount found sizes following own counted countAllowed
 step-of-held name m rest good e =
-    let n = length name in
-    let j : 1 + n ≡ suc n = omega arith in
     let s = m ++ rest in
     let p = length-append m rest in
     let q = e .four in
     let k : number (take 4 s) ≡ length m = rw (take-append-le 4 m rest q) (e .same) in
     rw (
       flat (holder name m) rest,
-      front-of-name name (1 ∷ (0x7a ∷ s)) good,
-      j,
-      drop-at name (1 ∷ (0x7a ∷ s)) n refl,
+      next-of-name Done Fault fromType name (1 ∷ (0x7a ∷ s)) good,
       le-ltb (length s) 4 (omega arith),
       k,
       le-leb 4 (length m) q,
@@ -274,21 +247,17 @@ Goes (Fault k) = Unit {0}
 Goes (Over z) = Unit {0}
 Goes (Into z) = Unit {0}
 
-either : (t : Bool) (p q : Step) → Goes p → Goes q → Goes (cond t p q)
-either true p q a b = a
-either false p q a b = b
-
 found-goes : (n c m k : ℕ) → Goes (found n c m k)
 unfolding found Goes
 found-goes n c m k =
-    either (eqb c 1) (Into (record { name = n; octet = c; width = 1; contents = k }))
+    either Goes (eqb c 1) (Into (record { name = n; octet = c; width = 1; contents = k }))
     (Over (record { name = n; octet = c; width = 1 + following m; contents = k - own m })) tt tt
 
 count-goes : (n c m k left : ℕ) → Goes (fromCount n c m k left)
 unfolding fromCount Goes
 count-goes n c m k left =
     let p = cond (ltb left (k - own m)) (Fault 4) (found n c m k) in
-    either (countAllowed c m k) p (Fault 16) (either (ltb left (k - own m)) (Fault 4) (found n c m k) tt (found-goes n c m k)) tt
+    either Goes (countAllowed c m k) p (Fault 16) (either Goes (ltb left (k - own m)) (Fault 4) (found n c m k) tt (found-goes n c m k)) tt
 
 type-goes : (n : ℕ) (s : List ℕ) → Goes (fromType n s)
 unfolding fromType fromSize Goes
@@ -297,17 +266,12 @@ type-goes n (c ∷ []) = tt
 type-goes n (c ∷ m ∷ s) =
     let k = fromCount n c m (counted m s) (length s - following m) in
     let p = cond (ltb (length s) (following m)) (Fault 3) k in
-    either (ltb 0x7a m) (Fault 16) p tt
-    (either (ltb (length s) (following m)) (Fault 3) k tt (count-goes n c m (counted m s) (length s - following m)))
+    either Goes (ltb 0x7a m) (Fault 16) p tt
+    (either Goes (ltb (length s) (following m)) (Fault 3) k tt (count-goes n c m (counted m s) (length s - following m)))
 
 pub step-done : (s : List ℕ) → nextField s ≡ Done → s ≡ []
-unfolding nextField afterName Goes
-step-done s e = go (nameFront s) refl e
-  where
-    go : (k : Front) → nameFront s ≡ k → afterName s k ≡ Done → s ≡ []
-    go End f g = front-end s f
-    go (NameFault k) f g = let y : _≡_ {A = ℕ} 0 1 = cc in absurd (omega arith)
-    go (Sized m) f g = absurd (subst Goes g (type-goes m (drop (1 + m) s)))
+unfolding nextField Goes
+step-done s e = next-done Done Fault fromType s (λ k f. subst Goes f tt) (λ n r f. subst Goes f (type-goes n r)) e
 
 pub length-octets : (f : Parts) → length (octets f) ≡ total (sizes f)
 unfolding octets total lead sizes

@@ -1,10 +1,11 @@
 -- What a TibrvMsg message is, independent of any way to read it: a header, and fields joined, each as the layout allows, with a division
 -- of its message for each field of type 1.
-use Prim.Native.Nat.{ℕ, suc, _+_, _^_, _≤_, max}
+use Prim.Native.Nat.{ℕ, suc, _+_, _≤_, max}
 use mathlib.Core.Path.{_≡_}
 use mathlib.Core.List.{List, [], _∷_, _++_}
 use lib.ListN.{length}
 use Rattle.octets.specs.Number.{number}
+use Rattle.reading.specs.Reading.{messageLimit}
 use Rattle.tib_field.specs.Name.{Name}
 
 -- A field, part by part in the order of its octets. The octet before the name, its size, is left out.
@@ -76,4 +77,4 @@ pub record Whole (s : List ℕ) (fields : Fields) : Type 0 where
   pub header : Header size fields
   pub allowed : Allowed fields
   pub shallow : depth fields ≤ 8
-  pub short : length s ≤ 2 ^ 16
+  pub short : length s ≤ messageLimit

@@ -1,15 +1,14 @@
 -- Reading a TibrvMsg message: its division into fields, or the first refusal with its place. In each part of a field a missing octet is
 -- refused before a bad one.
-use Prim.Native.Nat.{ℕ, zero, suc, _+_, _-_, _^_}
-use mathlib.Core.Bool.{Bool, true, false, cond, _&&_, _||_, not}
-use mathlib.Core.List.{List, [], _∷_, _++_}
+use Prim.Native.Nat.{ℕ, zero, suc, _+_, _-_}
+use mathlib.Core.Bool.{Bool, cond, _&&_, _||_, not}
+use mathlib.Core.List.{List, [], _∷_}
 use lib.ListN.{length, take, drop}
 use lib.Dec.{eqb, leb, ltb}
 use Rattle.octets.specs.Number.{number}
-use Rattle.tib_field.specs.Octets.{begins}
-use Rattle.tib_field.specs.Name.{nameFront}
-use Rattle.tib_field.specs.declared.Front.{Front}
-use Rattle.tib_field.specs.declared.Front.the-variants.{End, Fault as NameFault, Name}
+use Rattle.reading.specs.Reading.{Reading, accepted, refused, onAccepted, inOrder, messageLimit}
+use Rattle.tib_field.specs.Mark.{begins}
+use Rattle.tib_field.specs.Name.{nameFront, afterName}
 use Rattle.tib_rv_field.specs.declared.Sizes.{Sizes}
 use Rattle.tib_rv_field.specs.declared.Step.{Step}
 use Rattle.tib_rv_field.specs.declared.Step.the-variants.{Done, Fault, Over, Into}
@@ -55,14 +54,9 @@ unfoldable pub fromType : ℕ → List ℕ → Step
 fromType n [] = Fault 3
 fromType n (c ∷ s) = fromSize n c s
 
-unfoldable pub afterName : List ℕ → Front → Step
-afterName s End = Done
-afterName s (NameFault k) = Fault k
-afterName s (Name n) = fromType n (drop (1 + n) s)
-
 -- What stands at the front of octets: their end, a fault, a field, or a field that holds a message.
 unfoldable pub nextField : List ℕ → Step
-nextField s = afterName s (nameFront s)
+nextField s = afterName Done Fault fromType s (nameFront s)
 
 -- The sizes of a field's parts.
 unfoldable pub sizes : Parts → Sizes
@@ -86,38 +80,25 @@ partsAt s z =
       contents = take (z .contents) (drop (1 + z .width) afterName);
     }
 
-pub data Reading : Type 0 where
-  accepted : Fields → Reading
-  refused : ℕ → ℕ → Reading
-
--- A reading's fields with something put before them.
-unfoldable pub onFields : (Fields → Fields) → Reading → Reading
-onFields f (accepted fields) = accepted (f fields)
-onFields f (refused number place) = refused number place
-
--- A nested message is read before the fields that follow it.
-unfoldable pub inOrder : (Fields → Fields → Fields) → Reading → Reading → Reading
-inOrder f (accepted inside) rest = onFields (f inside) rest
-inOrder f (refused number place) rest = refused number place
-
 -- How a nested message is read: the place of its field, the place of its header, and its octets.
 abbrev pub Inner : Type 0
-Inner = ℕ → ℕ → List ℕ → Reading
+Inner = ℕ → ℕ → List ℕ → Reading Fields
 
 -- The division of a field that holds a message, by its parts and the division of the message.
 unfoldable pub nestedOf : Parts → Fields → Fields → Fields
 nestedOf f inside rest = nested (f .name) (take 4 (f .contents)) inside rest
 
--- What a step at the front of octets, at a place, comes to, where `next` reads the fields that follow.
-unfoldable pub afterStep : Inner → (ℕ → List ℕ → Reading) → ℕ → List ℕ → Step → Reading
+-- What a step at the front of octets, at a place, comes to, where `next` reads the fields that follow. A nested message is read before
+-- these.
+unfoldable pub afterStep : Inner → (ℕ → List ℕ → Reading Fields) → ℕ → List ℕ → Step → Reading Fields
 afterStep inner next at s Done = accepted end
 afterStep inner next at s (Fault number) = refused number at
-afterStep inner next at s (Over z) = onFields (leaf (partsAt s z)) (next (at + total z) (drop (total z) s))
+afterStep inner next at s (Over z) = onAccepted (leaf (partsAt s z)) (next (at + total z) (drop (total z) s))
 afterStep inner next at s (Into z) =
     inOrder (nestedOf (partsAt s z)) (inner at (at + lead z) (partsAt s z .contents)) (next (at + total z) (drop (total z) s))
 
 -- The fields of one message, from a place on. `left` bounds the fields that are still looked at.
-unfoldable pub fieldsFrom : Inner → ℕ → ℕ → List ℕ → Reading
+unfoldable pub fieldsFrom : Inner → ℕ → ℕ → List ℕ → Reading Fields
 fieldsFrom inner zero at s = refused 3 at
 fieldsFrom inner (suc left) at s = afterStep inner (fieldsFrom inner left) at s (nextField s)
 
@@ -130,13 +111,13 @@ headerFault s =
     (cond (not (eqb (number (take 4 s)) (length s))) 14
     0))
 
--- A message, at most `room` messages deep. It is refused with 5 at the field that holds it where it is too deep. A field takes an octet or
+-- A message, at most `levels` messages deep. It is refused with 5 at the field that holds it where it is too deep. A field takes an octet or
 -- more, so one look more than there are octets is enough.
 unfoldable pub messageFrom : ℕ → Inner
 messageFrom zero field at s = refused 5 field
-messageFrom (suc room) field at s =
-    cond (eqb (headerFault s) 0) (fieldsFrom (messageFrom room) (suc (length s)) (at + 8) (drop 8 s)) (refused (headerFault s) at)
+messageFrom (suc levels) field at s =
+    cond (eqb (headerFault s) 0) (fieldsFrom (messageFrom levels) (suc (length s)) (at + 8) (drop 8 s)) (refused (headerFault s) at)
 
 -- The outermost message: its division, or the first refusal.
-unfoldable pub reading : List ℕ → Reading
-reading s = cond (ltb (2 ^ 16) (length s)) (refused 1 0) (messageFrom 8 0 0 s)
+unfoldable pub reading : List ℕ → Reading Fields
+reading s = cond (ltb messageLimit (length s)) (refused 1 0) (messageFrom 8 0 0 s)

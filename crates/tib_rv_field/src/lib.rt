@@ -115,7 +115,7 @@ fn from_size(n: usize, c: u8, s: &[u8]) -> Step
     if s.len() == 0 {
         return Step::Fault(3);
     }
-    let m = tib_field::wide(s[0]);
+    let m = numbers::wide(s[0]);
     if m < 0x79 {
         return from_count(n, c, m, m, s.len() - 1);
     }
@@ -139,7 +139,7 @@ fn from_type(n: usize, s: &[u8]) -> Step
 }
 
 // What stands at the front of octets. The size of the name is read from its octet, not handed on by the test of the name, so that the
-// place of the next field need not wait for that test.
+// place of the next field does not depend on that test.
 pub fn next_field(s: &[u8]) -> Step
     ensures { λ r. ⌜ r ≡ nextField (now (s .entry)) ⌝ }
 {
@@ -150,7 +150,7 @@ pub fn next_field(s: &[u8]) -> Step
     if fault != 0 {
         return Step::Fault(fault);
     }
-    let n = tib_field::wide(s[0]) as usize;
+    let n = numbers::wide(s[0]) as usize;
     let start = 1 + n;
     from_type(n, &s[start..])
 }

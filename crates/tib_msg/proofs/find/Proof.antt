@@ -3,9 +3,10 @@ use borrow.Author.Needs.{needs}
 use native.Mathlib.Omega.{arith}
 use Prim.Native.Nat.{_-_}
 use lib.ListN.{length}
-use Rattle.tib_msg_field.proofs.Fronts.{seen}
+use Rattle.tib_field.proofs.Slices.{seen}
+use Rattle.tib_msg_field.specs.Reading.{nextField}
 use Rattle.tib_msg.proofs.Turns.{step-inside}
-use Rattle.tib_msg.proofs.Kths.{Going, start, ended, no-fault, room, this-one, later-one}
+use Rattle.tib_msg.proofs.Kths.{Going, start, ended, no-fault, one-more}
 use Rattle.tib_msg.proofs.find.Statement.{statement}
 use Rattle.tib_msg.proofs.find.Tie as tie
 
@@ -34,23 +35,23 @@ enum-told : tie.Need-enum-told Inv-loop μ-loop
 enum-told c = search needs
 
 returns : tie.Need-returns Inv-loop μ-loop
-returns c = ended (c .before .before .before .before .before .before .args .s .now) (c .before .before .before .before .before .before .args .k) (c .before .before .before .before .loop .i) (c .before .before .before .before .loop .left) (c .before .before .before .before .loop .inv) (seen (c .before .before .before .before .before .before .args .s .now) (c .before .before .before .before .loop .i) _ _ (c .before .before .next-field .ensures) (c .enum-told .given .1))
+returns c = ended (c .before .before .before .before .before .before .args .s .now) (c .before .before .before .before .before .before .args .k) (c .before .before .before .before .loop .i) (c .before .before .before .before .loop .left) (c .before .before .before .before .loop .inv) (seen nextField (c .before .before .before .before .before .before .args .s .now) (c .before .before .before .before .loop .i) _ _ (c .before .before .next-field .ensures) (c .enum-told .given .1))
 
 enum-told-2 : tie.Need-enum-told-2 Inv-loop μ-loop
 enum-told-2 c = search needs
 
 returns-2 : tie.Need-returns-2 Inv-loop μ-loop
-returns-2 c = no-fault (c .before .before .before .before .before .before .args .s .now) (c .before .before .before .before .before .before .args .k) (c .before .before .before .before .loop .i) (c .before .before .before .before .loop .left) (c .before .before .before .before .loop .inv) _ (seen (c .before .before .before .before .before .before .args .s .now) (c .before .before .before .before .loop .i) _ _ (c .before .before .next-field .ensures) (c .enum-told2 .given .1))
+returns-2 c = no-fault (c .before .before .before .before .before .before .args .s .now) (c .before .before .before .before .before .before .args .k) (c .before .before .before .before .loop .i) (c .before .before .before .before .loop .left) (c .before .before .before .before .loop .inv) _ (seen nextField (c .before .before .before .before .before .before .args .s .now) (c .before .before .before .before .loop .i) _ _ (c .before .before .next-field .ensures) (c .enum-told2 .given .1))
 
 enum-known-z : tie.Need-enum-known-z Inv-loop μ-loop
 enum-known-z c = search needs
 
 returns-3 : tie.Need-returns-3 Inv-loop μ-loop
-returns-3 c = this-one (c .before .before .before .before .before .before .before .before .args .s .now) (c .before .before .before .before .before .before .before .before .args .k) (c .before .before .before .before .before .before .loop .i) (c .before .before .before .before .before .before .loop .left) (c .before .before .before .before .before .before .loop .inv) _ (seen (c .before .before .before .before .before .before .before .before .args .s .now) (c .before .before .before .before .before .before .loop .i) _ _ (c .before .before .before .before .next-field .ensures) (c .before .before .z .given .1)) (c .if1 .taken)
+returns-3 c = one-more (c .before .before .before .before .before .before .before .before .args .s .now) (c .before .before .before .before .before .before .before .before .args .k) (c .before .before .before .before .before .before .loop .i) (c .before .before .before .before .before .before .loop .left) (c .before .before .before .before .before .before .loop .inv) _ (seen nextField (c .before .before .before .before .before .before .before .before .args .s .now) (c .before .before .before .before .before .before .loop .i) _ _ (c .before .before .before .before .next-field .ensures) (c .before .before .z .given .1)) .this-one (c .if1 .taken)
 
 past-requires : tie.Need-past-requires Inv-loop μ-loop
 past-requires c κs =
-    let r = room (c .before .before .before .before .before .before .before .before .args .s .now) (c .before .before .before .before .before .before .before .before .args .k) (c .before .before .before .before .before .before .loop .i) (c .before .before .before .before .before .before .loop .left) (c .before .before .before .before .before .before .loop .inv) _ (seen (c .before .before .before .before .before .before .before .before .args .s .now) (c .before .before .before .before .before .before .loop .i) _ _ (c .before .before .before .before .next-field .ensures) (c .before .before .z .given .1)) in
+    let r = one-more (c .before .before .before .before .before .before .before .before .args .s .now) (c .before .before .before .before .before .before .before .before .args .k) (c .before .before .before .before .before .before .loop .i) (c .before .before .before .before .before .before .loop .left) (c .before .before .before .before .before .before .loop .inv) _ (seen nextField (c .before .before .before .before .before .before .before .before .args .s .now) (c .before .before .before .before .before .before .loop .i) _ _ (c .before .before .before .before .next-field .ensures) (c .before .before .z .given .1)) .fits in
     omega arith
 
 sub-left : tie.Need-sub-left Inv-loop μ-loop
@@ -58,14 +59,14 @@ sub-left c = omega arith
 
 loop-less : tie.Need-loop-less Inv-loop μ-loop
 loop-less c =
-    let e = seen (c .before .before .before .before .before .before .before .before .before .args .s .now) (c .before .before .before .before .before .before .before .loop .i) _ _ (c .before .before .before .before .before .next-field .ensures) (c .before .before .before .z .given .1) in
-    let r = room (c .before .before .before .before .before .before .before .before .before .args .s .now) (c .before .before .before .before .before .before .before .before .before .args .k) (c .before .before .before .before .before .before .before .loop .i) (c .before .before .before .before .before .before .before .loop .left) (c .before .before .before .before .before .before .before .loop .inv) _ e in
+    let e = seen nextField (c .before .before .before .before .before .before .before .before .before .args .s .now) (c .before .before .before .before .before .before .before .loop .i) _ _ (c .before .before .before .before .before .next-field .ensures) (c .before .before .before .z .given .1) in
+    let r = one-more (c .before .before .before .before .before .before .before .before .before .args .s .now) (c .before .before .before .before .before .before .before .before .before .args .k) (c .before .before .before .before .before .before .before .loop .i) (c .before .before .before .before .before .before .before .loop .left) (c .before .before .before .before .before .before .before .loop .inv) _ e .fits in
     let t = step-inside _ _ e .0 in
     let n = c .past .ensures in
     omega arith
 
 loop-again : tie.Need-loop-again Inv-loop μ-loop
-loop-again c = later-one (c .before .before .before .before .before .before .before .before .before .args .s .now) (c .before .before .before .before .before .before .before .before .before .args .k) (c .before .before .before .before .before .before .before .loop .i) (c .before .before .before .before .before .before .before .loop .left) (c .before .before .before .before .before .before .before .loop .inv) _ (seen (c .before .before .before .before .before .before .before .before .before .args .s .now) (c .before .before .before .before .before .before .before .loop .i) _ _ (c .before .before .before .before .before .next-field .ensures) (c .before .before .before .z .given .1)) _ (c .before .if1 .left) (c .past .ensures)
+loop-again c = one-more (c .before .before .before .before .before .before .before .before .before .args .s .now) (c .before .before .before .before .before .before .before .before .before .args .k) (c .before .before .before .before .before .before .before .loop .i) (c .before .before .before .before .before .before .before .loop .left) (c .before .before .before .before .before .before .before .loop .inv) _ (seen nextField (c .before .before .before .before .before .before .before .before .before .args .s .now) (c .before .before .before .before .before .before .before .loop .i) _ _ (c .before .before .before .before .before .next-field .ensures) (c .before .before .before .z .given .1)) .later-one _ (c .before .if1 .left) (c .past .ensures)
 
 pub find-spec : {M : Type 1} → statement M
 find-spec =

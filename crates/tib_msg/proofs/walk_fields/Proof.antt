@@ -3,8 +3,9 @@ use borrow.Author.Needs.{needs}
 use native.Mathlib.Omega.{arith}
 use Prim.Native.Nat.{_-_}
 use lib.ListN.{length}
-use Rattle.tib_msg_field.proofs.Fronts.{seen}
-use Rattle.tib_msg.proofs.Turns.{State, start, at-end, at-fault, room, over-field, step-inside}
+use Rattle.tib_field.proofs.Slices.{seen}
+use Rattle.tib_msg_field.specs.Reading.{nextField}
+use Rattle.tib_msg.proofs.Turns.{State, start, at-end, at-fault, fits, over-field, step-inside}
 use Rattle.tib_msg.proofs.walk_fields.Statement.{statement}
 use Rattle.tib_msg.proofs.walk_fields.Tie as tie
 
@@ -33,20 +34,20 @@ enum-told : tie.Need-enum-told Inv-loop μ-loop
 enum-told c = search needs
 
 returns : tie.Need-returns Inv-loop μ-loop
-returns c = at-end (c .before .before .before .before .before .before .args .s .now) (c .before .before .before .before .loop .i) (c .before .before .before .before .loop .fields) (c .before .before .before .before .loop .inv) (seen (c .before .before .before .before .before .before .args .s .now) (c .before .before .before .before .loop .i) _ _ (c .before .before .next-field .ensures) (c .enum-told .given .1))
+returns c = at-end (c .before .before .before .before .before .before .args .s .now) (c .before .before .before .before .loop .i) (c .before .before .before .before .loop .fields) (c .before .before .before .before .loop .inv) (seen nextField (c .before .before .before .before .before .before .args .s .now) (c .before .before .before .before .loop .i) _ _ (c .before .before .next-field .ensures) (c .enum-told .given .1))
 
 enum-known-k : tie.Need-enum-known-k Inv-loop μ-loop
 enum-known-k c = search needs
 
 returns-2 : tie.Need-returns-2 Inv-loop μ-loop
-returns-2 c = at-fault (c .before .before .before .before .before .before .before .args .s .now) (c .before .before .before .before .before .loop .i) (c .before .before .before .before .before .loop .fields) (c .before .before .before .before .before .loop .inv) _ (seen (c .before .before .before .before .before .before .before .args .s .now) (c .before .before .before .before .before .loop .i) _ _ (c .before .before .before .next-field .ensures) (c .before .k .given .1))
+returns-2 c = at-fault (c .before .before .before .before .before .before .before .args .s .now) (c .before .before .before .before .before .loop .i) (c .before .before .before .before .before .loop .fields) (c .before .before .before .before .before .loop .inv) _ (seen nextField (c .before .before .before .before .before .before .before .args .s .now) (c .before .before .before .before .before .loop .i) _ _ (c .before .before .before .next-field .ensures) (c .before .k .given .1))
 
 enum-known-z : tie.Need-enum-known-z Inv-loop μ-loop
 enum-known-z c = search needs
 
 past-requires : tie.Need-past-requires Inv-loop μ-loop
 past-requires c κs =
-    let r = room (c .before .before .before .before .before .before .before .args .s .now) (c .before .before .before .before .before .loop .i) (c .before .before .before .before .before .loop .fields) (c .before .before .before .before .before .loop .inv) _ (seen (c .before .before .before .before .before .before .before .args .s .now) (c .before .before .before .before .before .loop .i) _ _ (c .before .before .before .next-field .ensures) (c .before .z .given .1)) in
+    let r = fits (c .before .before .before .before .before .before .before .args .s .now) (c .before .before .before .before .before .loop .i) (c .before .before .before .before .before .loop .fields) (c .before .before .before .before .before .loop .inv) _ (seen nextField (c .before .before .before .before .before .before .before .args .s .now) (c .before .before .before .before .before .loop .i) _ _ (c .before .before .before .next-field .ensures) (c .before .z .given .1)) in
     omega arith
 
 add-fields : tie.Need-add-fields Inv-loop μ-loop
@@ -54,14 +55,14 @@ add-fields c = omega arith
 
 loop-less : tie.Need-loop-less Inv-loop μ-loop
 loop-less c =
-    let e = seen (c .before .before .before .before .before .before .before .before .args .s .now) (c .before .before .before .before .before .before .loop .i) _ _ (c .before .before .before .before .next-field .ensures) (c .before .before .z .given .1) in
-    let r = room (c .before .before .before .before .before .before .before .before .args .s .now) (c .before .before .before .before .before .before .loop .i) (c .before .before .before .before .before .before .loop .fields) (c .before .before .before .before .before .before .loop .inv) _ e in
+    let e = seen nextField (c .before .before .before .before .before .before .before .before .args .s .now) (c .before .before .before .before .before .before .loop .i) _ _ (c .before .before .before .before .next-field .ensures) (c .before .before .z .given .1) in
+    let r = fits (c .before .before .before .before .before .before .before .before .args .s .now) (c .before .before .before .before .before .before .loop .i) (c .before .before .before .before .before .before .loop .fields) (c .before .before .before .before .before .before .loop .inv) _ e in
     let t = step-inside _ _ e .0 in
     let n = c .past .ensures in
     omega arith
 
 loop-again : tie.Need-loop-again Inv-loop μ-loop
-loop-again c = over-field (c .before .before .before .before .before .before .before .before .args .s .now) (c .before .before .before .before .before .before .loop .i) (c .before .before .before .before .before .before .loop .fields) (c .before .before .before .before .before .before .loop .inv) _ _ (seen (c .before .before .before .before .before .before .before .before .args .s .now) (c .before .before .before .before .before .before .loop .i) _ _ (c .before .before .before .before .next-field .ensures) (c .before .before .z .given .1)) (c .past .ensures)
+loop-again c = over-field (c .before .before .before .before .before .before .before .before .args .s .now) (c .before .before .before .before .before .before .loop .i) (c .before .before .before .before .before .before .loop .fields) (c .before .before .before .before .before .before .loop .inv) _ _ (seen nextField (c .before .before .before .before .before .before .before .before .args .s .now) (c .before .before .before .before .before .before .loop .i) _ _ (c .before .before .before .before .next-field .ensures) (c .before .before .z .given .1)) (c .past .ensures)
 
 pub walk-fields-spec : {M : Type 1} → statement M
 walk-fields-spec =

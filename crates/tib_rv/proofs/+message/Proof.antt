@@ -1,19 +1,22 @@
 -- `tib_rv::message` meets its contract: at each turn the counts so far, with those of the fields that are left, are the message's. The
--- room for nested messages falls with each call of itself.
+-- levels left for nested messages fall with each call of itself.
 use Prim.Native.Nat.{ℕ, suc, _+_, _-_, _≤_, _<_}
 use native.Mathlib.Omega.{arith}
 use borrow.Author.Needs.{needs}
 use mathlib.Core.Path.{_≡_, sym, _∙_}
 use mathlib.Core.List.{List}
 use lib.ListN.{length, take, drop, length-take}
+use Rattle.tib_rv_field.specs.Layout.{depth as depth-of}
 use Rattle.tib_rv_field.specs.declared.Sizes.{Sizes}
 use Rattle.tib_rv_field.specs.declared.Step.{Step}
 use Rattle.tib_rv_field.specs.declared.Step.the-variants.{Over, Into}
 use Rattle.tib_rv_field.specs.Reading.{nextField, total, fieldsFrom, headerFault, messageFrom}
-use Rattle.tib_rv.specs.Found.{walkOf}
-use Rattle.tib_rv_field.proofs.Fronts.{seen}
+use Rattle.reading.specs.Reading.{messageLimit}
+use Rattle.reading.specs.Checks.{walkOf}
+use Rattle.tib_field.proofs.Slices.{seen}
+use Rattle.tib_rv.specs.Answers.{count}
 use Rattle.tib_rv_field.proofs.Accepted.{header-good}
-use Rattle.tib_rv.proofs.Turns.{State, start, at-end, at-fault, over-leaf, over-nested, refused-nested, over-room, into-room, lead-within, counts-small, header-open, header-bad, no-room}
+use Rattle.tib_rv.proofs.Turns.{State, start, at-end, at-fault, over-leaf, over-nested, refused-nested, over-fits, into-fits, lead-within, counts-small, header-open, header-bad, too-deep}
 use borrow.Fn.Kinds.{In}
 use borrow.Fn.PlainCycle.{Measures, is, falls, and}
 use Rattle.tib_rv.proofs.message.Reads as message
@@ -21,7 +24,7 @@ use Rattle.tib_rv.proofs.message.Kinds as message-kinds
 use Rattle.tib_rv.proofs.+message.Lts-message as message-lts
 use Rattle.tib_rv.proofs.data_at.Reads as data-at-reads
 use Rattle.tib_rv.proofs.header_fault.Reads as header-fault-reads
-use Rattle.tib_rv.proofs.larger.Reads as larger-reads
+use Rattle.numbers.proofs.larger.Reads as larger-reads
 use Rattle.tib_rv_field.proofs.next_field.Reads as next-field-reads
 use Rattle.tib_rv.proofs.past.Reads as past-reads
 use Rattle.tib_rv.proofs.refused.Reads as refused-reads
@@ -57,11 +60,11 @@ claims t = (
 )
 
 abbrev message-Inv-loop : message-lts.InvT-loop
-message-Inv-loop s room field at fault i₀ fields₀ depth₀ i fields depth =
-    (1 ≤ room) × (headerFault s ≡ 0) × State (messageFrom (room - 1)) at s i fields depth
+message-Inv-loop s levels field at fault i₀ fields₀ depth₀ i fields depth =
+    (1 ≤ levels) × (headerFault s ≡ 0) × State (messageFrom (levels - 1)) at s i fields depth
 
 abbrev message-μ-loop : message-lts.MeasureT-loop
-message-μ-loop s room field at fault i₀ fields₀ depth₀ i fields depth = length s - i
+message-μ-loop s levels field at fault i₀ fields₀ depth₀ i fields depth = length s - i
 
 -- The places in the code that the facts below speak of.
 abbrev After-next : ℕ → Type 0
@@ -89,29 +92,29 @@ module _ (t : ℕ) (c : After-next t) where
   abbrev depth : ℕ
   depth = c .before .before .loop .depth
 
-  abbrev state : State (messageFrom (args .room - 1)) (args .at) octets i fields depth
+  abbrev state : State (messageFrom (args .levels - 1)) (args .at) octets i fields depth
   state = c .before .before .loop .inv .2
 
-  abbrev room-left : 1 ≤ args .room
-  room-left = c .before .before .loop .inv .0
+  abbrev levels-left : 1 ≤ args .levels
+  levels-left = c .before .before .loop .inv .0
 
-  abbrev bounds : (args .at + length octets ≤ 65536) × (args .room ≤ 8)
+  abbrev bounds : (args .at + length octets ≤ messageLimit) × (args .levels ≤ 8)
   bounds = c .before .before .before .before .before .before .before .pre .1
 
   -- What the step found at the octets that are left.
   step-is : (p : Step) → c .next-field .result ≡ p → nextField (drop i octets) ≡ p
-  step-is p e = seen octets i (c .next-field .result) p (c .next-field .ensures) e
+  step-is p e = seen nextField octets i (c .next-field .result) p (c .next-field .ensures) e
 
   -- What the whole message comes to, in terms of its fields.
-  opened : walkOf (fieldsFrom (messageFrom (args .room - 1)) (suc (length octets)) (args .at + 8) (drop 8 octets))
-      ≡ walkOf (messageFrom (args .room) (args .field) (args .at) octets)
-  opened = let h = room-left in header-open (args .room) (args .field) (args .at) octets (λ e. omega arith) (c .before .before .loop .inv .1)
+  opened : walkOf count depth-of (fieldsFrom (messageFrom (args .levels - 1)) (suc (length octets)) (args .at + 8) (drop 8 octets))
+      ≡ walkOf count depth-of (messageFrom (args .levels) (args .field) (args .at) octets)
+  opened = let h = levels-left in header-open (args .levels) (args .field) (args .at) octets (λ e. omega arith) (c .before .before .loop .inv .1)
 
   over-ends : (z : Sizes) → c .next-field .result ≡ Over z → (i < i + total z) × (i + total z ≤ length octets)
-  over-ends z e = over-room (messageFrom (args .room - 1)) (args .at) octets i fields depth state z (step-is (Over z) e)
+  over-ends z e = over-fits (messageFrom (args .levels - 1)) (args .at) octets i fields depth state z (step-is (Over z) e)
 
   into-ends : (z : Sizes) → c .next-field .result ≡ Into z → (i < i + total z) × (i + total z ≤ length octets)
-  into-ends z e = into-room (messageFrom (args .room - 1)) (args .at) octets i fields depth state z (step-is (Into z) e)
+  into-ends z e = into-fits (messageFrom (args .levels - 1)) (args .at) octets i fields depth state z (step-is (Into z) e)
 
 -- Where a nested message starts and ends.
 module _ (t : ℕ) (c : After-ends t) where
@@ -147,13 +150,13 @@ module _ (t : ℕ) (c : After-ends t) where
 
 -- The nested message's counts are small.
 inner-small : (t : ℕ) (c : After-inner t) → let d = c .before .before .before .before .before in let w = c .before .f .given .0 in
-    (w .0 ≤ end t d - from t d) × (w .1 .0 ≤ args t (next t d) .room - 1)
+    (w .0 ≤ end t d - from t d) × (w .1 .0 ≤ args t (next t d) .levels - 1)
 inner-small t c =
     let d = c .before .before .before .before .before in
     let b = next t d in
     let w = c .before .f .given in
     let m = c .before .before .before .message in
-    let k = counts-small (args t b .room - 1) (args t b .at + i t b) (args t b .at + from t d) (held t d) (w .0 .0) (w .0 .1 .0) (sym (m .ensures) ∙ w .1) in
+    let k = counts-small (args t b .levels - 1) (args t b .at + i t b) (args t b .at + from t d) (held t d) (w .0 .0) (w .0 .1 .0) (sym (m .ensures) ∙ w .1) in
     let l = length-take (end t d - from t d) (drop (from t d) (octets t b)) in
     let p = k .0 in
     (omega arith, k .1)
@@ -162,7 +165,7 @@ message-refused-requires : (t : ℕ) → message-lts.Need-refused-requires (clai
 message-refused-requires t c κs = search needs
 
 message-returns : (t : ℕ) → message-lts.Need-returns (claims t) (message-at t) message.Post message-Inv-loop message-μ-loop
-message-returns t c = c .refused .ensures ∙ no-room (c .before .before .before .args .room) (c .before .before .before .args .field) (c .before .before .before .args .at) (c .before .before .before .args .s .now) (c .before .if1 .taken)
+message-returns t c = c .refused .ensures ∙ too-deep (c .before .before .before .args .levels) (c .before .before .before .args .field) (c .before .before .before .args .at) (c .before .before .before .args .s .now) (c .before .if1 .taken)
 
 message-header-fault-requires : (t : ℕ) → message-lts.Need-header-fault-requires (claims t) (message-at t) message.Post message-Inv-loop message-μ-loop
 message-header-fault-requires t c κs = search needs
@@ -171,14 +174,14 @@ message-refused-requires-2 : (t : ℕ) → message-lts.Need-refused-requires-2 (
 message-refused-requires-2 t c κs = search needs
 
 message-returns-2 : (t : ℕ) → message-lts.Need-returns-2 (claims t) (message-at t) message.Post message-Inv-loop message-μ-loop
-message-returns-2 t c = c .refused2 .ensures ∙ header-bad (c .before .before .before .before .before .args .room) (c .before .before .before .before .before .args .field) (c .before .before .before .before .before .args .at) (c .before .before .before .before .before .args .s .now) (c .before .before .header-fault .result) (c .before .before .before .if1 .left) (c .before .before .header-fault .ensures) (c .before .if2 .taken)
+message-returns-2 t c = c .refused2 .ensures ∙ header-bad (c .before .before .before .before .before .args .levels) (c .before .before .before .before .before .args .field) (c .before .before .before .before .before .args .at) (c .before .before .before .before .before .args .s .now) (c .before .before .header-fault .result) (c .before .before .before .if1 .left) (c .before .before .header-fault .ensures) (c .before .if2 .taken)
 
 message-loop-holds : (t : ℕ) → message-lts.Need-loop-holds (claims t) (message-at t) message.Post message-Inv-loop message-μ-loop
 message-loop-holds t c =
     let h = c .before .before .if1 .left in
     let e = sym (c .before .header-fault .ensures) ∙ c .if2 .left in
     let a = c .before .before .before .before .args in
-    (omega arith, e, start (messageFrom (a .room - 1)) (a .at) (a .s .now) (header-good (a .s .now) e .whole))
+    (omega arith, e, start (messageFrom (a .levels - 1)) (a .at) (a .s .now) (header-good (a .s .now) e .whole))
 
 message-sub-next-field : (t : ℕ) → message-lts.Need-sub-next-field (claims t) (message-at t) message.Post message-Inv-loop message-μ-loop
 message-sub-next-field t c = let h = c .loop .inv .2 .inside in omega arith
@@ -198,7 +201,7 @@ message-enum-told t c = search needs
 message-returns-3 : (t : ℕ) → message-lts.Need-returns-3 (claims t) (message-at t) message.Post message-Inv-loop message-μ-loop
 message-returns-3 t c =
     let b = c .before .before in
-    at-end (messageFrom (args t b .room - 1)) (args t b .at) (octets t b) (i t b) (fields t b) (depth t b) (state t b) (step-is t b _ (c .enum-told .given .1)) ∙ opened t b
+    at-end (messageFrom (args t b .levels - 1)) (args t b .at) (octets t b) (i t b) (fields t b) (depth t b) (state t b) (step-is t b _ (c .enum-told .given .1)) ∙ opened t b
 
 message-enum-known-k : (t : ℕ) → message-lts.Need-enum-known-k (claims t) (message-at t) message.Post message-Inv-loop message-μ-loop
 message-enum-known-k t c = search needs
@@ -216,7 +219,7 @@ message-refused-requires-3 t c κs = search needs
 message-returns-4 : (t : ℕ) → message-lts.Need-returns-4 (claims t) (message-at t) message.Post message-Inv-loop message-μ-loop
 message-returns-4 t c =
     let b = c .before .before .before .before in
-    c .refused3 .ensures ∙ at-fault (messageFrom (args t b .room - 1)) (args t b .at) (octets t b) (i t b) (fields t b) (depth t b) (state t b) (c .before .before .k .given .0 .0) (step-is t b _ (c .before .before .k .given .1)) ∙ opened t b
+    c .refused3 .ensures ∙ at-fault (messageFrom (args t b .levels - 1)) (args t b .at) (octets t b) (i t b) (fields t b) (depth t b) (state t b) (c .before .before .k .given .0 .0) (step-is t b _ (c .before .before .k .given .1)) ∙ opened t b
 
 message-enum-known-z : (t : ℕ) → message-lts.Need-enum-known-z (claims t) (message-at t) message.Post message-Inv-loop message-μ-loop
 message-enum-known-z t c = search needs
@@ -248,7 +251,7 @@ message-loop-less t c =
 message-loop-again : (t : ℕ) → message-lts.Need-loop-again (claims t) (message-at t) message.Post message-Inv-loop message-μ-loop
 message-loop-again t c =
     let b = c .before .before .before .before in
-    (room-left t b, b .before .before .loop .inv .1, over-leaf (messageFrom (args t b .room - 1)) (args t b .at) (octets t b) (i t b) (fields t b) (depth t b) (state t b) _ _ (step-is t b _ (c .before .before .z .given .1)) (c .past .ensures))
+    (levels-left t b, b .before .before .loop .inv .1, over-leaf (messageFrom (args t b .levels - 1)) (args t b .at) (octets t b) (i t b) (fields t b) (depth t b) (state t b) _ _ (step-is t b _ (c .before .before .z .given .1)) (c .past .ensures))
 
 message-enum-known-z-2 : (t : ℕ) → message-lts.Need-enum-known-z-2 (claims t) (message-at t) message.Post message-Inv-loop message-μ-loop
 message-enum-known-z-2 t c = search needs
@@ -277,7 +280,7 @@ message-part-message-end : (t : ℕ) → message-lts.Need-part-message-end (clai
 message-part-message-end t c = let h = part t c .2 in omega arith
 
 message-sub-message-2 : (t : ℕ) → message-lts.Need-sub-message-2 (claims t) (message-at t) message.Post message-Inv-loop message-μ-loop
-message-sub-message-2 t c = let h = room-left t (next t (c .before)) in omega arith
+message-sub-message-2 t c = let h = levels-left t (next t (c .before)) in omega arith
 
 message-add-message : (t : ℕ) → message-lts.Need-add-message (claims t) (message-at t) message.Post message-Inv-loop message-μ-loop
 message-add-message t c =
@@ -302,7 +305,7 @@ message-message-requires t c κs =
     let g = part t d .2 in
     let k = bounds t b .0 in
     let l = bounds t b .1 in
-    let r = room-left t b in
+    let r = levels-left t b in
     let p = b .before .before .before .before .before .before .before .pre .0 in
     let m = length-take (end t d - from t d) (drop (from t d) (octets t b)) in
     (omega arith, (omega arith, omega arith))
@@ -320,7 +323,7 @@ message-returns-5 t c =
     let w = c .before .before .number .given in
     let m = c .before .before .before .before .message in
     c .refused4 .ensures
-    ∙ refused-nested (messageFrom (args t b .room - 1)) (args t b .at) (octets t b) (i t b) (fields t b) (depth t b) (state t b) (z t d) (from t d) (end t d) (m .result) (w .0 .0) (w .0 .1 .0) (step-is t b _ (into t d)) (d .before .data-at .ensures) (d .past2 .ensures)
+    ∙ refused-nested (messageFrom (args t b .levels - 1)) (args t b .at) (octets t b) (i t b) (fields t b) (depth t b) (state t b) (z t d) (from t d) (end t d) (m .result) (w .0 .0) (w .0 .1 .0) (step-is t b _ (into t d)) (d .before .data-at .ensures) (d .past2 .ensures)
     (m .ensures) (w .1)
     ∙ opened t b
 
@@ -373,9 +376,9 @@ message-loop-again-2 t c =
     let b = next t d in
     let w = n .before .f .given in
     let m = n .before .before .before .message in (
-      room-left t b,
+      levels-left t b,
       b .before .before .loop .inv .1,
-      over-nested (messageFrom (args t b .room - 1)) (args t b .at) (octets t b) (i t b) (fields t b) (depth t b) (state t b) (z t d) (from t d) (end t d) (m .result) (w .0 .0) (w .0 .1 .0) (c .larger .result) (step-is t b _ (into t d)) (d .before .data-at .ensures)
+      over-nested (messageFrom (args t b .levels - 1)) (args t b .at) (octets t b) (i t b) (fields t b) (depth t b) (state t b) (z t d) (from t d) (end t d) (m .result) (w .0 .0) (w .0 .1 .0) (c .larger .result) (step-is t b _ (into t d)) (d .before .data-at .ensures)
           (d .past2 .ensures) (m .ensures) (w .1) (inner-small t n .0) (c .larger .ensures),
     )
 

@@ -1,6 +1,10 @@
 -- `tib_rv::check` meets its contract.
-use mathlib.Core.Path.{sym, _∙_}
-use Rattle.tib_rv.proofs.Results.{counts-accepted, counts-refused}
+use mathlib.Core.Path.{ap, _∙_}
+use Rattle.reading.specs.Checks.{answerBy}
+use Rattle.reading.proofs.Checks.{answer-by-walk}
+use Rattle.tib_rv_field.specs.Layout.{depth}
+use Rattle.tib_rv_field.specs.Reading.{reading}
+use Rattle.tib_rv.specs.Answers.{count, check}
 use borrow.Author.Needs.{needs}
 use Rattle.tib_rv.proofs.check.Statement.{statement}
 use Rattle.tib_rv.proofs.check.Tie as tie
@@ -8,28 +12,14 @@ use Rattle.tib_rv.proofs.check.Tie as tie
 read-requires : tie.Need-read-requires
 read-requires c κs = search needs
 
-enum-known-fields : tie.Need-enum-known-fields
-enum-known-fields c = search needs
-
-enum-known-number : tie.Need-enum-known-number
-enum-known-number c = search needs
-
-refused-check-requires : tie.Need-refused-check-requires
-refused-check-requires c κs = search needs
+answer-requires : tie.Need-answer-requires
+answer-requires c κs = search needs
 
 returns : tie.Need-returns
-returns c = counts-accepted (c .before .before .before .before .before .args .message .now) _ _ (sym (c .before .before .before .read .ensures) ∙ c .before .fields .given .1)
-
-returns-2 : tie.Need-returns-2
-returns-2 c = c .refused-check .ensures ∙ counts-refused (c .before .before .before .before .before .before .args .message .now) _ _ (sym (c .before .before .before .before .read .ensures) ∙ c .before .before .number .given .1)
+unfolding check
+returns c =
+    let r = c .before in
+    c .answer .ensures ∙ ap answerBy (r .read .ensures) ∙ answer-by-walk count depth (reading (r .before .before .args .message .now))
 
 pub check-spec : {M : Type 1} → statement M
-check-spec =
-    tie.close
-    (tie.spec
-    read-requires
-    enum-known-fields
-    enum-known-number
-    refused-check-requires
-    returns
-    returns-2)
+check-spec = tie.close (tie.spec read-requires answer-requires returns)

@@ -1,6 +1,6 @@
 -- `tib_rv::read` meets its contract.
 use mathlib.Core.Path.{_∙_}
-use Rattle.tib_rv.proofs.Results.{too-long, not-too-long}
+use Rattle.tib_rv.proofs.Headers.{too-long, not-too-long}
 use borrow.Author.Needs.{needs}
 use Rattle.tib_rv.proofs.read.Statement.{statement}
 use Rattle.tib_rv.proofs.read.Tie as tie

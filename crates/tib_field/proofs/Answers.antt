@@ -1,0 +1,50 @@
+-- What the answers of a walk, a check and a field tell of the reading that they come from.
+use Prim.Native.Nat.{ℕ, _<_}
+use native.Mathlib.Omega.{arith}
+use mathlib.Core.Path.{_≡_, refl, sym, ap, _∙_}
+use mathlib.Core.List.{List}
+use mathlib.Core.Logic.{_↔_}
+use mathlib.Core.Option.{Option}
+use Rattle.reading.specs.Reading.{Reading, accepted, refused, IsAccepted}
+use Rattle.reading.specs.Checks.{refusal, counts, walkOf}
+use Rattle.reading.specs.declared.Walk.the-variants.{Accepted, Refused}
+use Rattle.tib_field.specs.Refused.{refusedField}
+use Rattle.tib_field.specs.declared.Field.{Field}
+use Rattle.tib_field.specs.Kth.{kthOf, answerFor, fieldOf}
+
+module _ {A : Type 0} (count depth : A → ℕ) where
+  pub walk-accepted : (r : Reading A) (n d : ℕ) → walkOf count depth r ≡ Accepted n d → IsAccepted r
+  unfolding walkOf IsAccepted
+  walk-accepted (accepted x) n d e = (x, refl)
+  walk-accepted (refused m q) n d e = let z : _≡_ {A = ℕ} 0 1 = cc in absurd (omega arith)
+
+  -- What a message is refused with is the answer for each of its fields.
+  pub field-refused : {B : Type 0} (shown : ℕ → B → Field) (fields : A → List (ℕ × B)) (k : ℕ) (r : Reading A) (n p : ℕ)
+      → walkOf count depth r ≡ Refused n p → refusedField n p ≡ fieldOf shown fields k r
+  unfolding walkOf fieldOf
+  field-refused shown fields k (accepted x) n p e = let z : _≡_ {A = ℕ} 0 1 = cc in absurd (omega arith)
+  field-refused shown fields k (refused m q) n p e = let a : m ≡ n = cc in let b : q ≡ p = cc in rw (a, b)
+
+  -- What the check refuses is refused with the same number and place, whichever field is asked for.
+  pub refused-as-checked : {B : Type 0} (shown : ℕ → B → Field) (fields : A → List (ℕ × B)) (k : ℕ) (r : Reading A)
+      → (counts count depth r .refusal ≡ 0 → ⊥)
+      → fieldOf shown fields k r ≡ refusedField (counts count depth r .refusal) (counts count depth r .place)
+  unfolding counts refusal fieldOf
+  refused-as-checked shown fields k (accepted x) n = absurd (n refl)
+  refused-as-checked shown fields k (refused number place) n = refl
+
+  -- A check answers 0 exactly for a whole message, where the reading accepts exactly those and no refusal is 0.
+  pub accepts-exactly : (Whole : A → Type 0) (r : Reading A) → ((x : A) → (r ≡ accepted x) ↔ Whole x)
+      → ((k place : ℕ) → r ≡ refused k place → 0 < k) → (counts count depth r .refusal ≡ 0) ↔ ((x : A) × Whole x)
+  unfolding counts refusal
+  accepts-exactly Whole r exactly positive = (λ e. go r refl e, λ w. rw (exactly (w .0) .1 (w .1)))
+    where
+      go : (q : Reading A) → r ≡ q → counts count depth q .refusal ≡ 0 → (x : A) × Whole x
+      go (accepted x) f e = (x, exactly x .0 f)
+      go (refused k place) f e = let h = positive k place f in absurd (omega arith)
+
+-- The answer of a message that is accepted is that for its k-th field.
+pub field-of-kth : {A B : Type 0} (shown : ℕ → B → Field) (fields : A → List (ℕ × B)) (k : ℕ) (r : Reading A) → IsAccepted r
+    → (w : Option (ℕ × B)) → kthOf fields k r ≡ w → answerFor shown w ≡ fieldOf shown fields k r
+unfolding IsAccepted kthOf fieldOf
+field-of-kth shown fields k r a w e = ap (answerFor shown) (sym e) ∙ rw (a .1)

@@ -1,0 +1,89 @@
+-- The walk to the k-th of fields that stand in octets one after the other.
+use Prim.Native.Nat.{ℕ, zero, suc, _+_, _-_, _≤_}
+use native.Mathlib.Omega.{arith}
+use mathlib.Core.Path.{_≡_, refl, sym, ap, _∙_, subst}
+use mathlib.Core.List.{List, [], _∷_, _++_}
+use mathlib.Core.Option.{Option, none, some}
+use lib.ListN.{length, drop, getElem?, length-append, length-drop}
+use lib.Seq.{drop-drop, drop-at}
+use Rattle.tib_field.specs.Fields.{Each, joined, placed}
+use Rattle.tib_field.proofs.Fields.{Row, kth-next}
+
+module _ {A : Type 0} (octets : A → List ℕ) (P : A → Type 0) where
+  -- The fields that are left begin at i, and the `left`-th of them is the one that is looked for.
+  pub record Going (s : List ℕ) (wanted : Option (ℕ × A)) (i left : ℕ) : Type 0 where
+    pub rest : List A
+    pub fields : Row octets P (drop i s) rest
+    pub inside : i ≤ length s
+    pub same : wanted ≡ getElem? (placed octets i rest) left
+
+  -- What stands at i: the end, and there is no such field; or a field, which is the one, or another is still to come.
+  pub data Look (s : List ℕ) (wanted : Option (ℕ × A)) (i left : ℕ) : Type 0 where
+    ends : drop i s ≡ [] → wanted ≡ none → Look s wanted i left
+    stands : (f : A) (rest : List ℕ) → P f → drop i s ≡ octets f ++ rest → i + length (octets f) ≤ length s
+        → (left ≡ 0 → wanted ≡ some (i, f))
+        → ((left ≡ 0 → ⊥) → Going s wanted (i + length (octets f)) (left - 1))
+        → Look s wanted i left
+
+  module _ (s : List ℕ) (wanted : Option (ℕ × A)) (i left : ℕ) (now : Going s wanted i left) where
+    at-field : (f : A) (gs : List A) → now .rest ≡ f ∷ gs → Look s wanted i left
+    unfolding joined Each placed
+    at-field f gs e =
+        let n = length (octets f) in
+        let d : drop i s ≡ octets f ++ joined octets gs = now .fields .divides ∙ ap (joined octets) e in
+        let a = subst (Each P) e (now .fields .each) in
+        let same : wanted ≡ getElem? (placed octets i (f ∷ gs)) left
+        = now .same ∙ ap (λ (fs : List A). getElem? (placed octets i fs) left) e in
+        let l = ap length d ∙ length-append (octets f) (joined octets gs) in
+        let m = length-drop i s in
+        let w = now .inside in
+        let fits : i + n ≤ length s = omega arith in
+        stands f (joined octets gs) (a .0) d fits (λ z. same ∙ rw z)
+        (λ z. record {
+          rest = gs;
+          fields =
+              record {
+                divides = sym (drop-drop n i s) ∙ ap (drop n) d ∙ drop-at (octets f) (joined octets gs) n refl;
+                each = a .1;
+              };
+          inside = fits;
+          same = same ∙ kth-next octets left i f gs z;
+        })
+
+    pub look : Look s wanted i left
+    unfolding joined placed
+    look = go (now .rest) refl
+      where
+        go : (fs : List A) → now .rest ≡ fs → Look s wanted i left
+        go [] e =
+            ends (now .fields .divides ∙ ap (joined octets) e)
+            (now .same ∙ ap (λ (fs : List A). getElem? (placed octets i fs) left) e)
+        go (f ∷ gs) e = at-field f gs e
+
+  -- Where the field that was found stands.
+  pub record KthStands (s : List ℕ) (place : ℕ) (f : A) : Type 0 where
+    pub rest : List ℕ
+    pub divides : drop place s ≡ octets f ++ rest
+    pub inside : place + length (octets f) ≤ length s
+    pub good : P f
+
+  pub kth-stands : (s : List ℕ) (wanted : Option (ℕ × A)) (i left : ℕ) → Going s wanted i left → (place : ℕ) (f : A)
+      → wanted ≡ some (place, f) → KthStands s place f
+  kth-stands s wanted i zero now place f e = go (look s wanted i zero now)
+    where
+      go : Look s wanted i zero → KthStands s place f
+      go (ends d w) = let z : _≡_ {A = ℕ} 0 1 = cc in absurd (omega arith)
+      go (stands g rest p d fits this later) =
+          let h = this refl in
+          let q : _≡_ {A = ℕ × A} (i, g) (place, f) = cc in
+          let a : i ≡ place = ap (λ (x : ℕ × A). x .0) q in
+          let b : g ≡ f = ap (λ (x : ℕ × A). x .1) q in
+          subst (λ (x : ℕ). KthStands s x f) a (subst (KthStands s i) b (record { rest = rest; divides = d; inside = fits; good = p }))
+  kth-stands s wanted i (suc left) now place f e =
+      go (look s wanted i (suc left) now) (λ j g. kth-stands s wanted j left g place f e)
+    where
+      go : Look s wanted i (suc left) → ((j : ℕ) → Going s wanted j left → KthStands s place f) → KthStands s place f
+      go (ends d w) next = let z : _≡_ {A = ℕ} 0 1 = cc in absurd (omega arith)
+      go (stands g rest p d fits this later) next =
+          let l : suc left - 1 ≡ left = omega arith in
+          next (i + length (octets g)) (subst (Going s wanted (i + length (octets g))) l (later (omega arith)))
