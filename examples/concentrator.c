@@ -34,7 +34,7 @@ static void drop_front(struct stream *in, size_t n)
     in->past += n;
 }
 
-/* One read, so that a frame is passed on as soon as it is whole. */
+/* One octet at a time, so that a frame is passed on as soon as it is whole. */
 static void read_more(struct stream *in)
 {
     size_t n = fread(in->octets + in->held, 1, 1, stdin);

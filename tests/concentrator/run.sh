@@ -1,6 +1,7 @@
 #!/usr/bin/env bash
 # Builds the C example with every warning an error, installs the library into a scratch folder and builds against that, and runs the
-# example on a stored stream with damaged frames. It needs target/staticlib/libconcentrator.a, which `rt staticlib concentrator` makes.
+# example on a stored stream with damaged frames, README's program, calls with null pointers under valgrind, and the measurement of the
+# stack; and looks at what the archive needs. It needs target/staticlib/libconcentrator.a, which `rt staticlib concentrator` makes.
 set -eu
 cd "$(dirname "$0")/../.."
 here=tests/concentrator
@@ -8,6 +9,8 @@ work=$(mktemp -d)
 trap 'rm -rf "$work"' EXIT
 
 tools/install.sh "$work/usr" > /dev/null
+# Of the C library the archive needs these three functions and nothing else.
+[ "$(nm "$work/usr/lib/libcrudvim.a" | awk '$1 == "U" { print $2 }' | sort -u | xargs)" = "memcpy memmove memset" ]
 gcc -std=c99 -Wall -Wextra -Werror -pedantic -O2 -I"$work/usr/include" examples/concentrator.c -L"$work/usr/lib" -lcrudvim -o "$work/concentrator"
 if command -v g++ > /dev/null; then
     g++ -Wall -Wextra -Werror -pedantic -fsyntax-only -x c++ include/crudvim.h

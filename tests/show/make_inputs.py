@@ -24,7 +24,7 @@ def case(name, octets, text):
 
 HEADING = 'depth tag kind value\n'
 
-# The sample of the order.
+# The sample of document 01.
 case('sample',
      '28 01 00 05 00 00 01 01 00 01 00 05 00 00 02 02 00 01 00 05 00 00 23 05 01 01 00 05 01 00 00 04 00 01 00 05 01 00 01 01 00'
      '0d 11 2a 21 8b e6 23 02 4b 57 12 01 f4 30',
