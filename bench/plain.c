@@ -1,4 +1,4 @@
-/* The yardstick of the bench: a plain C implementation of the check, the shortener and the two Tib checks.
+/* The baseline of the bench: a plain C implementation of the check, the shortener and the two Tib checks.
  *
  * It is what a C programmer would write first and keep: one pass of recursion per task, a table that is searched from its start,
  * and a shortener that writes a nested message where it will most likely stand and moves it if its length needs more octets.

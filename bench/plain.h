@@ -1,4 +1,4 @@
-/* The yardstick of the bench: the same answers as the library's entries of the same names, written the plain way in C. */
+/* The baseline of the bench: the same answers as the library's entries of the same names, written the plain way in C. */
 #ifndef PLAIN_H
 #define PLAIN_H
 

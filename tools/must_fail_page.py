@@ -1,15 +1,15 @@
 #!/usr/bin/env python3
-"""Prints docs/STAND-INS.md from the must-fail edits and from what `bash .ci/run` printed: python3 tools/stand_ins.py LOG"""
+"""Prints docs/MUST-FAIL.md from the must-fail edits and from what `bash .ci/run` printed: python3 tools/must_fail_page.py LOG"""
 import pathlib
 import re
 import sys
 
 REFUSED = re.compile(r'^rt: must-fail (\w+)/(\S+): refused, as it must be \(first at (\S+):\d+:\d+;')
-HEAD = '''# Stand-ins: wrong programs that the gate has to refuse
+HEAD = '''# Must-fail edits: wrong programs that the gate has to refuse
 
 Each must-fail edit changes a line, or a few, of one file of a crate, of its code or of a definition, into something wrong of the same shape, and
 the gate is only passed where the prover refuses every one of them. The last column is where each is refused first: the proof of a function
-whose contract no longer holds, a law that no longer does, or the contract itself. `python3 tools/stand_ins.py LOG` prints this page from the
+whose contract no longer holds, a law that no longer does, or the contract itself. `python3 tools/must_fail_page.py LOG` prints this page from the
 edits and the gate's output.
 '''
 
