@@ -1,11 +1,12 @@
 #!/usr/bin/env python3
 """Checks the links of the pages: every target exists, and a link whose text is code, as [`name`](file), has that name in the file. In
-docs/DEMANDS.md a name in code with an underscore that is no link has to be a must-fail edit of one crate; an edit whose name stands in two
-crates is written `crate/name`. Run at the project's root: python3 tools/links.py"""
-import glob
+docs/DEMANDS.md a name in code with an underscore that is no link has to be a part of a must-fail edit of one crate; a part whose name
+stands in two crates is written `crate/name`. Run at the project's root: python3 tools/links.py"""
 import os
 import re
 import sys
+
+from edits import edits
 
 DEMANDS = os.path.join('docs', 'DEMANDS.md')
 EDIT = re.compile(r'`([a-z0-9_]+/[a-z0-9_]+|[a-z0-9]+(?:_[a-z0-9]+)+)`')
@@ -34,21 +35,21 @@ def faults(page):
                 yield f'{page}: {target} has no {name}'
 
 
-def edits():
-    """The crates that have an edit of each name, and of each name with the crate before it."""
+def crates_of_parts():
+    """The crates that have a part of each name, and of each name with the crate before it."""
     crates = {}
-    for path in sorted(glob.glob('crates/*/must-fail/*.edit')):
-        crate, name = path.split(os.sep)[1], os.path.basename(path)[:-len('.edit')]
-        crates.setdefault(name, []).append(crate)
-        crates[f'{crate}/{name}'] = [crate]
+    for edit in edits():
+        for part in edit.parts:
+            crates.setdefault(part.name, set()).add(edit.crate)
+            crates[f'{edit.crate}/{part.name}'] = {edit.crate}
     return crates
 
 
 def unclear_edits():
-    crates = edits()
+    crates = crates_of_parts()
     text = LINK.sub('', open(DEMANDS, encoding='utf-8').read())
     for name in sorted(set(EDIT.findall(text))):
-        found = crates.get(name, [])
+        found = sorted(crates.get(name, []))
         if not found:
             yield f'{DEMANDS}: no must-fail edit is named {name}'
         elif len(found) > 1:
