@@ -1,0 +1,2 @@
+pub mod RulingOut
+pub mod Check

@@ -1,0 +1,22 @@
+-- What a call of the check gives, and the answer that its contract fixes.
+use Prim.Native.Nat.{ℕ}
+use mathlib.Core.Bool.{Bool, _&&_}
+use mathlib.Core.List.{List}
+use Rattle.reading.specs.declared.Checked.{Checked}
+use Rattle.hproto_calls.specs.Calls.{checkOctets}
+use Rattle.wrong_programs.specs.Kinds.{Given, octets, word}
+
+pub record CheckInput : Type 0 where
+  pub table : List ℕ
+  pub number : ℕ
+  pub message : List ℕ
+
+unfoldable pub fits : CheckInput → Bool
+fits x = octets (x .table) && word (x .number) && octets (x .message)
+
+abbrev pub CheckCall : Type 0
+CheckCall = Given fits
+
+-- The contract of crudvim_check.
+unfoldable pub check : CheckCall → Checked
+check x = checkOctets (x .value .table) (x .value .number) (x .value .message)

@@ -1,0 +1,44 @@
+-- Kinds of wrong programs, over any entry: A is what a call gives to the program, B is its answer.
+use Prim.Native.Nat.{ℕ}
+use mathlib.Core.Path.{_≡_}
+use mathlib.Core.Bool.{Bool, true, _&&_}
+use mathlib.Core.List.{List, [], _∷_}
+use lib.Dec.{T, ltb}
+
+-- No program of a kind meets the contract that its answer is `right`.
+unfoldable pub RuledOut : {A B : Type 0} → ((A → B) → Type 0) → (A → B) → Type 0
+RuledOut {A} {B} Kind right = (program : A → B) → ((x : A) → program x ≡ right x) → Kind program → ⊥
+
+-- In the kinds below `when` says for which calls a program goes wrong: for all of them, or for those that have a property.
+unfoldable pub always : {A : Type 0} → A → Type 0
+always x = Unit {0}
+
+-- The program rejects the call. `refusal` is the refusal number in an answer.
+unfoldable pub Rejects : {A B : Type 0} → (B → ℕ) → (A → Type 0) → (A → B) → Type 0
+Rejects {A} refusal when program = (x : A) → when x → refusal (program x) ≡ 0 → ⊥
+
+-- The program accepts the call.
+unfoldable pub Accepts : {A B : Type 0} → (B → ℕ) → (A → Type 0) → (A → B) → Type 0
+Accepts {A} refusal when program = (x : A) → when x → refusal (program x) ≡ 0
+
+-- A part of the answer is what `invented` says, whatever else the program answers.
+unfoldable pub Invents : {A B C : Type 0} → (B → C) → (A → C) → (A → Type 0) → (A → B) → Type 0
+Invents {A} part invented when program = (x : A) → when x → part (program x) ≡ invented x
+
+-- A part of the answer depends only on what `seen` gives of the call.
+unfoldable pub SeesOnly : {A B C D : Type 0} → (A → C) → (B → D) → (A → Type 0) → (A → B) → Type 0
+SeesOnly {A} seen part when program = (x y : A) → when x → when y → seen x ≡ seen y → part (program x) ≡ part (program y)
+
+-- What a caller can give: values that pass the test `fits`.
+pub record Given {A : Type 0} (fits : A → Bool) : Type 0 where
+  pub value : A
+  pub in-range : T (fits value)
+
+-- Numbers below 256.
+unfoldable pub octets : List ℕ → Bool
+octets [] = true
+octets (x ∷ s) = ltb x 256 && octets s
+
+-- A number of 64 bits.
+unfoldable pub word : ℕ → Bool
+word n = ltb n 0x10000000000000000
