@@ -13,6 +13,10 @@ RuledOut {A} {B} Kind right = (program : A → B) → ((x : A) → program x ≡
 unfoldable pub always : {A : Type 0} → A → Type 0
 always x = Unit {0}
 
+-- The calls whose answer under the contract has a part that is `a`: with refusal number 0, the calls that the contract accepts.
+abbrev pub due : {A B C : Type 0} → (A → B) → (B → C) → C → A → Type 0
+due right part a x = part (right x) ≡ a
+
 -- The program rejects the call. `refusal` is the refusal number in an answer.
 unfoldable pub Rejects : {A B : Type 0} → (B → ℕ) → (A → Type 0) → (A → B) → Type 0
 Rejects {A} refusal when program = (x : A) → when x → refusal (program x) ≡ 0 → ⊥
@@ -29,6 +33,10 @@ Invents {A} part invented when program = (x : A) → when x → part (program x)
 unfoldable pub SeesOnly : {A B C D : Type 0} → (A → C) → (B → D) → (A → Type 0) → (A → B) → Type 0
 SeesOnly {A} seen part when program = (x y : A) → when x → when y → seen x ≡ seen y → part (program x) ≡ part (program y)
 
+-- A part of the answer depends only on another part of it.
+unfoldable pub Follows : {A B C D : Type 0} → (B → C) → (B → D) → (A → Type 0) → (A → B) → Type 0
+Follows {A} other part when program = (x y : A) → when x → when y → other (program x) ≡ other (program y) → part (program x) ≡ part (program y)
+
 -- What a caller can give: values that pass the test `fits`.
 pub record Given {A : Type 0} (fits : A → Bool) : Type 0 where
   pub value : A
@@ -42,3 +50,8 @@ octets (x ∷ s) = ltb x 256 && octets s
 -- A number of 64 bits.
 unfoldable pub word : ℕ → Bool
 word n = ltb n 0x10000000000000000
+
+-- Numbers of 64 bits.
+unfoldable pub words : List ℕ → Bool
+words [] = true
+words (x ∷ s) = word x && words s
