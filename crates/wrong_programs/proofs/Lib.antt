@@ -1,2 +1,4 @@
 pub mod RulingOut
+pub mod Computing
+pub mod Witnesses
 pub mod Check

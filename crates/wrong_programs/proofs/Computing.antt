@@ -1,0 +1,55 @@
+-- The definitions of the hproto entries. A proof that unfolds `hproto` computes their answers.
+use Rattle.octets.specs.Number as octets
+use Rattle.octets.specs.Signed as signs
+use Rattle.octets.specs.Control as controls
+use Rattle.reading.specs.Reading.{onAccepted, inOrder}
+use Rattle.reading.specs.Checks as answers
+use Rattle.hproto_table.specs.Entry as entries
+use Rattle.hproto_table.specs.Load as loads
+use Rattle.hproto_table.specs.Valid as valids
+use Rattle.hproto_table.specs.Repeat as repeats
+use Rattle.hproto_message.specs.Cut as cuts
+use Rattle.hproto_message.specs.Tree as trees
+use Rattle.hproto_message.specs.Reading as readings
+use Rattle.hproto_message.specs.Shortest as shortests
+use Rattle.hproto_check.specs.Check as checks
+use Rattle.hproto_lookup.specs.Lookup as lookups
+use Rattle.hproto_shorten.specs.Written.{shortestOf}
+use Rattle.hproto_shorten.specs.Shorten as shortens
+use Rattle.hproto_store.specs.Store.{stored}
+use Rattle.hproto_frame.specs.Frame as frames
+use Rattle.hproto_calls.specs.Calls.{checkOctets, shortenOctets, shortenBuffer, lookupOctets, lookupLastOctets, withTable}
+use Rattle.hproto_print.specs.Ascii.{ascii}
+use Rattle.hproto_print.specs.Digits as digits
+use Rattle.hproto_print.specs.Text as prints
+use Rattle.hproto_print.specs.Window.{window}
+use Rattle.hproto_show.specs.Output as shows
+use Rattle.wrong_programs.specs.Kinds as kinds
+use Rattle.wrong_programs.specs.Load as load
+use Rattle.wrong_programs.specs.Check as check
+use Rattle.wrong_programs.specs.Lookup as lookup
+use Rattle.wrong_programs.specs.Shorten as shorten
+use Rattle.wrong_programs.specs.FrameRead as frameRead
+use Rattle.wrong_programs.specs.FrameWrite as frameWrite
+use Rattle.wrong_programs.specs.Show as show
+use Rattle.wrong_programs.specs.Find as find
+use Rattle.wrong_programs.specs.Valid as valid
+
+unfoldable pub hproto : Type 0
+unfolding kinds.always kinds.octets kinds.word kinds.words load.load check.fits check.check lookup.fits lookup.lookup lookup.lookupLast shorten.fits
+    shorten.shorten frameRead.frameRead frameWrite.fits frameWrite.frameWrite show.fits show.show find.fits find.find valid.fits valid.valid
+    loads.load loads.loadFrom loads.accepted loads.refused loads.tableOf loads.wordsBefore loads.faulty loads.wellFormed loads.recordAt loads.wordAt
+    loads.inRange loads.seen loads.pair entries.entry entries.entries entries.find entries.meaning entries.innerOf entries.kindNumber valids.valid
+    valids.allInRange valids.allZero repeats.distinct octets.number octets.octetsOf octets.width octets.widthWithin octets.leastUint signs.integer
+    signs.withSign signs.lowest controls.control controls.controlOf controls.following controls.coded controls.leastControl controls.leastCode
+    controls.firstFit onAccepted inOrder readings.reading readings.messageFrom readings.fieldsFrom readings.afterStep readings.step readings.stepFrom
+    readings.stepByKind cuts.joined trees.tree trees.tagOf trees.value trees.depth trees.fields shortests.shortest shortests.field
+    shortests.leastContents answers.counts answers.refusal checks.check checks.checkUnder checks.treeCounts lookups.outermost lookups.itemTag
+    lookups.withTag lookups.lastOr lookups.chosen lookups.itemKind lookups.uintOf lookups.intOf lookups.refusal lookups.found lookups.foundIn
+    lookups.answer lookups.lookup lookups.lookupLast shortestOf shortens.refusal shortens.shortUnder shortens.shortForm shortens.roomy
+    shortens.answerTo shortens.bufferTo shortens.answer shortens.buffer withTable checkOctets lookupOctets lookupLastOctets shortenOctets
+    shortenBuffer stored frames.announced frames.prefixed frames.frontRead frames.frameRead frames.messagePart frames.shortestPrefix frames.framed
+    frames.frameWritten frames.frameStored ascii digits.glyph digits.decimalWithin digits.decimal digits.fourDigits prints.kindName prints.valueText
+    prints.front prints.line prints.lines prints.page prints.shown prints.refusal prints.readText prints.messageText window shows.secondText
+    shows.tableText shows.firstText shows.output
+hproto = Unit {0}

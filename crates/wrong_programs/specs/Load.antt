@@ -1,0 +1,11 @@
+-- What a call of the loader gives, and the answer that its contract fixes.
+use Rattle.hproto_table.specs.Load as loads
+use Rattle.hproto_table.specs.declared.Loaded.{Loaded}
+use Rattle.wrong_programs.specs.Kinds.{Given, octets}
+
+abbrev pub LoadCall : Type 0
+LoadCall = Given octets
+
+-- The contract of hproto_load::load.
+unfoldable pub load : LoadCall → Loaded
+load x = loads.load (x .value)

@@ -1,0 +1,28 @@
+-- What a call of a lookup gives, and the answer that its contract fixes.
+use Prim.Native.Nat.{ℕ}
+use mathlib.Core.Bool.{Bool, _&&_}
+use Rattle.hproto_lookup.specs.declared.Found.{Found}
+use Rattle.hproto_calls.specs.Calls.{lookupOctets, lookupLastOctets}
+use Rattle.wrong_programs.specs.Kinds.{Given, word}
+use Rattle.wrong_programs.specs.Check as checks
+use Rattle.wrong_programs.specs.Check.{CheckInput}
+
+-- A table, a number and a message, as for the check, and what is looked for.
+pub record LookupInput : Type 0 where
+  pub within : CheckInput
+  pub tag : ℕ
+  pub k : ℕ
+
+unfoldable pub fits : LookupInput → Bool
+fits x = checks.fits (x .within) && word (x .tag) && word (x .k)
+
+abbrev pub LookupCall : Type 0
+LookupCall = Given fits
+
+-- The contract of crudvim_lookup.
+unfoldable pub lookup : LookupCall → Found
+lookup x = lookupOctets (x .value .within .table) (x .value .within .number) (x .value .within .message) (x .value .tag) (x .value .k)
+
+-- The contract of crudvim_lookup_last, of which k is no part.
+unfoldable pub lookupLast : LookupCall → Found
+lookupLast x = lookupLastOctets (x .value .within .table) (x .value .within .number) (x .value .within .message) (x .value .tag)
