@@ -3,5 +3,7 @@ pub mod Computing
 pub mod Witnesses
 pub mod Load
 pub mod Check
+pub mod Lookup
+pub mod Shorten
 pub mod Find
 pub mod Valid

@@ -1,0 +1,239 @@
+-- Wrong programs in the place of crudvim_lookup and crudvim_lookup_last.
+use Prim.Native.Nat.{ℕ}
+use native.Mathlib.Omega.{arith}
+use mathlib.Core.Path.{_≡_, refl}
+use mathlib.Core.List.{List, [], _∷_}
+use lib.ListN.{length}
+use lib.IntN.{ℤ, pos}
+use lib.Dec.{T, ltb}
+use Rattle.hproto_lookup.specs.Lookup as lookups
+use Rattle.hproto_lookup.specs.declared.Found.{Found}
+use Rattle.hproto_calls.specs.Calls.{lookupOctets}
+use Rattle.wrong_programs.specs.Kinds.{RuledOut, Rejects, Accepts, Invents, SeesOnly, always, due}
+use Rattle.wrong_programs.specs.Check.{CheckInput}
+use Rattle.wrong_programs.specs.Lookup.{LookupInput, LookupCall, lookup, lookupLast}
+use Rattle.wrong_programs.proofs.RulingOut.{Sample, given, rejects, accepts, invents, sees-only}
+use Rattle.wrong_programs.proofs.Computing.{hproto}
+use Rattle.wrong_programs.proofs.Witnesses.{uints, ints, asked}
+
+-- What is found of a field whose contents are one octet.
+abbrev found : ℕ → ℕ → ℤ → ℕ → Found
+found kind number signed start =
+    record { refusal = 0; place = 0; kind = kind; number = number; signed = signed; start = start; length = 1 }
+
+abbrev looked : CheckInput → ℕ → ℕ → LookupInput
+looked within tag k = record { within = within; tag = tag; k = k }
+
+-- Three fields of one octet, by their control octets: first 42 and 7 with the tag 1, then 9 with the tag 2, which is in no table here.
+abbrev three : ℕ → ℕ → ℕ → List ℕ
+three a b c = a ∷ 0x2a ∷ b ∷ 0x07 ∷ c ∷ 0x09 ∷ []
+
+abbrev in-three : List ℕ → ℕ → ℕ → ℕ → LookupInput
+in-three table number tag k = looked (asked table number (three 0x11 0x11 0x21)) tag k
+
+first : Sample lookup
+unfolding hproto
+first = given (in-three uints 0 1 0) (found 1 42 (pos 0) 1) tt refl
+
+second : Sample lookup
+unfolding hproto
+second = given (in-three uints 0 1 1) (found 1 7 (pos 0) 3) tt refl
+
+no-third : Sample lookup
+unfolding hproto
+no-third = given (in-three uints 0 1 2) (lookups.refusal 18 0) tt refl
+
+of-tag-2 : Sample lookup
+unfolding hproto
+of-tag-2 = given (in-three uints 0 2 0) (found 0 0 (pos 0) 5) tt refl
+
+behind-tag-2 : Sample lookup
+unfolding hproto
+behind-tag-2 = given (looked (asked uints 0 (three 0x21 0x11 0x21)) 1 0) (found 1 7 (pos 0) 3) tt refl
+
+under-number-1 : Sample lookup
+unfolding hproto
+under-number-1 = given (in-three uints 1 1 0) (found 0 0 (pos 0) 1) tt refl
+
+first-int : Sample lookup
+unfolding hproto
+first-int = given (in-three ints 0 1 0) (found 2 0 (pos 42) 1) tt refl
+
+int-behind-tag-2 : Sample lookup
+unfolding hproto
+int-behind-tag-2 = given (looked (asked ints 0 (three 0x21 0x11 0x21)) 1 0) (found 2 0 (pos 7) 3) tt refl
+
+abbrev tag-16 : LookupInput
+tag-16 = looked (asked [] 0 (0xe1 ∷ 0x10 ∷ 0x05 ∷ [])) 16 0
+
+of-tag-16 : Sample lookup
+unfolding hproto
+of-tag-16 = given tag-16 (found 0 0 (pos 0) 2) tt refl
+
+past-the-end : Sample lookup
+unfolding hproto
+past-the-end = given (looked (asked [] 0 (0x11 ∷ [])) 1 0) (lookups.refusal 4 0) tt refl
+
+last : Sample lookupLast
+unfolding hproto
+last = given (in-three uints 0 1 0) (found 1 7 (pos 0) 3) tt refl
+
+last-of-tag-2 : Sample lookupLast
+unfolding hproto
+last-of-tag-2 = given (in-three uints 0 2 0) (found 0 0 (pos 0) 5) tt refl
+
+last-of-tag-3 : Sample lookupLast
+unfolding hproto
+last-of-tag-3 = given (in-three uints 0 3 0) (lookups.refusal 18 0) tt refl
+
+last-before-tag-2 : Sample lookupLast
+unfolding hproto
+last-before-tag-2 = given (looked (asked uints 0 (three 0x11 0x21 0x21)) 1 0) (found 1 42 (pos 0) 1) tt refl
+
+last-under-number-1 : Sample lookupLast
+unfolding hproto
+last-under-number-1 = given (in-three uints 1 1 0) (found 0 0 (pos 0) 3) tt refl
+
+last-int : Sample lookupLast
+unfolding hproto
+last-int = given (in-three ints 0 1 0) (found 2 0 (pos 7) 3) tt refl
+
+last-of-tag-16 : Sample lookupLast
+unfolding hproto
+last-of-tag-16 = given tag-16 (found 0 0 (pos 0) 2) tt refl
+
+last-past-the-end : Sample lookupLast
+unfolding hproto
+last-past-the-end = given (looked (asked [] 0 (0x11 ∷ [])) 1 0) (lookups.refusal 4 0) tt refl
+
+abbrev refusal : Found → ℕ
+refusal f = f .refusal
+
+abbrev kind : Found → ℕ
+kind f = f .kind
+
+abbrev number : Found → ℕ
+number f = f .number
+
+abbrev start : Found → ℕ
+start f = f .start
+
+-- The contract accepts the call.
+abbrev accepts-it : LookupCall → Type 0
+accepts-it = due lookup refusal 0
+
+abbrev last-accepts-it : LookupCall → Type 0
+last-accepts-it = due lookupLast refusal 0
+
+-- It finds no field.
+pub rejects-all : RuledOut (Rejects refusal always) lookup
+unfolding first
+rejects-all = rejects refusal always first tt refl
+
+pub last-rejects-all : RuledOut (Rejects refusal always) lookupLast
+unfolding last
+last-rejects-all = rejects refusal always last tt refl
+
+-- It rejects a tag over 15.
+abbrev tag-over-15 : LookupCall → Type 0
+tag-over-15 x = T (ltb 15 (x .value .tag))
+
+pub rejects-tags-over-15 : RuledOut (Rejects refusal tag-over-15) lookup
+unfolding of-tag-16
+rejects-tags-over-15 = rejects refusal tag-over-15 of-tag-16 tt refl
+
+pub last-rejects-tags-over-15 : RuledOut (Rejects refusal tag-over-15) lookupLast
+unfolding last-of-tag-16
+last-rejects-tags-over-15 = rejects refusal tag-over-15 last-of-tag-16 tt refl
+
+-- It accepts every call, or at least contents past the end.
+pub accepts-all : RuledOut (Accepts refusal (due lookup refusal 4)) lookup
+unfolding past-the-end
+accepts-all = accepts refusal (due lookup refusal 4) past-the-end refl (λ (e : 4 ≡ 0). absurd (omega arith))
+
+pub last-accepts-all : RuledOut (Accepts refusal (due lookupLast refusal 4)) lookupLast
+unfolding last-past-the-end
+last-accepts-all = accepts refusal (due lookupLast refusal 4) last-past-the-end refl (λ (e : 4 ≡ 0). absurd (omega arith))
+
+-- It accepts a call where there is no such field.
+pub absent-accepted : RuledOut (Accepts refusal (due lookup refusal 18)) lookup
+unfolding no-third
+absent-accepted = accepts refusal (due lookup refusal 18) no-third refl (λ (e : 18 ≡ 0). absurd (omega arith))
+
+pub last-absent-accepted : RuledOut (Accepts refusal (due lookupLast refusal 18)) lookupLast
+unfolding last-of-tag-3
+last-absent-accepted = accepts refusal (due lookupLast refusal 18) last-of-tag-3 refl (λ (e : 18 ≡ 0). absurd (omega arith))
+
+-- It gives the same field for each k.
+abbrev all-but-k : LookupCall → CheckInput × ℕ
+all-but-k x = (x .value .within, x .value .tag)
+
+pub k-ignored : RuledOut (SeesOnly all-but-k start accepts-it) lookup
+unfolding first second
+k-ignored = sees-only all-but-k start accepts-it first second refl refl refl (λ (e : 1 ≡ 3). absurd (omega arith))
+
+-- It gives the first field for the last one.
+abbrev start-of-the-first : LookupCall → ℕ
+start-of-the-first x = lookupOctets (x .value .within .table) (x .value .within .number) (x .value .within .message) (x .value .tag) 0 .start
+
+pub first-for-last : RuledOut (Invents start start-of-the-first last-accepts-it) lookupLast
+unfolding last
+first-for-last = invents start start-of-the-first last-accepts-it last refl (λ (e : 3 ≡ 1). absurd (omega arith))
+
+-- It gives the same field for each tag.
+abbrev all-but-the-tag : LookupCall → CheckInput × ℕ
+all-but-the-tag x = (x .value .within, x .value .k)
+
+pub tag-ignored : RuledOut (SeesOnly all-but-the-tag start accepts-it) lookup
+unfolding first of-tag-2
+tag-ignored = sees-only all-but-the-tag start accepts-it first of-tag-2 refl refl refl (λ (e : 1 ≡ 5). absurd (omega arith))
+
+pub last-tag-ignored : RuledOut (SeesOnly all-but-the-tag start last-accepts-it) lookupLast
+unfolding last last-of-tag-2
+last-tag-ignored = sees-only all-but-the-tag start last-accepts-it last last-of-tag-2 refl refl refl (λ (e : 3 ≡ 5). absurd (omega arith))
+
+-- It gives a kind that does not depend on the table, or on the message number.
+abbrev all-but-the-table : LookupCall → ℕ × List ℕ × ℕ × ℕ
+all-but-the-table x = (x .value .within .number, x .value .within .message, x .value .tag, x .value .k)
+
+pub table-ignored : RuledOut (SeesOnly all-but-the-table kind accepts-it) lookup
+unfolding first first-int
+table-ignored = sees-only all-but-the-table kind accepts-it first first-int refl refl refl (λ (e : 1 ≡ 2). absurd (omega arith))
+
+pub last-table-ignored : RuledOut (SeesOnly all-but-the-table kind last-accepts-it) lookupLast
+unfolding last last-int
+last-table-ignored = sees-only all-but-the-table kind last-accepts-it last last-int refl refl refl (λ (e : 1 ≡ 2). absurd (omega arith))
+
+abbrev all-but-the-number : LookupCall → List ℕ × List ℕ × ℕ × ℕ
+all-but-the-number x = (x .value .within .table, x .value .within .message, x .value .tag, x .value .k)
+
+pub number-ignored : RuledOut (SeesOnly all-but-the-number kind accepts-it) lookup
+unfolding first under-number-1
+number-ignored = sees-only all-but-the-number kind accepts-it first under-number-1 refl refl refl (λ (e : 1 ≡ 0). absurd (omega arith))
+
+pub last-number-ignored : RuledOut (SeesOnly all-but-the-number kind last-accepts-it) lookupLast
+unfolding last last-under-number-1
+last-number-ignored = sees-only all-but-the-number kind last-accepts-it last last-under-number-1 refl refl refl (λ (e : 1 ≡ 0). absurd (omega arith))
+
+-- It gives the same number or the same place each time, or one made from the length of the message.
+abbrev all-but-the-octets : LookupCall → List ℕ × ℕ × ℕ × ℕ × ℕ
+all-but-the-octets x =
+    (x .value .within .table, x .value .within .number, length (x .value .within .message), x .value .tag, x .value .k)
+
+pub number-by-length : RuledOut (SeesOnly all-but-the-octets number accepts-it) lookup
+unfolding first behind-tag-2
+number-by-length = sees-only all-but-the-octets number accepts-it first behind-tag-2 refl refl refl (λ (e : 42 ≡ 7). absurd (omega arith))
+
+pub signed-by-length : RuledOut (SeesOnly all-but-the-octets (λ (f : Found). f .signed) accepts-it) lookup
+unfolding first-int int-behind-tag-2
+signed-by-length =
+    sees-only all-but-the-octets (λ (f : Found). f .signed) accepts-it first-int int-behind-tag-2 refl refl refl
+    (λ (e : pos 42 ≡ pos 7). let d : _≡_ {A = ℕ} 42 7 = cc in absurd (omega arith))
+
+pub start-by-length : RuledOut (SeesOnly all-but-the-octets start accepts-it) lookup
+unfolding first behind-tag-2
+start-by-length = sees-only all-but-the-octets start accepts-it first behind-tag-2 refl refl refl (λ (e : 1 ≡ 3). absurd (omega arith))
+
+pub last-number-by-length : RuledOut (SeesOnly all-but-the-octets number last-accepts-it) lookupLast
+unfolding last last-before-tag-2
+last-number-by-length = sees-only all-but-the-octets number last-accepts-it last last-before-tag-2 refl refl refl (λ (e : 7 ≡ 42). absurd (omega arith))
