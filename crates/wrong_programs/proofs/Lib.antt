@@ -5,5 +5,8 @@ pub mod Load
 pub mod Check
 pub mod Lookup
 pub mod Shorten
+pub mod FrameRead
+pub mod FrameWrite
+pub mod Show
 pub mod Find
 pub mod Valid
