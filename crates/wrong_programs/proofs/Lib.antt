@@ -10,3 +10,12 @@ pub mod FrameWrite
 pub mod Show
 pub mod Find
 pub mod Valid
+pub mod TibMessages
+pub mod TibCheck
+pub mod TibField
+pub mod Reals
+pub mod Fractions
+pub mod WriterStates
+pub mod Puts
+pub mod Nesting
+pub mod StartFinish

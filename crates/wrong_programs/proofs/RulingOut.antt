@@ -67,3 +67,9 @@ follows {right = right} other part when x y w v e d program meets wrong =
     let a = meets (x .call) ∙ x .fixed in
     let b = meets (y .call) ∙ y .fixed in
     d (sym (ap part a) ∙ wrong (x .call) (y .call) w v (ap other a ∙ e ∙ sym (ap other b)) ∙ ap part b)
+
+pub sees-only-where-accepted : {A B C D : Type 0} (right : A → B) (refusal : B → ℕ) (seen : A → C) (part : B → D) (x y : A) (a b : B)
+    → right x ≡ a → right y ≡ b → refusal a ≡ 0 → refusal b ≡ 0 → seen x ≡ seen y → (part a ≡ part b → ⊥)
+    → RuledOut (SeesOnly seen part (due right refusal 0)) right
+sees-only-where-accepted right refusal seen part x y a b answer answer' w v e d =
+    sees-only-ruled-out right seen part (due right refusal 0) x y a b answer answer' (ap refusal answer ∙ w) (ap refusal answer' ∙ v) e d

@@ -8,3 +8,6 @@ pub mod FrameWrite
 pub mod Show
 pub mod Find
 pub mod Valid
+pub mod Tib
+pub mod Reals
+pub mod Writer

@@ -1,0 +1,41 @@
+-- What the calls of tib_real give, and the answers that their contracts fix.
+use Prim.Native.Nat.{ℕ}
+use mathlib.Core.Bool.{Bool, _&&_}
+use mathlib.Core.List.{List}
+use Rattle.tib_real.specs.FromOctets.{made, realOf}
+use Rattle.tib_real.specs.InFractions.{fractionsOf}
+use Rattle.tib_real.specs.declared.types.Real.{Real}
+use Rattle.tib_real.specs.declared.types.Fractions.{Fractions}
+use Rattle.wrong_programs.specs.Kinds.{Given, octets, word}
+
+-- A real that octets hold.
+pub record RealInput : Type 0 where
+  pub contents : List ℕ
+  pub hint : ℕ
+  pub hinted : Bool
+
+unfoldable pub realFits : RealInput → Bool
+realFits x = octets (x .contents) && word (x .hint)
+
+abbrev pub RealCall : Type 0
+RealCall = Given realFits
+
+-- The contract of tib_real::real.
+unfoldable pub real : RealCall → Real
+real x = realOf (x .value .contents) (x .value .hint) (x .value .hinted)
+
+-- A real by its bits.
+pub record FractionsInput : Type 0 where
+  pub bits : ℕ
+  pub hint : ℕ
+  pub hinted : Bool
+
+unfoldable pub fractionsFits : FractionsInput → Bool
+fractionsFits x = word (x .bits) && word (x .hint)
+
+abbrev pub FractionsCall : Type 0
+FractionsCall = Given fractionsFits
+
+-- The contract of tib_real::fractions, and of crudvim_fractions, where `hinted` is a number and every one but 0 is taken for true.
+unfoldable pub fractions : FractionsCall → Fractions
+fractions x = fractionsOf (made (x .value .bits) (x .value .hint) (x .value .hinted))

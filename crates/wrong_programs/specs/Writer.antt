@@ -1,0 +1,148 @@
+-- What the calls of the backward writer give, and the answers and buffers that their contracts fix.
+use Prim.Native.Nat.{ℕ}
+use mathlib.Core.Bool.{Bool, true, _&&_}
+use mathlib.Core.List.{List, [], _∷_}
+use lib.Dec.{eqb, ltb}
+use lib.IntN.{ℤ, pos, negsuc}
+use lib.ListN.{length}
+use Rattle.hproto_table.specs.declared.Table.{Table}
+use Rattle.hproto_state.specs.Answer.{Call, putUint, putInt, putOctets}
+use Rattle.hproto_state.specs.Answer as writes
+use Rattle.hproto_state.specs.Calls.{started, opening, closing, closeBuffer, finished}
+use Rattle.hproto_state.specs.declared.State.{State}
+use Rattle.hproto_state.specs.declared.Written.{Written}
+use Rattle.hproto_state.specs.declared.Finished.{Finished}
+use Rattle.wrong_programs.specs.Kinds as kinds
+use Rattle.wrong_programs.specs.Kinds.{Given, word}
+
+-- So many numbers, all below a limit.
+unfoldable pub below : ℕ → List ℕ → Bool
+below limit [] = true
+below limit (x ∷ s) = ltb x limit && below limit s
+
+unfoldable pub array : ℕ → ℕ → List ℕ → Bool
+array n limit s = eqb (length s) n && below limit s
+
+unfoldable pub tableFits : Table → Bool
+tableFits t = word (t .count) && array 64 0x10000000000000000 (t .words)
+
+unfoldable pub stateFits : State → Bool
+stateFits s =
+    word (s .length) && word (s .start) && word (s .opened) && array 8 0x10000000000000000 (s .numbers) && array 7 0x10000000000000000 (s .marks)
+    && array 7 0x10000 (s .tags)
+
+-- ---- start
+
+pub record StartInput : Type 0 where
+  pub table : Table
+  pub number : ℕ
+  pub buffer : List ℕ
+
+unfoldable pub startFits : StartInput → Bool
+startFits x = tableFits (x .table) && word (x .number) && kinds.octets (x .buffer)
+
+abbrev pub StartCall : Type 0
+StartCall = Given startFits
+
+unfoldable pub start : StartCall → Written
+start x = started (x .value .table) (x .value .number) (length (x .value .buffer))
+
+-- ---- put_uint, put_int and put_octets
+
+pub data Put : Type 0 where
+  uint : Put
+  int : Put
+  octets : Put
+
+unfoldable pub Value : Put → Type 0
+Value uint = ℕ
+Value int = ℤ
+Value octets = List ℕ
+
+-- An int has 64 bits.
+unfoldable pub intFits : ℤ → Bool
+intFits (pos n) = ltb n 0x8000000000000000
+intFits (negsuc n) = ltb n 0x8000000000000000
+
+unfoldable pub valueFits : (p : Put) → Value p → Bool
+unfolding Value
+valueFits uint v = word v
+valueFits int v = intFits v
+valueFits octets v = kinds.octets v
+
+pub record PutInput (p : Put) : Type 0 where
+  pub table : Table
+  pub state : State
+  pub tag : ℕ
+  pub value : Value p
+  pub buffer : List ℕ
+
+unfoldable pub putFits : (p : Put) → PutInput p → Bool
+putFits p x =
+    tableFits (x .table) && stateFits (x .state) && word (x .tag) && valueFits p (x .value) && kinds.octets (x .buffer)
+
+abbrev pub PutCall : Put → Type 0
+PutCall p = Given (putFits p)
+
+-- The answer of a call, and the buffer after it.
+pub record Outcome : Type 0 where
+  pub answer : Written
+  pub buffer : List ℕ
+
+unfoldable pub callOf : (p : Put) → ℕ → Value p → Call
+unfolding Value
+callOf uint tag v = putUint tag v
+callOf int tag v = putInt tag v
+callOf octets tag v = putOctets tag v
+
+unfoldable pub put : (p : Put) → PutCall p → Outcome
+put p x =
+    let c = callOf p (x .value .tag) (x .value .value) in
+    record {
+      answer = writes.answer (x .value .table) (x .value .state) (x .value .buffer) c;
+      buffer = writes.buffer (x .value .table) (x .value .state) (x .value .buffer) c;
+    }
+
+-- ---- open_field
+
+pub record OpenInput : Type 0 where
+  pub table : Table
+  pub state : State
+  pub tag : ℕ
+
+unfoldable pub openFits : OpenInput → Bool
+openFits x = tableFits (x .table) && stateFits (x .state) && word (x .tag)
+
+abbrev pub OpenCall : Type 0
+OpenCall = Given openFits
+
+unfoldable pub openField : OpenCall → Written
+openField x = opening (x .value .table) (x .value .state) (x .value .tag)
+
+-- ---- close_field
+
+pub record CloseInput : Type 0 where
+  pub table : Table
+  pub state : State
+  pub buffer : List ℕ
+
+unfoldable pub closeFits : CloseInput → Bool
+closeFits x = tableFits (x .table) && stateFits (x .state) && kinds.octets (x .buffer)
+
+abbrev pub CloseCall : Type 0
+CloseCall = Given closeFits
+
+unfoldable pub closeField : CloseCall → Outcome
+closeField x =
+    record {
+      answer = closing (x .value .table) (x .value .state) (length (x .value .buffer));
+      buffer = closeBuffer (x .value .table) (x .value .state) (x .value .buffer);
+    }
+
+-- ---- finish
+
+abbrev pub FinishCall : Type 0
+FinishCall = Given stateFits
+
+unfoldable pub finish : FinishCall → Finished
+finish x = finished (x .value)
