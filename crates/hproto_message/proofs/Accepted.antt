@@ -6,7 +6,7 @@ use mathlib.Core.List.{List, [], _++_}
 use mathlib.Core.Logic.{_↔_}
 use lib.ListN.{length, take, drop, length-append}
 use Rattle.octets.proofs.ControlPart.{control-size}
-use Rattle.hproto_table.specs.Entry.{Entry}
+use Rattle.hproto_table.specs.Schema.{Schema}
 use Rattle.hproto_message.specs.declared.Step.{Step}
 use Rattle.hproto_message.specs.declared.Step.the-variants.{Done, Fault, Over, Into}
 use Rattle.hproto_message.specs.Cut.{Cut, end, leaf, nested, joined, depth, WholeField, LeafField, NestedField, Allowed, Good}
@@ -14,13 +14,13 @@ use Rattle.reading.specs.Reading.{Reading, accepted, refused, onAccepted, inOrd
 use Rattle.hproto_message.specs.Reading.{step, Inner, afterStep, fieldsFrom, messageFrom, reading, Accepts}
 use Rattle.hproto_message.proofs.Steps.{StepMeans, step-means, step-of-leaf, step-of-nested, step-of-end, split-in-three, in-three}
 
-module _ (es : List Entry) (levels n : ℕ) (s : List ℕ) where
-  good-end : s ≡ [] → Good es (suc levels) n s end
+module _ (sc : Schema) (levels n : ℕ) (s : List ℕ) where
+  good-end : s ≡ [] → Good sc (suc levels) n s end
   unfolding joined Allowed depth
   good-end e = record { divides = sym e; allowed = tt; shallow = omega arith }
 
-  good-leaf : (c b rest : List ℕ) (cut : Cut) → LeafField es n c b → s ≡ c ++ b ++ rest → Good es (suc levels) n rest cut
-      → Good es (suc levels) n s (leaf c b cut)
+  good-leaf : (c b rest : List ℕ) (cut : Cut) → LeafField sc n c b → s ≡ c ++ b ++ rest → Good sc (suc levels) n rest cut
+      → Good sc (suc levels) n s (leaf c b cut)
   unfolding joined Allowed depth
   good-leaf c b rest cut f e g =
       record {
@@ -29,81 +29,81 @@ module _ (es : List Entry) (levels n : ℕ) (s : List ℕ) where
         shallow = g .shallow;
       }
 
-  good-nested : (m : ℕ) (c b rest : List ℕ) (inside cut : Cut) → NestedField es n m c b → s ≡ c ++ b ++ rest → Good es levels m b inside
-      → Good es (suc levels) n rest cut → Good es (suc levels) n s (nested c inside cut)
+  good-nested : (m : ℕ) (c b rest : List ℕ) (inside cut : Cut) → NestedField sc n m c b → s ≡ c ++ b ++ rest → Good sc levels m b inside
+      → Good sc (suc levels) n rest cut → Good sc (suc levels) n s (nested c inside cut)
   unfolding joined Allowed depth
   good-nested m c b rest inside cut f e i g =
       let p = i .shallow in
       let q = g .shallow in
       record {
         divides = ap₂ (λ (x y : List ℕ). c ++ x ++ y) (i .divides) (g .divides) ∙ sym e;
-        allowed = ((m, subst (λ (x : List ℕ). NestedField es n m c x) (sym (i .divides)) f, i .allowed), g .allowed);
+        allowed = ((m, subst (λ (x : List ℕ). NestedField sc n m c x) (sym (i .divides)) f, i .allowed), g .allowed);
         shallow = omega arith;
       }
 
 -- Where nested messages are accepted only with a good cut, so are the fields of a message.
-module _ (es : List Entry) (levels : ℕ) (inner : Inner)
-    (below : (m field at : ℕ) (b : List ℕ) (cut : Cut) → inner m field at b ≡ accepted cut → Good es levels m b cut) where
+module _ (sc : Schema) (levels : ℕ) (inner : Inner)
+    (below : (m field at : ℕ) (b : List ℕ) (cut : Cut) → inner m field at b ≡ accepted cut → Good sc levels m b cut) where
   after-good : (n : ℕ) (next : ℕ → List ℕ → Reading Cut)
-      → ((at : ℕ) (r : List ℕ) (cut : Cut) → next at r ≡ accepted cut → Good es (suc levels) n r cut)
-      → (at : ℕ) (s : List ℕ) (cut : Cut) (p : Step) → StepMeans es n s p → afterStep inner next at s p ≡ accepted cut
-      → Good es (suc levels) n s cut
+      → ((at : ℕ) (r : List ℕ) (cut : Cut) → next at r ≡ accepted cut → Good sc (suc levels) n r cut)
+      → (at : ℕ) (s : List ℕ) (cut : Cut) (p : Step) → StepMeans sc n s p → afterStep inner next at s p ≡ accepted cut
+      → Good sc (suc levels) n s cut
   unfolding afterStep StepMeans onAccepted inOrder
-  after-good n next later at s cut Done h e = subst (Good es (suc levels) n s) (cc) (good-end es levels n s h)
+  after-good n next later at s cut Done h e = subst (Good sc (suc levels) n s) (cc) (good-end sc levels n s h)
   after-good n next later at s cut (Fault number) h e = let z : _≡_ {A = ℕ} 0 1 = cc in absurd (omega arith)
   after-good n next later at s cut (Over k l) h e = go (next (at + k + l) (drop (k + l) s)) refl e
     where
       go : (r : Reading Cut) → next (at + k + l) (drop (k + l) s) ≡ r → onAccepted (leaf (take k s) (take l (drop k s))) r ≡ accepted cut
-          → Good es (suc levels) n s cut
+          → Good sc (suc levels) n s cut
       go (accepted rest) f g =
-          subst (Good es (suc levels) n s) (cc)
-          (good-leaf es levels n s (take k s) (take l (drop k s)) (drop (k + l) s) rest (h .0) (sym (split-in-three k l s))
+          subst (Good sc (suc levels) n s) (cc)
+          (good-leaf sc levels n s (take k s) (take l (drop k s)) (drop (k + l) s) rest (h .0) (sym (split-in-three k l s))
           (later (at + k + l) (drop (k + l) s) rest f))
       go (refused number place) f g = let z : _≡_ {A = ℕ} 0 1 = cc in absurd (omega arith)
   after-good n next later at s cut (Into m k l) h e =
       go (inner m at (at + k) (take l (drop k s))) refl (next (at + k + l) (drop (k + l) s)) refl e
     where
       go : (q : Reading Cut) → inner m at (at + k) (take l (drop k s)) ≡ q → (r : Reading Cut) → next (at + k + l) (drop (k + l) s) ≡ r
-          → inOrder (nested (take k s)) q r ≡ accepted cut → Good es (suc levels) n s cut
+          → inOrder (nested (take k s)) q r ≡ accepted cut → Good sc (suc levels) n s cut
       go (accepted i) d (accepted rest) f g =
-          subst (Good es (suc levels) n s) (cc)
-          (good-nested es levels n s m (take k s) (take l (drop k s)) (drop (k + l) s) i rest (h .0) (sym (split-in-three k l s))
+          subst (Good sc (suc levels) n s) (cc)
+          (good-nested sc levels n s m (take k s) (take l (drop k s)) (drop (k + l) s) i rest (h .0) (sym (split-in-three k l s))
           (below m at (at + k) (take l (drop k s)) i d) (later (at + k + l) (drop (k + l) s) rest f))
       go (accepted i) d (refused number place) f g = let z : _≡_ {A = ℕ} 0 1 = cc in absurd (omega arith)
       go (refused number place) d r f g = let z : _≡_ {A = ℕ} 0 1 = cc in absurd (omega arith)
 
-  fields-good : (n left at : ℕ) (s : List ℕ) (cut : Cut) → fieldsFrom es inner n left at s ≡ accepted cut → Good es (suc levels) n s cut
+  fields-good : (n left at : ℕ) (s : List ℕ) (cut : Cut) → fieldsFrom sc inner n left at s ≡ accepted cut → Good sc (suc levels) n s cut
   unfolding fieldsFrom
   fields-good n zero at s cut e = let z : _≡_ {A = ℕ} 0 1 = cc in absurd (omega arith)
   fields-good n (suc left) at s cut e =
-      after-good n (fieldsFrom es inner n left) (fields-good n left) at s cut (step es n s) (step-means es n s) e
+      after-good n (fieldsFrom sc inner n left) (fields-good n left) at s cut (step sc n s) (step-means sc n s) e
 
-pub accepted-good : (es : List Entry) (levels n field at : ℕ) (s : List ℕ) (cut : Cut)
-    → messageFrom es levels n field at s ≡ accepted cut → Good es levels n s cut
+pub accepted-good : (sc : Schema) (levels n field at : ℕ) (s : List ℕ) (cut : Cut)
+    → messageFrom sc levels n field at s ≡ accepted cut → Good sc levels n s cut
 unfolding messageFrom
-accepted-good es zero n field at s cut e = let z : _≡_ {A = ℕ} 0 1 = cc in absurd (omega arith)
-accepted-good es (suc levels) n field at s cut e =
-    fields-good es levels (messageFrom es levels) (accepted-good es levels) n (suc (length s)) at s cut e
+accepted-good sc zero n field at s cut e = let z : _≡_ {A = ℕ} 0 1 = cc in absurd (omega arith)
+accepted-good sc (suc levels) n field at s cut e =
+    fields-good sc levels (messageFrom sc levels) (accepted-good sc levels) n (suc (length s)) at s cut e
 
 -- A whole field takes an octet or more.
 pub field-size : (tag : ℕ) (c b : List ℕ) → WholeField tag c b → 1 ≤ length c
 field-size tag c b w = control-size c tag (length b) (length c) (w .control-part) .0
 
 -- Where nested messages with a good cut are accepted, so is a message of good fields.
-module _ (es : List Entry) (levels : ℕ) (inner : Inner)
-    (below : (m field at : ℕ) (b : List ℕ) (cut : Cut) → Good es levels m b cut → inner m field at b ≡ accepted cut) where
-  fields-accepted : (cut : Cut) (n left at : ℕ) → Allowed es n cut → depth cut ≤ suc levels → length (joined cut) < left
-      → fieldsFrom es inner n left at (joined cut) ≡ accepted cut
+module _ (sc : Schema) (levels : ℕ) (inner : Inner)
+    (below : (m field at : ℕ) (b : List ℕ) (cut : Cut) → Good sc levels m b cut → inner m field at b ≡ accepted cut) where
+  fields-accepted : (cut : Cut) (n left at : ℕ) → Allowed sc n cut → depth cut ≤ suc levels → length (joined cut) < left
+      → fieldsFrom sc inner n left at (joined cut) ≡ accepted cut
   unfolding fieldsFrom afterStep onAccepted inOrder joined Allowed depth
   fields-accepted end n zero at a d h = absurd (omega arith)
-  fields-accepted end n (suc left) at a d h = rw (step-of-end es n)
+  fields-accepted end n (suc left) at a d h = rw (step-of-end sc n)
   fields-accepted (leaf c b cut) n zero at a d h = absurd (omega arith)
   fields-accepted (leaf c b cut) n (suc left) at a d h =
       let k = field-size (a .0 .tag) c b (a .0 .whole) in
       let l : length (c ++ b ++ joined cut) ≡ length c + length b + length (joined cut) = simp length-append (omega arith) in
       let r = fields-accepted cut n left (at + length c + length b) (a .1) d (omega arith) in
       let p = in-three c b (joined cut) in
-      rw (step-of-leaf es n c b (joined cut) (a .0), p .first, p .second, p .third, r)
+      rw (step-of-leaf sc n c b (joined cut) (a .0), p .first, p .second, p .third, r)
   fields-accepted (nested c inside cut) n zero at a d h = absurd (omega arith)
   fields-accepted (nested c inside cut) n (suc left) at a d h =
       let m = a .0 .0 in
@@ -113,7 +113,7 @@ module _ (es : List Entry) (levels : ℕ) (inner : Inner)
       let q = below m at (at + length c) b inside (record { divides = refl; allowed = a .0 .2; shallow = omega arith }) in
       let r = fields-accepted cut n left (at + length c + length b) (a .1) (omega arith) (omega arith) in
       let p = in-three c b (joined cut) in
-      rw (step-of-nested es n m c b (joined cut) (a .0 .1), p .first, p .second, p .third, q, r)
+      rw (step-of-nested sc n m c b (joined cut) (a .0 .1), p .first, p .second, p .third, q, r)
 
 pub depth-positive : (cut : Cut) → 1 ≤ depth cut
 unfolding depth
@@ -121,38 +121,38 @@ depth-positive end = omega arith
 depth-positive (leaf c b cut) = depth-positive cut
 depth-positive (nested c inside cut) = omega arith
 
-pub good-accepted : (es : List Entry) (levels n field at : ℕ) (s : List ℕ) (cut : Cut)
-    → Good es levels n s cut → messageFrom es levels n field at s ≡ accepted cut
+pub good-accepted : (sc : Schema) (levels n field at : ℕ) (s : List ℕ) (cut : Cut)
+    → Good sc levels n s cut → messageFrom sc levels n field at s ≡ accepted cut
 unfolding messageFrom
-good-accepted es zero n field at s cut g = let h = depth-positive cut in let k = g .shallow in absurd (omega arith)
-good-accepted es (suc levels) n field at s cut g =
-    subst (λ (r : List ℕ). fieldsFrom es (messageFrom es levels) n (suc (length r)) at r ≡ accepted cut) (g .divides)
-    (fields-accepted es levels (messageFrom es levels) (good-accepted es levels) cut n (suc (length (joined cut))) at (g .allowed) (g .shallow) (omega arith))
+good-accepted sc zero n field at s cut g = let h = depth-positive cut in let k = g .shallow in absurd (omega arith)
+good-accepted sc (suc levels) n field at s cut g =
+    subst (λ (r : List ℕ). fieldsFrom sc (messageFrom sc levels) n (suc (length r)) at r ≡ accepted cut) (g .divides)
+    (fields-accepted sc levels (messageFrom sc levels) (good-accepted sc levels) cut n (suc (length (joined cut))) at (g .allowed) (g .shallow) (omega arith))
 
 -- The reading accepts a message with a cut exactly where that cut is good.
-pub accepted-exactly : (es : List Entry) (n : ℕ) (s : List ℕ) (cut : Cut) → (reading es n s ≡ accepted cut) ↔ Good es 8 n s cut
+pub accepted-exactly : (sc : Schema) (n : ℕ) (s : List ℕ) (cut : Cut) → (reading sc n s ≡ accepted cut) ↔ Good sc 8 n s cut
 unfolding reading
-accepted-exactly es n s cut = (accepted-good es 8 n 0 0 s cut, good-accepted es 8 n 0 0 s cut)
+accepted-exactly sc n s cut = (accepted-good sc 8 n 0 0 s cut, good-accepted sc 8 n 0 0 s cut)
 
 -- Octets have at most one good cut.
-pub good-cut-unique : (es : List Entry) (levels n : ℕ) (s : List ℕ) (cut other : Cut) → Good es levels n s cut → Good es levels n s other → cut ≡ other
-good-cut-unique es levels n s cut other g h =
-    let p = good-accepted es levels n 0 0 s cut g in
-    let q = good-accepted es levels n 0 0 s other h in
+pub good-cut-unique : (sc : Schema) (levels n : ℕ) (s : List ℕ) (cut other : Cut) → Good sc levels n s cut → Good sc levels n s other → cut ≡ other
+good-cut-unique sc levels n s cut other g h =
+    let p = good-accepted sc levels n 0 0 s cut g in
+    let q = good-accepted sc levels n 0 0 s other h in
     cc
 
 -- ---- the same, of a message that is accepted
 
-pub accepts-good : (es : List Entry) (levels n : ℕ) (s : List ℕ) → Accepts es levels n s → (cut : Cut) × Good es levels n s cut
+pub accepts-good : (sc : Schema) (levels n : ℕ) (s : List ℕ) → Accepts sc levels n s → (cut : Cut) × Good sc levels n s cut
 unfolding Accepts IsAccepted
-accepts-good es levels n s a = (a .0, accepted-good es levels n 0 0 s (a .0) (a .1))
+accepts-good sc levels n s a = (a .0, accepted-good sc levels n 0 0 s (a .0) (a .1))
 
-pub good-accepts : (es : List Entry) (levels n : ℕ) (s : List ℕ) (cut : Cut) → Good es levels n s cut → Accepts es levels n s
+pub good-accepts : (sc : Schema) (levels n : ℕ) (s : List ℕ) (cut : Cut) → Good sc levels n s cut → Accepts sc levels n s
 unfolding Accepts IsAccepted
-good-accepts es levels n s cut g = (cut, good-accepted es levels n 0 0 s cut g)
+good-accepts sc levels n s cut g = (cut, good-accepted sc levels n 0 0 s cut g)
 
 -- A message that is accepted may be one deep or more.
-pub accepts-levels : (es : List Entry) (levels n : ℕ) (s : List ℕ) → Accepts es levels n s → suc (levels - 1) ≡ levels
+pub accepts-levels : (sc : Schema) (levels n : ℕ) (s : List ℕ) → Accepts sc levels n s → suc (levels - 1) ≡ levels
 unfolding Accepts IsAccepted messageFrom
-accepts-levels es zero n s a = let e = a .1 in let z : _≡_ {A = ℕ} 0 1 = cc in absurd (omega arith)
-accepts-levels es (suc levels) n s a = omega arith
+accepts-levels sc zero n s a = let e = a .1 in let z : _≡_ {A = ℕ} 0 1 = cc in absurd (omega arith)
+accepts-levels sc (suc levels) n s a = omega arith

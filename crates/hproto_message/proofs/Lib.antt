@@ -4,5 +4,4 @@ pub mod Accepted
 pub mod Shortened
 pub mod Next
 pub mod Refusals
-pub mod SameFinds
 pub mod Fields

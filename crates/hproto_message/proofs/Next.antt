@@ -8,7 +8,8 @@ use Rattle.octets.specs.Control.{control}
 use Rattle.octets.specs.declared.Control.{Control}
 use Rattle.octets.specs.declared.Control.the-variants.{Absent, Partial, Whole}
 use Rattle.octets.proofs.ControlPart.{control-append, control-nil, control-size}
-use Rattle.hproto_table.specs.Entry.{Entry, find, innerOf}
+use Rattle.hproto_table.specs.Entry.{innerOf}
+use Rattle.hproto_table.specs.Schema.{Schema}
 use Rattle.hproto_table.specs.declared.Meaning.{Meaning}
 use Rattle.hproto_table.specs.declared.Meaning.the-variants.{Raw, Uint, Int, String, Text, Message}
 use Rattle.hproto_message.specs.Cut as cuts
@@ -17,21 +18,21 @@ use Rattle.hproto_message.specs.Tree.{Tree, tagOf, value, tree}
 use Rattle.hproto_message.proofs.Steps.{in-three}
 
 -- The first field is no message.
-pub record NextLeaf (es : List Entry) (levels n : ℕ) (s : List ℕ) (cut : Cut) (tag len size : ℕ) : Type 0 where
+pub record NextLeaf (sc : Schema) (levels n : ℕ) (s : List ℕ) (cut : Cut) (tag len size : ℕ) : Type 0 where
   pub rest : Cut
-  pub good : Good es (suc levels) n (drop (size + len) s) rest
-  pub tree-is : tree es n cut ≡ Tree.leaf tag (value (find es n tag) (take len (drop size s))) (tree es n rest)
-  pub contents : Contents (find es n tag) (take len (drop size s))
+  pub good : Good sc (suc levels) n (drop (size + len) s) rest
+  pub tree-is : tree sc n cut ≡ Tree.leaf tag (value (sc .means n tag) (take len (drop size s))) (tree sc n rest)
+  pub contents : Contents (sc .means n tag) (take len (drop size s))
   pub positive : 1 ≤ size
   pub inside : size + len ≤ length s
 
 -- The first field is a message of the number m.
-pub record NextNested (es : List Entry) (levels n m : ℕ) (s : List ℕ) (cut : Cut) (tag len size : ℕ) : Type 0 where
+pub record NextNested (sc : Schema) (levels n m : ℕ) (s : List ℕ) (cut : Cut) (tag len size : ℕ) : Type 0 where
   pub inner : Cut
   pub rest : Cut
-  pub good-inner : Good es levels m (take len (drop size s)) inner
-  pub good : Good es (suc levels) n (drop (size + len) s) rest
-  pub tree-is : tree es n cut ≡ Tree.nested tag (tree es m inner) (tree es n rest)
+  pub good-inner : Good sc levels m (take len (drop size s)) inner
+  pub good : Good sc (suc levels) n (drop (size + len) s) rest
+  pub tree-is : tree sc n cut ≡ Tree.nested tag (tree sc m inner) (tree sc n rest)
   pub positive : 1 ≤ size
   pub inside : size + len ≤ length s
 
@@ -48,9 +49,9 @@ Plain (Message m) = ⊥
 field-control : (tag : ℕ) (c b r : List ℕ) → WholeField tag c b → control (c ++ b ++ r) ≡ Whole tag (length b) (length c)
 field-control tag c b r w = rw (append-assoc c b r) (control-append c (b ++ r) tag (length b) (length c) (w .control-part))
 
-module _ (es : List Entry) (levels n : ℕ) where
-  leaf-at : (c b : List ℕ) (rest : Cut) (f : LeafField es n c b) → Allowed es n rest → cuts.depth rest ≤ suc levels
-      → NextLeaf es levels n (c ++ b ++ joined rest) (Cut.leaf c b rest) (f .tag) (length b) (length c)
+module _ (sc : Schema) (levels n : ℕ) where
+  leaf-at : (c b : List ℕ) (rest : Cut) (f : LeafField sc n c b) → Allowed sc n rest → cuts.depth rest ≤ suc levels
+      → NextLeaf sc levels n (c ++ b ++ joined rest) (Cut.leaf c b rest) (f .tag) (length b) (length c)
   unfolding tree tagOf
   leaf-at c b rest f a d =
       let p = in-three c b (joined rest) in
@@ -64,9 +65,9 @@ module _ (es : List Entry) (levels n : ℕ) where
         inside = simp length-append (omega arith);
       }
 
-  nested-at : (m : ℕ) (c : List ℕ) (inner rest : Cut) (f : NestedField es n m c (joined inner)) → Allowed es m inner → Allowed es n rest
+  nested-at : (m : ℕ) (c : List ℕ) (inner rest : Cut) (f : NestedField sc n m c (joined inner)) → Allowed sc m inner → Allowed sc n rest
       → cuts.depth inner ≤ levels → cuts.depth rest ≤ suc levels
-      → NextNested es levels n m (c ++ joined inner ++ joined rest) (Cut.nested c inner rest) (f .tag) (length (joined inner)) (length c)
+      → NextNested sc levels n m (c ++ joined inner ++ joined rest) (Cut.nested c inner rest) (f .tag) (length (joined inner)) (length c)
   unfolding tree tagOf innerOf
   nested-at m c inner rest f i a e d =
       let p = in-three c (joined inner) (joined rest) in
@@ -82,48 +83,48 @@ module _ (es : List Entry) (levels n : ℕ) where
       }
 
   module _ (tag len size : ℕ) where
-    leaf-of : (cut : Cut) → Allowed es n cut → cuts.depth cut ≤ suc levels → Plain (find es n tag) → control (joined cut) ≡ Whole tag len size
-        → NextLeaf es levels n (joined cut) cut tag len size
+    leaf-of : (cut : Cut) → Allowed sc n cut → cuts.depth cut ≤ suc levels → Plain (sc .means n tag) → control (joined cut) ≡ Whole tag len size
+        → NextLeaf sc levels n (joined cut) cut tag len size
     unfolding joined Allowed cuts.depth Plain
     leaf-of Cut.end a d q e = let h = control-nil in let z : _≡_ {A = ℕ} 0 1 = cc in absurd (omega arith)
     leaf-of (Cut.leaf c b rest) a d q e =
         let h = field-control (a .0 .tag) c b (joined rest) (a .0 .whole) in
-        subst₃ (λ (x y z : ℕ). NextLeaf es levels n (c ++ b ++ joined rest) (Cut.leaf c b rest) x y z) (cc) (cc) (cc)
+        subst₃ (λ (x y z : ℕ). NextLeaf sc levels n (c ++ b ++ joined rest) (Cut.leaf c b rest) x y z) (cc) (cc) (cc)
         (leaf-at c b rest (a .0) (a .1) d)
     leaf-of (Cut.nested c inner rest) a d q e =
         let f = a .0 .1 in
         let h = field-control (f .tag) c (joined inner) (joined rest) (f .whole) in
         let t : tag ≡ f .tag = cc in
-        absurd (subst Plain (ap (find es n) t ∙ f .allowed) q)
+        absurd (subst Plain (ap (sc .means n) t ∙ f .allowed) q)
 
-    nested-of : (m : ℕ) (cut : Cut) → Allowed es n cut → cuts.depth cut ≤ suc levels → find es n tag ≡ Message m
-        → control (joined cut) ≡ Whole tag len size → NextNested es levels n m (joined cut) cut tag len size
+    nested-of : (m : ℕ) (cut : Cut) → Allowed sc n cut → cuts.depth cut ≤ suc levels → sc .means n tag ≡ Message m
+        → control (joined cut) ≡ Whole tag len size → NextNested sc levels n m (joined cut) cut tag len size
     unfolding joined Allowed cuts.depth Contents
     nested-of m Cut.end a d q e = let h = control-nil in let z : _≡_ {A = ℕ} 0 1 = cc in absurd (omega arith)
     nested-of m (Cut.leaf c b rest) a d q e =
         let f = a .0 in
         let h = field-control (f .tag) c b (joined rest) (f .whole) in
         let t : f .tag ≡ tag = cc in
-        absurd (subst (λ (k : Meaning). Contents k b) (ap (find es n) t ∙ q) (f .allowed))
+        absurd (subst (λ (k : Meaning). Contents k b) (ap (sc .means n) t ∙ q) (f .allowed))
     nested-of m (Cut.nested c inner rest) a d q e =
         let f = a .0 .1 in
         let h = field-control (f .tag) c (joined inner) (joined rest) (f .whole) in
         let t : f .tag ≡ tag = cc in
-        let x : Message (a .0 .0) ≡ Message m = sym (f .allowed) ∙ ap (find es n) t ∙ q in
+        let x : Message (a .0 .0) ≡ Message m = sym (f .allowed) ∙ ap (sc .means n) t ∙ q in
         let y : a .0 .0 ≡ m = cc in
-        subst (λ (k : ℕ). NextNested es levels n k (c ++ joined inner ++ joined rest) (Cut.nested c inner rest) tag len size) y
-        (subst₃ (λ (x y z : ℕ). NextNested es levels n (a .0 .0) (c ++ joined inner ++ joined rest) (Cut.nested c inner rest) x y z) (cc) (cc) (cc)
+        subst (λ (k : ℕ). NextNested sc levels n k (c ++ joined inner ++ joined rest) (Cut.nested c inner rest) tag len size) y
+        (subst₃ (λ (x y z : ℕ). NextNested sc levels n (a .0 .0) (c ++ joined inner ++ joined rest) (Cut.nested c inner rest) x y z) (cc) (cc) (cc)
         (nested-at (a .0 .0) c inner rest f (a .0 .2) (a .1) (omega arith) (omega arith)))
 
-    module _ (s : List ℕ) (cut : Cut) (g : Good es (suc levels) n s cut) (e : control s ≡ Whole tag len size) where
-      pub next-leaf : Plain (find es n tag) → NextLeaf es levels n s cut tag len size
+    module _ (s : List ℕ) (cut : Cut) (g : Good sc (suc levels) n s cut) (e : control s ≡ Whole tag len size) where
+      pub next-leaf : Plain (sc .means n tag) → NextLeaf sc levels n s cut tag len size
       next-leaf q =
-          subst (λ (x : List ℕ). NextLeaf es levels n x cut tag len size) (g .divides)
+          subst (λ (x : List ℕ). NextLeaf sc levels n x cut tag len size) (g .divides)
           (leaf-of cut (g .allowed) (g .shallow) q (ap control (g .divides) ∙ e))
 
-      pub next-nested : (m : ℕ) → find es n tag ≡ Message m → NextNested es levels n m s cut tag len size
+      pub next-nested : (m : ℕ) → sc .means n tag ≡ Message m → NextNested sc levels n m s cut tag len size
       next-nested m q =
-          subst (λ (x : List ℕ). NextNested es levels n m x cut tag len size) (g .divides)
+          subst (λ (x : List ℕ). NextNested sc levels n m x cut tag len size) (g .divides)
           (nested-of m cut (g .allowed) (g .shallow) q (ap control (g .divides) ∙ e))
 
 -- Octets with a good cut are at their end, or a whole field stands at their front.
@@ -134,10 +135,10 @@ pub record Fronted (s : List ℕ) : Type 0 where
   pub control-part : control s ≡ Whole tag len size
   pub inside : size + len ≤ length s
 
-fronted-of : (es : List Entry) (n : ℕ) (cut : Cut) → Allowed es n cut → 1 ≤ length (joined cut) → Fronted (joined cut)
+fronted-of : (sc : Schema) (n : ℕ) (cut : Cut) → Allowed sc n cut → 1 ≤ length (joined cut) → Fronted (joined cut)
 unfolding joined Allowed
-fronted-of es n Cut.end a h = absurd (omega arith)
-fronted-of es n (Cut.leaf c b rest) a h =
+fronted-of sc n Cut.end a h = absurd (omega arith)
+fronted-of sc n (Cut.leaf c b rest) a h =
     record {
       tag = a .0 .tag;
       len = length b;
@@ -145,7 +146,7 @@ fronted-of es n (Cut.leaf c b rest) a h =
       control-part = field-control (a .0 .tag) c b (joined rest) (a .0 .whole);
       inside = simp length-append (omega arith);
     }
-fronted-of es n (Cut.nested c inner rest) a h =
+fronted-of sc n (Cut.nested c inner rest) a h =
     record {
       tag = a .0 .1 .tag;
       len = length (joined inner);
@@ -154,16 +155,16 @@ fronted-of es n (Cut.nested c inner rest) a h =
       inside = simp length-append (omega arith);
     }
 
-pub fronted : (es : List Entry) (levels n : ℕ) (s : List ℕ) (cut : Cut) → Good es levels n s cut → 1 ≤ length s → Fronted s
-fronted es levels n s cut g h =
-    subst Fronted (g .divides) (fronted-of es n cut (g .allowed) (subst (λ (x : List ℕ). 1 ≤ length x) (sym (g .divides)) h))
+pub fronted : (sc : Schema) (levels n : ℕ) (s : List ℕ) (cut : Cut) → Good sc levels n s cut → 1 ≤ length s → Fronted s
+fronted sc levels n s cut g h =
+    subst Fronted (g .divides) (fronted-of sc n cut (g .allowed) (subst (λ (x : List ℕ). 1 ≤ length x) (sym (g .divides)) h))
 
 -- The only good cut of no octets has no fields.
-pub nothing-left : (es : List Entry) (levels n : ℕ) (s : List ℕ) (cut : Cut) → Good es levels n s cut → length s ≡ 0 → cut ≡ Cut.end
+pub nothing-left : (sc : Schema) (levels n : ℕ) (s : List ℕ) (cut : Cut) → Good sc levels n s cut → length s ≡ 0 → cut ≡ Cut.end
 unfolding joined Allowed
-nothing-left es levels n s cut g h = go cut (g .allowed) (ap length (g .divides) ∙ h)
+nothing-left sc levels n s cut g h = go cut (g .allowed) (ap length (g .divides) ∙ h)
   where
-    go : (cut : Cut) → Allowed es n cut → length (joined cut) ≡ 0 → cut ≡ Cut.end
+    go : (cut : Cut) → Allowed sc n cut → length (joined cut) ≡ 0 → cut ≡ Cut.end
     go Cut.end a e = refl
     go (Cut.leaf c b rest) a e =
         let k = control-size c (a .0 .tag) (length b) (length c) (a .0 .whole .control-part) .0 in

@@ -10,7 +10,7 @@ use Rattle.octets.specs.Text.{text}
 use Rattle.octets.specs.Control.{control}
 use Rattle.octets.specs.declared.Control.{Control}
 use Rattle.octets.specs.declared.Control.the-variants.{Absent, Partial, Whole}
-use Rattle.hproto_table.specs.Entry.{Entry, find}
+use Rattle.hproto_table.specs.Schema.{Schema}
 use Rattle.hproto_table.specs.declared.Meaning.{Meaning}
 use Rattle.hproto_table.specs.declared.Meaning.the-variants.{Raw, Uint, Int, String, Text, Message}
 use Rattle.hproto_message.specs.Cut.{Cut}
@@ -40,14 +40,14 @@ stepByKind-numbered String k s = tt
 stepByKind-numbered Text k s = tested-numbered (text s) k (length s) 7 (omega arith)
 stepByKind-numbered (Message m) k s = tt
 
-stepFrom-numbered : (es : List Entry) (n : ℕ) (s : List ℕ) (c : Control) → Numbered (stepFrom es n s c)
+stepFrom-numbered : (sc : Schema) (n : ℕ) (s : List ℕ) (c : Control) → Numbered (stepFrom sc n s c)
 unfolding Numbered stepFrom
-stepFrom-numbered es n s Absent = tt
-stepFrom-numbered es n s Partial = omega arith
-stepFrom-numbered es n s (Whole tag len size) = go (leb len (length s - size))
+stepFrom-numbered sc n s Absent = tt
+stepFrom-numbered sc n s Partial = omega arith
+stepFrom-numbered sc n s (Whole tag len size) = go (leb len (length s - size))
   where
-    go : (t : Bool) → Numbered (cond t (stepByKind (find es n tag) size (take len (drop size s))) (Fault 4))
-    go true = stepByKind-numbered (find es n tag) size (take len (drop size s))
+    go : (t : Bool) → Numbered (cond t (stepByKind (sc .means n tag) size (take len (drop size s))) (Fault 4))
+    go true = stepByKind-numbered (sc .means n tag) size (take len (drop size s))
     go false = omega arith
 
 -- A reading that is refused has a number above 0.
@@ -65,7 +65,7 @@ unfolding Told inOrder
 inOrder-told f (accepted cut) r h k = onAccepted-told (f cut) r k
 inOrder-told f (refused number place) r h k = h
 
-module _ (es : List Entry) (inner : Inner) (below : (m field at : ℕ) (b : List ℕ) → Told (inner m field at b)) where
+module _ (sc : Schema) (inner : Inner) (below : (m field at : ℕ) (b : List ℕ) → Told (inner m field at b)) where
   after-told : (next : ℕ → List ℕ → Reading Cut) → ((at : ℕ) (r : List ℕ) → Told (next at r)) → (at : ℕ) (s : List ℕ) (p : Step) → Numbered p
       → Told (afterStep inner next at s p)
   unfolding Told Numbered afterStep
@@ -76,17 +76,17 @@ module _ (es : List Entry) (inner : Inner) (below : (m field at : ℕ) (b : List
       inOrder-told (Cut.nested (take k s)) (inner m at (at + k) (take l (drop k s))) (next (at + k + l) (drop (k + l) s))
       (below m at (at + k) (take l (drop k s))) (later (at + k + l) (drop (k + l) s))
 
-  fields-told : (n left at : ℕ) (s : List ℕ) → Told (fieldsFrom es inner n left at s)
+  fields-told : (n left at : ℕ) (s : List ℕ) → Told (fieldsFrom sc inner n left at s)
   unfolding Told fieldsFrom step
   fields-told n zero at s = omega arith
-  fields-told n (suc left) at s = after-told (fieldsFrom es inner n left) (fields-told n left) at s (step es n s) (stepFrom-numbered es n s (control s))
+  fields-told n (suc left) at s = after-told (fieldsFrom sc inner n left) (fields-told n left) at s (step sc n s) (stepFrom-numbered sc n s (control s))
 
-message-told : (es : List Entry) (levels n field at : ℕ) (s : List ℕ) → Told (messageFrom es levels n field at s)
+message-told : (sc : Schema) (levels n field at : ℕ) (s : List ℕ) → Told (messageFrom sc levels n field at s)
 unfolding Told messageFrom
-message-told es zero n field at s = omega arith
-message-told es (suc levels) n field at s = fields-told es (messageFrom es levels) (message-told es levels) n (suc (length s)) at s
+message-told sc zero n field at s = omega arith
+message-told sc (suc levels) n field at s = fields-told sc (messageFrom sc levels) (message-told sc levels) n (suc (length s)) at s
 
-pub refusal-positive : (es : List Entry) (levels n field at : ℕ) (s : List ℕ) (number place : ℕ)
-    → messageFrom es levels n field at s ≡ refused number place → 0 < number
+pub refusal-positive : (sc : Schema) (levels n field at : ℕ) (s : List ℕ) (number place : ℕ)
+    → messageFrom sc levels n field at s ≡ refused number place → 0 < number
 unfolding Told
-refusal-positive es levels n field at s number place e = subst Told e (message-told es levels n field at s)
+refusal-positive sc levels n field at s number place e = subst Told e (message-told sc levels n field at s)

@@ -14,7 +14,8 @@ use Rattle.octets.proofs.Number.{octets-append, octets-before, octets-after, nu
 use Rattle.octets.proofs.Integer.{integer-leastInt, integer-in-range, octets-leastInt, leastInt-no-shorter}
 use Rattle.octets.proofs.Shorter.{NoShorter, no-shorter-self, no-shorter-append, no-shorter-other, leastUint-no-shorter}
 use Rattle.octets.proofs.ControlPart.{control-bounds, control-leastControl, octets-leastControl, leastControl-least}
-use Rattle.hproto_table.specs.Entry.{Entry, find, innerOf}
+use Rattle.hproto_table.specs.Entry.{innerOf}
+use Rattle.hproto_table.specs.Schema.{Schema}
 use Rattle.hproto_table.specs.declared.Meaning.{Meaning}
 use Rattle.hproto_table.specs.declared.Meaning.the-variants.{Raw, Uint, Int, String, Text, Message}
 use Rattle.hproto_message.specs.Cut as cuts
@@ -99,25 +100,25 @@ joined-cutOf (Tree.leaf tag v rest) = rw (joined-cutOf rest)
 joined-cutOf (Tree.nested tag inside rest) = rw (joined-cutOf inside, joined-cutOf rest)
 
 -- What holds of the shortest form of the tree t of a cut.
-record Short (es : List Entry) (n : ℕ) (cut : Cut) (t : Tree) : Type 0 where
-  is : tree es n cut ≡ t
-  allowed : Allowed es n (cutOf t)
-  same-tree : tree es n (cutOf t) ≡ t
+record Short (sc : Schema) (n : ℕ) (cut : Cut) (t : Tree) : Type 0 where
+  is : tree sc n cut ≡ t
+  allowed : Allowed sc n (cutOf t)
+  same-tree : tree sc n (cutOf t) ≡ t
   same-depth : cuts.depth (cutOf t) ≡ cuts.depth cut
   no-shorter : NoShorter (shortest t) (joined cut)
   octets : Octets (shortest t)
 
-module _ (es : List Entry) (n : ℕ) where
-  short-end : Short es n Cut.end Tree.end
+module _ (sc : Schema) (n : ℕ) where
+  short-end : Short sc n Cut.end Tree.end
   unfolding tree Allowed cutOf cuts.depth shortest joined Octets
   short-end = record { is = refl; allowed = tt; same-tree = refl; same-depth = refl; no-shorter = no-shorter-self []; octets = tt }
 
-  short-leaf : (c b : List ℕ) (rest : Cut) (t : Tree) (f : LeafField es n c b) → Octets c → Octets b → Short es n rest t
-      → Short es n (Cut.leaf c b rest) (Tree.leaf (f .tag) (value (find es n (f .tag)) b) t)
+  short-leaf : (c b : List ℕ) (rest : Cut) (t : Tree) (f : LeafField sc n c b) → Octets c → Octets b → Short sc n rest t
+      → Short sc n (Cut.leaf c b rest) (Tree.leaf (f .tag) (value (sc .means n (f .tag)) b) t)
   unfolding tree Allowed cutOf cuts.depth shortest joined
   short-leaf c b rest t f oc ob later =
       let tag = f .tag in
-      let k = find es n tag in
+      let k = sc .means n tag in
       let less = lessened k b ob (f .allowed) in
       let fit = refitted tag c b (leastContents (value k b)) oc (less .octets) (f .whole) (less .no-shorter) in
       let r = leastContents (value k b) in
@@ -130,8 +131,8 @@ module _ (es : List Entry) (n : ℕ) where
         octets = octets-append (field tag r) (shortest t) (fit .octets) (later .octets);
       }
 
-  short-nested : (m : ℕ) (c : List ℕ) (inside rest : Cut) (u t : Tree) (f : NestedField es n m c (joined inside)) → Octets c → Short es m inside u
-      → Short es n rest t → Short es n (Cut.nested c inside rest) (Tree.nested (f .tag) u t)
+  short-nested : (m : ℕ) (c : List ℕ) (inside rest : Cut) (u t : Tree) (f : NestedField sc n m c (joined inside)) → Octets c → Short sc m inside u
+      → Short sc n rest t → Short sc n (Cut.nested c inside rest) (Tree.nested (f .tag) u t)
   unfolding tree Allowed cutOf cuts.depth shortest joined innerOf
   short-nested m c inside rest u t f oc inner later =
       let tag = f .tag in
@@ -150,53 +151,53 @@ module _ (es : List Entry) (n : ℕ) where
       }
 
 -- The tree of a cut of allowed fields has such a shortest form.
-short : (es : List Entry) (cut : Cut) (n : ℕ) → Allowed es n cut → Octets (joined cut) → Short es n cut (tree es n cut)
+short : (sc : Schema) (cut : Cut) (n : ℕ) → Allowed sc n cut → Octets (joined cut) → Short sc n cut (tree sc n cut)
 unfolding Allowed joined
-short es Cut.end n a o = unfold tree in short-end es n
-short es (Cut.leaf c b rest) n a o =
+short sc Cut.end n a o = unfold tree in short-end sc n
+short sc (Cut.leaf c b rest) n a o =
     let h = octets-before (c ++ b) (joined rest) o in
-    let s = short-leaf es n c b rest (tree es n rest) (a .0) (octets-before c b h) (octets-after c b h)
-    (short es rest n (a .1) (octets-after (c ++ b) (joined rest) o)) in
-    subst (Short es n (Cut.leaf c b rest)) (sym (s .is)) s
-short es (Cut.nested c inside rest) n a o =
+    let s = short-leaf sc n c b rest (tree sc n rest) (a .0) (octets-before c b h) (octets-after c b h)
+    (short sc rest n (a .1) (octets-after (c ++ b) (joined rest) o)) in
+    subst (Short sc n (Cut.leaf c b rest)) (sym (s .is)) s
+short sc (Cut.nested c inside rest) n a o =
     let h = octets-before (c ++ joined inside) (joined rest) o in
     let m = a .0 .0 in
-    let s = short-nested es n m c inside rest (tree es m inside) (tree es n rest) (a .0 .1) (octets-before c (joined inside) h)
-    (short es inside m (a .0 .2) (octets-after c (joined inside) h))
-    (short es rest n (a .1) (octets-after (c ++ joined inside) (joined rest) o)) in
-    subst (Short es n (Cut.nested c inside rest)) (sym (s .is)) s
+    let s = short-nested sc n m c inside rest (tree sc m inside) (tree sc n rest) (a .0 .1) (octets-before c (joined inside) h)
+    (short sc inside m (a .0 .2) (octets-after c (joined inside) h))
+    (short sc rest n (a .1) (octets-after (c ++ joined inside) (joined rest) o)) in
+    subst (Short sc n (Cut.nested c inside rest)) (sym (s .is)) s
 
 -- A message accepted with a cut, and its tree.
-module _ (es : List Entry) (levels n : ℕ) (s : List ℕ) (cut : Cut) (o : Octets s) (g : Good es levels n s cut) where
-  shortened : Short es n cut (tree es n cut)
-  shortened = short es cut n (g .allowed) (subst Octets (sym (g .divides)) o)
+module _ (sc : Schema) (levels n : ℕ) (s : List ℕ) (cut : Cut) (o : Octets s) (g : Good sc levels n s cut) where
+  shortened : Short sc n cut (tree sc n cut)
+  shortened = short sc cut n (g .allowed) (subst Octets (sym (g .divides)) o)
 
   -- The shortest form of a tree that octets read as has a good cut with that tree.
-  pub shortest-good : (other : Cut) × Good es levels n (shortest (tree es n cut)) other × (tree es n other ≡ tree es n cut)
+  pub shortest-good : (other : Cut) × Good sc levels n (shortest (tree sc n cut)) other × (tree sc n other ≡ tree sc n cut)
   shortest-good = (
-    cutOf (tree es n cut),
+    cutOf (tree sc n cut),
     record {
-      divides = joined-cutOf (tree es n cut);
+      divides = joined-cutOf (tree sc n cut);
       allowed = shortened .allowed;
       shallow = subst (λ (d : ℕ). d ≤ levels) (sym (shortened .same-depth)) (g .shallow);
     },
     shortened .same-tree,
   )
 
-  pub shortest-octets : Octets (shortest (tree es n cut))
+  pub shortest-octets : Octets (shortest (tree sc n cut))
   shortest-octets = shortened .octets
 
-  pub shortest-no-longer : length (shortest (tree es n cut)) ≤ length s
-  shortest-no-longer = subst (λ (x : List ℕ). length (shortest (tree es n cut)) ≤ length x) (g .divides) (shortened .no-shorter .long)
+  pub shortest-no-longer : length (shortest (tree sc n cut)) ≤ length s
+  shortest-no-longer = subst (λ (x : List ℕ). length (shortest (tree sc n cut)) ≤ length x) (g .divides) (shortened .no-shorter .long)
 
   -- All other octets, of any length, with a good cut and the same tree are more than the shortest form.
-  pub others-longer : (shortest (tree es n cut) ≡ s → ⊥) → length (shortest (tree es n cut)) < length s
+  pub others-longer : (shortest (tree sc n cut) ≡ s → ⊥) → length (shortest (tree sc n cut)) < length s
   others-longer ne =
-      no-shorter-other (shortest (tree es n cut)) s (subst (NoShorter (shortest (tree es n cut))) (g .divides) (shortened .no-shorter)) ne
+      no-shorter-other (shortest (tree sc n cut)) s (subst (NoShorter (shortest (tree sc n cut))) (g .divides) (shortened .no-shorter)) ne
 
 -- The depth of a tree is that of its cut.
-pub tree-depth : (es : List Entry) (cut : Cut) (n : ℕ) → trees.depth (tree es n cut) ≡ cuts.depth cut
+pub tree-depth : (sc : Schema) (cut : Cut) (n : ℕ) → trees.depth (tree sc n cut) ≡ cuts.depth cut
 unfolding tree trees.depth cuts.depth
-tree-depth es Cut.end n = refl
-tree-depth es (Cut.leaf c b rest) n = tree-depth es rest n
-tree-depth es (Cut.nested c inside rest) n = rw (tree-depth es inside (innerOf (find es n (tagOf (control c)))), tree-depth es rest n)
+tree-depth sc Cut.end n = refl
+tree-depth sc (Cut.leaf c b rest) n = tree-depth sc rest n
+tree-depth sc (Cut.nested c inside rest) n = rw (tree-depth sc inside (innerOf (sc .means n (tagOf (control c)))), tree-depth sc rest n)

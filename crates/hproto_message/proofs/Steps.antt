@@ -13,7 +13,7 @@ use Rattle.octets.specs.Control.{control}
 use Rattle.octets.specs.declared.Control.{Control}
 use Rattle.octets.specs.declared.Control.the-variants.{Absent, Partial, Whole}
 use Rattle.octets.proofs.ControlPart.{control-append, control-size, control-take, control-absent, control-nil}
-use Rattle.hproto_table.specs.Entry.{Entry, find}
+use Rattle.hproto_table.specs.Schema.{Schema}
 use Rattle.hproto_table.specs.declared.Meaning.{Meaning}
 use Rattle.hproto_table.specs.declared.Meaning.the-variants.{Raw, Uint, Int, String, Text, Message}
 use Rattle.hproto_message.specs.Cut.{WholeField, Contents, LeafField, NestedField}
@@ -28,26 +28,26 @@ split-in-three k l s =
     ∙ rw (← drop-drop l k s, take-append-drop l (drop k s)) (take-append-drop k s)
 
 -- What each answer of a step says of the octets.
-unfoldable pub StepMeans : List Entry → ℕ → List ℕ → Step → Type 0
-StepMeans es n s Done = s ≡ []
-StepMeans es n s (Fault number) = Unit {0}
-StepMeans es n s (Over k l) = LeafField es n (take k s) (take l (drop k s)) × (1 ≤ k) × (k + l ≤ length s)
-StepMeans es n s (Into m k l) = NestedField es n m (take k s) (take l (drop k s)) × (1 ≤ k) × (k + l ≤ length s)
+unfoldable pub StepMeans : Schema → ℕ → List ℕ → Step → Type 0
+StepMeans sc n s Done = s ≡ []
+StepMeans sc n s (Fault number) = Unit {0}
+StepMeans sc n s (Over k l) = LeafField sc n (take k s) (take l (drop k s)) × (1 ≤ k) × (k + l ≤ length s)
+StepMeans sc n s (Into m k l) = NestedField sc n m (take k s) (take l (drop k s)) × (1 ≤ k) × (k + l ≤ length s)
 
-module _ (es : List Entry) (n tag : ℕ) (s : List ℕ) (k l : ℕ) (w : WholeField tag (take k s) (take l (drop k s)))
+module _ (sc : Schema) (n tag : ℕ) (s : List ℕ) (k l : ℕ) (w : WholeField tag (take k s) (take l (drop k s)))
     (positive : 1 ≤ k) (inside : k + l ≤ length s) where
-  over-means : (m : Meaning) → find es n tag ≡ m → Contents m (take l (drop k s)) → StepMeans es n s (Over k l)
+  over-means : (m : Meaning) → sc .means n tag ≡ m → Contents m (take l (drop k s)) → StepMeans sc n s (Over k l)
   unfolding StepMeans
   over-means m e allowed =
       (record { tag = tag; whole = w; allowed = subst (λ (x : Meaning). Contents x (take l (drop k s))) (sym e) allowed }, positive, inside)
 
-  tested-means : (m : Meaning) → find es n tag ≡ m → (t : Bool) (number : ℕ) → (t ≡ true → Contents m (take l (drop k s)))
-      → StepMeans es n s (cond t (Over k l) (Fault number))
+  tested-means : (m : Meaning) → sc .means n tag ≡ m → (t : Bool) (number : ℕ) → (t ≡ true → Contents m (take l (drop k s)))
+      → StepMeans sc n s (cond t (Over k l) (Fault number))
   unfolding StepMeans
   tested-means m e true number allowed = over-means m e (allowed refl)
   tested-means m e false number allowed = tt
 
-  stepByKind-means : (m : Meaning) → find es n tag ≡ m → length (take l (drop k s)) ≡ l → StepMeans es n s (stepByKind m k (take l (drop k s)))
+  stepByKind-means : (m : Meaning) → sc .means n tag ≡ m → length (take l (drop k s)) ≡ l → StepMeans sc n s (stepByKind m k (take l (drop k s)))
   unfolding StepMeans stepByKind Contents
   stepByKind-means Raw e f = rw f (over-means Raw e tt)
   stepByKind-means Uint e f = rw f (tested-means Uint e (leb l 8) 6 (λ t. leb-true (length (take l (drop k s))) 8 (rw f t)))
@@ -56,14 +56,14 @@ module _ (es : List Entry) (n tag : ℕ) (s : List ℕ) (k l : ℕ) (w : WholeFi
   stepByKind-means Text e f = rw f (tested-means Text e (text (take l (drop k s))) 7 (λ t. subst T (sym t) tt))
   stepByKind-means (Message m) e f = rw f (record { tag = tag; whole = w; allowed = e }, positive, inside)
 
-stepFrom-means : (es : List Entry) (n : ℕ) (s : List ℕ) (k : Control) → control s ≡ k → StepMeans es n s (stepFrom es n s k)
+stepFrom-means : (sc : Schema) (n : ℕ) (s : List ℕ) (k : Control) → control s ≡ k → StepMeans sc n s (stepFrom sc n s k)
 unfolding StepMeans stepFrom
-stepFrom-means es n s Absent e = control-absent s e
-stepFrom-means es n s Partial e = tt
-stepFrom-means es n s (Whole tag len size) e = go (leb len (length s - size)) refl
+stepFrom-means sc n s Absent e = control-absent s e
+stepFrom-means sc n s Partial e = tt
+stepFrom-means sc n s (Whole tag len size) e = go (leb len (length s - size)) refl
   where
     go : (t : Bool) → leb len (length s - size) ≡ t
-        → StepMeans es n s (cond t (stepByKind (find es n tag) size (take len (drop size s))) (Fault 4))
+        → StepMeans sc n s (cond t (stepByKind (sc .means n tag) size (take len (drop size s))) (Fault 4))
     go true t =
         let fits = control-size s tag len size e in
         let p = fits .0 in
@@ -72,19 +72,19 @@ stepFrom-means es n s (Whole tag len size) e = go (leb len (length s - size)) re
         let c = length-take-le size s q in
         let d = length-drop size s in
         let b = length-take-le len (drop size s) (omega arith) in
-        stepByKind-means es n tag s size len (record { control-part = rw (b, c) (control-take s tag len size e) }) p (omega arith)
-        (find es n tag) refl b
+        stepByKind-means sc n tag s size len (record { control-part = rw (b, c) (control-take s tag len size e) }) p (omega arith)
+        (sc .means n tag) refl b
     go false t = tt
 
-pub step-means : (es : List Entry) (n : ℕ) (s : List ℕ) → StepMeans es n s (step es n s)
+pub step-means : (sc : Schema) (n : ℕ) (s : List ℕ) → StepMeans sc n s (step sc n s)
 unfolding step
-step-means es n s = stepFrom-means es n s (control s) refl
+step-means sc n s = stepFrom-means sc n s (control s) refl
 
 -- A whole and allowed field at the front of octets is what the step finds.
-found : (es : List Entry) (n tag : ℕ) (c b rest : List ℕ) → WholeField tag c b
-    → step es n (c ++ b ++ rest) ≡ stepByKind (find es n tag) (length c) b
+found : (sc : Schema) (n tag : ℕ) (c b rest : List ℕ) → WholeField tag c b
+    → step sc n (c ++ b ++ rest) ≡ stepByKind (sc .means n tag) (length c) b
 unfolding step stepFrom
-found es n tag c b rest w =
+found sc n tag c b rest w =
     let s = c ++ b ++ rest in
     let a = append-assoc c b rest in
     let k : control s ≡ Whole tag (length b) (length c) = rw a (control-append c (b ++ rest) tag (length b) (length c) (w .control-part)) in
@@ -93,9 +93,9 @@ found es n tag c b rest w =
     let f : leb (length b) (length s - length c) ≡ true = le-leb (length b) (length s - length c) (omega arith) in
     rw (k, f, d, take-at b rest (length b) refl)
 
-pub step-of-leaf : (es : List Entry) (n : ℕ) (c b rest : List ℕ) → LeafField es n c b → step es n (c ++ b ++ rest) ≡ Over (length c) (length b)
+pub step-of-leaf : (sc : Schema) (n : ℕ) (c b rest : List ℕ) → LeafField sc n c b → step sc n (c ++ b ++ rest) ≡ Over (length c) (length b)
 unfolding stepByKind Contents
-step-of-leaf es n c b rest f = found es n (f .tag) c b rest (f .whole) ∙ go (find es n (f .tag)) (f .allowed)
+step-of-leaf sc n c b rest f = found sc n (f .tag) c b rest (f .whole) ∙ go (sc .means n (f .tag)) (f .allowed)
   where
     passed : (t : Bool) → T t → cond t (Over (length c) (length b)) (Fault 7) ≡ Over (length c) (length b)
     passed true h = refl
@@ -109,14 +109,14 @@ step-of-leaf es n c b rest f = found es n (f .tag) c b rest (f .whole) ∙ go (f
     go Text h = passed (text b) h
     go (Message m) h = absurd h
 
-pub step-of-nested : (es : List Entry) (n m : ℕ) (c b rest : List ℕ) → NestedField es n m c b
-    → step es n (c ++ b ++ rest) ≡ Into m (length c) (length b)
+pub step-of-nested : (sc : Schema) (n m : ℕ) (c b rest : List ℕ) → NestedField sc n m c b
+    → step sc n (c ++ b ++ rest) ≡ Into m (length c) (length b)
 unfolding stepByKind
-step-of-nested es n m c b rest f = found es n (f .tag) c b rest (f .whole) ∙ rw (f .allowed)
+step-of-nested sc n m c b rest f = found sc n (f .tag) c b rest (f .whole) ∙ rw (f .allowed)
 
-pub step-of-end : (es : List Entry) (n : ℕ) → step es n [] ≡ Done
+pub step-of-end : (sc : Schema) (n : ℕ) → step sc n [] ≡ Done
 unfolding step stepFrom
-step-of-end es n = rw control-nil
+step-of-end sc n = rw control-nil
 
 -- The parts that a step's sizes name.
 pub record InThree (c b rest : List ℕ) : Type 0 where

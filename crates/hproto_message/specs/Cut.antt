@@ -8,7 +8,7 @@ use Rattle.octets.specs.Text.{text}
 use Rattle.octets.specs.Control.{control}
 use Rattle.octets.specs.declared.Control.{Control}
 use Rattle.octets.specs.declared.Control.the-variants.{Whole}
-use Rattle.hproto_table.specs.Entry.{Entry, find}
+use Rattle.hproto_table.specs.Schema.{Schema}
 use Rattle.hproto_table.specs.declared.Meaning.{Meaning}
 use Rattle.hproto_table.specs.declared.Meaning.the-variants.{Raw, Uint, Int, String, Text, Message}
 
@@ -45,26 +45,26 @@ Contents Text s = T (text s)
 Contents (Message m) s = ⊥
 
 -- A field that the table allows (document 01's term) in messages of a number, and that is no message.
-pub record LeafField (es : List Entry) (number : ℕ) (part contents : List ℕ) : Type 0 where
+pub record LeafField (sc : Schema) (number : ℕ) (part contents : List ℕ) : Type 0 where
   pub tag : ℕ
   pub whole : WholeField tag part contents
-  pub allowed : Contents (find es number tag) contents
+  pub allowed : Contents (sc .means number tag) contents
 
 -- A field that the table makes a message of the number `inner`.
-pub record NestedField (es : List Entry) (number inner : ℕ) (part contents : List ℕ) : Type 0 where
+pub record NestedField (sc : Schema) (number inner : ℕ) (part contents : List ℕ) : Type 0 where
   pub tag : ℕ
   pub whole : WholeField tag part contents
-  pub allowed : find es number tag ≡ Message inner
+  pub allowed : sc .means number tag ≡ Message inner
 
 -- Every field of a cut, at all depths, is whole and allowed.
-unfoldable pub Allowed : List Entry → ℕ → Cut → Type 0
-Allowed es n end = Unit {0}
-Allowed es n (leaf part contents rest) = LeafField es n part contents × Allowed es n rest
-Allowed es n (nested part inside rest) =
-    ((m : ℕ) × NestedField es n m part (joined inside) × Allowed es m inside) × Allowed es n rest
+unfoldable pub Allowed : Schema → ℕ → Cut → Type 0
+Allowed sc n end = Unit {0}
+Allowed sc n (leaf part contents rest) = LeafField sc n part contents × Allowed sc n rest
+Allowed sc n (nested part inside rest) =
+    ((m : ℕ) × NestedField sc n m part (joined inside) × Allowed sc m inside) × Allowed sc n rest
 
 -- A good cut of octets, under a table and a message number, at most `levels` messages deep.
-pub record Good (es : List Entry) (levels number : ℕ) (octets : List ℕ) (cut : Cut) : Type 0 where
+pub record Good (sc : Schema) (levels number : ℕ) (octets : List ℕ) (cut : Cut) : Type 0 where
   pub divides : joined cut ≡ octets
-  pub allowed : Allowed es number cut
+  pub allowed : Allowed sc number cut
   pub shallow : depth cut ≤ levels

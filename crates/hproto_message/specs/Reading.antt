@@ -8,7 +8,7 @@ use Rattle.octets.specs.Text.{text}
 use Rattle.octets.specs.Control.{control}
 use Rattle.octets.specs.declared.Control.{Control}
 use Rattle.octets.specs.declared.Control.the-variants.{Absent, Partial, Whole}
-use Rattle.hproto_table.specs.Entry.{Entry, find}
+use Rattle.hproto_table.specs.Schema.{Schema}
 use Rattle.hproto_table.specs.declared.Meaning.{Meaning}
 use Rattle.hproto_table.specs.declared.Meaning.the-variants.{Raw, Uint, Int, String, Text, Message}
 use Rattle.reading.specs.Reading.{Reading, accepted, refused, onAccepted, inOrder, IsAccepted}
@@ -26,14 +26,14 @@ stepByKind Text size s = cond (text s) (Over size (length s)) (Fault 7)
 stepByKind (Message m) size s = Into m size (length s)
 
 -- The field at the front of octets, by its control part. The length that it announces has to fit the octets behind it.
-unfoldable pub stepFrom : List Entry → ℕ → List ℕ → Control → Step
-stepFrom es n s Absent = Done
-stepFrom es n s Partial = Fault 3
-stepFrom es n s (Whole tag len size) = cond (leb len (length s - size)) (stepByKind (find es n tag) size (take len (drop size s))) (Fault 4)
+unfoldable pub stepFrom : Schema → ℕ → List ℕ → Control → Step
+stepFrom sc n s Absent = Done
+stepFrom sc n s Partial = Fault 3
+stepFrom sc n s (Whole tag len size) = cond (leb len (length s - size)) (stepByKind (sc .means n tag) size (take len (drop size s))) (Fault 4)
 
 -- What stands at the front of octets in a message of a number.
-unfoldable pub step : List Entry → ℕ → List ℕ → Step
-step es n s = stepFrom es n s (control s)
+unfoldable pub step : Schema → ℕ → List ℕ → Step
+step sc n s = stepFrom sc n s (control s)
 
 -- How a nested message is read: its number, the place of its field, the place of its contents, and its contents.
 abbrev pub Inner : Type 0
@@ -48,20 +48,20 @@ afterStep inner next at s (Into m k l) =
     inOrder (nested (take k s)) (inner m at (at + k) (take l (drop k s))) (next (at + k + l) (drop (k + l) s))
 
 -- The fields of one message, from a place on. `left` bounds the fields that are still looked at.
-unfoldable pub fieldsFrom : List Entry → Inner → ℕ → ℕ → ℕ → List ℕ → Reading Cut
-fieldsFrom es inner n zero at s = refused 3 at
-fieldsFrom es inner n (suc left) at s = afterStep inner (fieldsFrom es inner n left) at s (step es n s)
+unfoldable pub fieldsFrom : Schema → Inner → ℕ → ℕ → ℕ → List ℕ → Reading Cut
+fieldsFrom sc inner n zero at s = refused 3 at
+fieldsFrom sc inner n (suc left) at s = afterStep inner (fieldsFrom sc inner n left) at s (step sc n s)
 
 -- A message of a number, at most `levels` messages deep. With none left it is refused with 5, at the field that holds it. A field takes
 -- an octet or more, so one look more than there are octets is enough.
-unfoldable pub messageFrom : List Entry → ℕ → Inner
-messageFrom es zero n field at s = refused 5 field
-messageFrom es (suc levels) n field at s = fieldsFrom es (messageFrom es levels) n (suc (length s)) at s
+unfoldable pub messageFrom : Schema → ℕ → Inner
+messageFrom sc zero n field at s = refused 5 field
+messageFrom sc (suc levels) n field at s = fieldsFrom sc (messageFrom sc levels) n (suc (length s)) at s
 
 -- The outermost message: its cut, or the first refusal.
-unfoldable pub reading : List Entry → ℕ → List ℕ → Reading Cut
-reading es n s = messageFrom es 8 n 0 0 s
+unfoldable pub reading : Schema → ℕ → List ℕ → Reading Cut
+reading sc n s = messageFrom sc 8 n 0 0 s
 
 -- A message of a number, at most `levels` messages deep, is accepted.
-unfoldable pub Accepts : List Entry → ℕ → ℕ → List ℕ → Type 0
-Accepts es levels n s = IsAccepted (messageFrom es levels n 0 0 s)
+unfoldable pub Accepts : Schema → ℕ → ℕ → List ℕ → Type 0
+Accepts sc levels n s = IsAccepted (messageFrom sc levels n 0 0 s)

@@ -5,6 +5,7 @@ use mathlib.Core.List.{List, [], _∷_}
 use lib.IntN.{ℤ, pos, negsuc}
 use lib.ListN.{replicate}
 use Rattle.hproto_table.specs.Entry.{Entry}
+use Rattle.hproto_table.specs.Schema.{Schema, schemaOf}
 use Rattle.hproto_message.specs.Tree.{Tree, end, leaf, nested, uint, int, tree}
 use Rattle.reading.specs.Reading.{Reading, accepted, refused}
 use Rattle.hproto_message.specs.Cut.{Cut}
@@ -16,9 +17,9 @@ pub data Outcome : Type 0 where
   reads : Tree → List ℕ → Outcome
   refuses : ℕ → ℕ → Outcome
 
-unfoldable pub outcomeOf : List Entry → Reading Cut → Outcome
-outcomeOf es (accepted cut) = reads (tree es 0 cut) (shortest (tree es 0 cut))
-outcomeOf es (refused number place) = refuses number place
+unfoldable pub outcomeOf : Schema → Reading Cut → Outcome
+outcomeOf sc (accepted cut) = reads (tree sc 0 cut) (shortest (tree sc 0 cut))
+outcomeOf sc (refused number place) = refuses number place
 
 -- A sample: a table, a message with number 0, and what is expected of it.
 pub record Sample : Type 0 where
@@ -27,7 +28,7 @@ pub record Sample : Type 0 where
   pub expected : Outcome
 
 unfoldable pub outcome : Sample → Outcome
-outcome x = outcomeOf (x .table) (reading (x .table) 0 (x .message))
+outcome x = outcomeOf (schemaOf (x .table)) (reading (schemaOf (x .table)) 0 (x .message))
 
 -- Every sample of a list comes out as expected.
 unfoldable pub Hold : List Sample → Type 0

@@ -7,7 +7,8 @@ use Rattle.octets.specs.Signed.{integer}
 use Rattle.octets.specs.Control.{control}
 use Rattle.octets.specs.declared.Control.{Control}
 use Rattle.octets.specs.declared.Control.the-variants.{Absent, Partial, Whole}
-use Rattle.hproto_table.specs.Entry.{Entry, find, innerOf}
+use Rattle.hproto_table.specs.Entry.{innerOf}
+use Rattle.hproto_table.specs.Schema.{Schema}
 use Rattle.hproto_table.specs.declared.Meaning.{Meaning}
 use Rattle.hproto_table.specs.declared.Meaning.the-variants.{Raw, Uint, Int, String, Text, Message}
 use Rattle.hproto_message.specs.Cut.{Cut}
@@ -54,8 +55,8 @@ value Text s = text s
 value (Message m) s = raw s
 
 -- The tree that a cut gives under a table and a message number.
-unfoldable pub tree : List Entry → ℕ → Cut → Tree
-tree es n Cut.end = Tree.end
-tree es n (Cut.leaf c s rest) = Tree.leaf (tagOf (control c)) (value (find es n (tagOf (control c))) s) (tree es n rest)
-tree es n (Cut.nested c inside rest) =
-    Tree.nested (tagOf (control c)) (tree es (innerOf (find es n (tagOf (control c)))) inside) (tree es n rest)
+unfoldable pub tree : Schema → ℕ → Cut → Tree
+tree sc n Cut.end = Tree.end
+tree sc n (Cut.leaf c s rest) = Tree.leaf (tagOf (control c)) (value (sc .means n (tagOf (control c))) s) (tree sc n rest)
+tree sc n (Cut.nested c inside rest) =
+    Tree.nested (tagOf (control c)) (tree sc (innerOf (sc .means n (tagOf (control c)))) inside) (tree sc n rest)

@@ -5,3 +5,4 @@ pub mod Load
 pub mod Valid
 pub mod Placed
 pub mod Records
+pub mod Schemas
