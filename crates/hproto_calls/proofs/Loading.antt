@@ -7,17 +7,16 @@ use mathlib.Core.List.{List, []}
 use lib.ListN.{length, replicate}
 use borrow.Author.Tests.{le-ltb, lt-ltb, eq-eqb, ne-eqb}
 use Rattle.octets.specs.Number.{Octets}
-use Rattle.hproto_table.specs.Entry.{entries}
+use Rattle.hproto_table.specs.Schema.{schema}
 use Rattle.hproto_table.specs.Load.{wordAt, load}
 use Rattle.hproto_table.specs.Valid.{valid}
 use Rattle.hproto_table.specs.declared.Table.{Table}
 use Rattle.hproto_table.specs.declared.Loaded.{Loaded}
-use Rattle.hproto_table.specs.SameFinds.{SameFinds}
 use Rattle.hproto_table.proofs.Placed.{loaded-valid}
-use Rattle.hproto_index.specs.Slots.{notedBefore, takenFrom, listed}
-use Rattle.hproto_index.proofs.Loaded.{taken-few, octets-accepted, octets-entries}
-use Rattle.hproto_check.proofs.SameFinds.{indexed-check}
-use Rattle.hproto_shorten.proofs.SameFinds.{indexed-answer, indexed-buffer}
+use Rattle.hproto_index.specs.Slots.{notedBefore, takenFrom, indexed}
+use Rattle.hproto_index.proofs.Loaded.{taken-few, octets-accepted, octets-schema}
+use Rattle.hproto_check.proofs.Counts.{under-valid}
+use Rattle.hproto_shorten.proofs.Answers.{answer-under, buffer-under}
 use Rattle.hproto_calls.specs.Calls.{withTable, checkOctets, shortenOctets, shortenBuffer}
 use Rattle.reading.specs.Reading.{messageLimit}
 use Rattle.reading.specs.Checks as answers
@@ -48,28 +47,28 @@ module _ (octets s : List ℕ) (o : Octets octets) (h : length s ≤ 65536) (n :
   loads : load octets .refusal ≡ 0
   loads = octets-accepted octets n counted whole
 
-  same : SameFinds (listed slots ws) (entries (load octets .table))
-  same = octets-entries octets n counted whole slots ws noted none
+  same : indexed slots ws ≡ schema (load octets .table)
+  same = octets-schema octets n counted whole slots ws noted none
 
   good : valid (load octets .table) ≡ true
   good = loaded-valid octets (load octets) o refl loads
 
-  pub check-by-index : checkUnder (listed slots ws) m s ≡ checkOctets octets m s
+  pub check-by-index : checkUnder (indexed slots ws) m s ≡ checkOctets octets m s
   unfolding checkOctets
   check-by-index =
-      indexed-check (load octets .table) m s slots ws h good same
+      under-valid (load octets .table) m s h good (indexed slots ws) same
       ∙ table-loaded octets s (λ (t : Table). check t m s) answers.refusal h (load octets) refl loads
 
-  pub shorten-by-index : (out : List ℕ) → answerUnder (listed slots ws) m s out ≡ shortenOctets octets m s out
+  pub shorten-by-index : (out : List ℕ) → answerUnder (indexed slots ws) m s out ≡ shortenOctets octets m s out
   unfolding shortenOctets
   shorten-by-index out =
-      indexed-answer (load octets .table) (listed slots ws) same m s out h good
+      answer-under (load octets .table) (indexed slots ws) same m s out h good
       ∙ table-loaded octets s (λ (t : Table). answer t m s out) shortens.refusal h (load octets) refl loads
 
-  pub buffer-by-index : (out : List ℕ) → bufferUnder (listed slots ws) m s out ≡ shortenBuffer octets m s out
+  pub buffer-by-index : (out : List ℕ) → bufferUnder (indexed slots ws) m s out ≡ shortenBuffer octets m s out
   unfolding shortenBuffer
   buffer-by-index out =
-      indexed-buffer (load octets .table) (listed slots ws) same m s out h good
+      buffer-under (load octets .table) (indexed slots ws) same m s out h good
       ∙ table-loaded octets s (λ (t : Table). buffer t m s out) (λ (number place : ℕ). out) h (load octets) refl loads
 
 -- An index has at most 64 records.

@@ -7,7 +7,7 @@ ghost use mathlib.Core.Path.{_≡_};
 ghost use Prim.Native.Nat.{_+_, _≤_};
 ghost use lib.ListN.{length};
 ghost use Rattle.reading.specs.Reading.{messageLimit};
-ghost use Rattle.hproto_index.specs.Slots.{listed};
+ghost use Rattle.hproto_index.specs.Slots.{indexed};
 ghost use Rattle.hproto_message.specs.Reading.{messageFrom};
 ghost use Rattle.hproto_check.specs.Check.{check as check-of, checkUnder};
 ghost use Rattle.hproto_check.specs.Walks.{walk as walk-of};
@@ -25,7 +25,7 @@ fn nested(
 ) -> Walk
     requires { ⌜ at + length (now s) ≤ messageLimit ⌝ }
     requires { ⌜ levels ≤ 8 ⌝ }
-    ensures { λ r. ⌜ r ≡ walk-of (messageFrom (listed (now (slots .entry)) (now (rest .entry))) levels n from at (now (s .entry))) ⌝ }
+    ensures { λ r. ⌜ r ≡ walk-of (messageFrom (indexed (now (slots .entry)) (now (rest .entry))) levels n from at (now (s .entry))) ⌝ }
 {
     if levels == 0 {
         return Walk::Refused(5, from);
@@ -62,7 +62,7 @@ fn nested(
 // The check under an index and words, whatever they are. It is no entry: an entry refuses with 2 words that no loader gives. A caller that
 // has just loaded the table, or tested it, need not have it tested again.
 pub fn check_under(slots: &[u16; 256], words: &[u64], number: u64, message: &[u8]) -> Checked
-    ensures { λ r. ⌜ r ≡ checkUnder (listed (now (slots .entry)) (now (words .entry))) number (now (message .entry)) ⌝ }
+    ensures { λ r. ⌜ r ≡ checkUnder (indexed (now (slots .entry)) (now (words .entry))) number (now (message .entry)) ⌝ }
 {
     if 65536 < message.len() {
         return reading::refused(1, 0);

@@ -11,37 +11,37 @@ use Rattle.octets.specs.Control.{control}
 use Rattle.octets.specs.declared.Control.{Control}
 use Rattle.octets.specs.declared.Control.the-variants.{Absent, Partial, Whole}
 use Rattle.octets.proofs.ControlPart.{control-size}
-use Rattle.hproto_table.specs.Entry.{Entry, find}
+use Rattle.hproto_table.specs.Schema.{Schema}
 use Rattle.hproto_table.specs.declared.Meaning.{Meaning}
 use Rattle.hproto_field.specs.Fronts.{nothing, partFrom, part, fieldOf, front}
 use Rattle.hproto_field.specs.declared.Extent.the-variants.{None, Found}
 use Rattle.hproto_message.specs.Reading.{step, stepFrom, stepByKind}
 use Rattle.hproto_message.specs.declared.Step.the-variants.{Done, Fault}
 
-module _ (es : List Entry) (n : ℕ) (s : List ℕ) where
-  pub at-end : control s ≡ Absent → Done ≡ step es n s
+pub size-inside : (s : List ℕ) (tag len size : ℕ) → control s ≡ Whole tag len size → size ≤ length s
+size-inside s tag len size e = control-size s tag len size e .1
+
+module _ (sc : Schema) (n : ℕ) (s : List ℕ) where
+  pub at-end : control s ≡ Absent → Done ≡ step sc n s
   unfolding step stepFrom
   at-end e = rw e
 
-  pub in-control : control s ≡ Partial → Fault 3 ≡ step es n s
+  pub in-control : control s ≡ Partial → Fault 3 ≡ step sc n s
   unfolding step stepFrom
   in-control e = rw e
 
   module _ (tag len size : ℕ) (e : control s ≡ Whole tag len size) where
-    pub size-inside : size ≤ length s
-    size-inside = control-size s tag len size e .1
-
-    pub past-end : length s - size < len → Fault 4 ≡ step es n s
+    pub past-end : length s - size < len → Fault 4 ≡ step sc n s
     unfolding step stepFrom
     past-end h = rw (e, lt-leb len (length s - size) h)
 
-    pub whole-field : len ≤ length s - size → stepByKind (find es n tag) size (take (size + len - size) (drop size s)) ≡ step es n s
+    pub whole-field : len ≤ length s - size → stepByKind (sc .means n tag) size (take (size + len - size) (drop size s)) ≡ step sc n s
     unfolding step stepFrom
     whole-field h =
         let k : size + len - size ≡ len = omega arith in
         rw (e, le-leb len (length s - size) h, k)
 
-    pub front-whole : len ≤ length s - size → front es n s ≡ record { tag = tag; kind = find es n tag; control = size; contents = len }
+    pub front-whole : len ≤ length s - size → front sc n s ≡ record { tag = tag; kind = sc .means n tag; control = size; contents = len }
     unfolding front fieldOf part partFrom
     front-whole h = rw (e, le-leb len (length s - size) h)
 
@@ -67,13 +67,13 @@ module _ (s : List ℕ) where
 
 -- ---- the field by what its tag means
 
-module _ (es : List Entry) (n : ℕ) (s : List ℕ) where
-  pub front-none : None ≡ part s → nothing ≡ front es n s
+module _ (sc : Schema) (n : ℕ) (s : List ℕ) where
+  pub front-none : None ≡ part s → nothing ≡ front sc n s
   unfolding front fieldOf
   front-none e = rw (← e)
 
-  pub front-found : (tag size len : ℕ) (kind : Meaning) → Found tag size len ≡ part s → kind ≡ find es n tag
-      → record { tag = tag; kind = kind; control = size; contents = len } ≡ front es n s
+  pub front-found : (tag size len : ℕ) (kind : Meaning) → Found tag size len ≡ part s → kind ≡ sc .means n tag
+      → record { tag = tag; kind = kind; control = size; contents = len } ≡ front sc n s
   unfolding front fieldOf
   front-found tag size len kind e k = rw (← e, k)
 

@@ -8,7 +8,7 @@ use lib.Seq.{drop-drop}
 use Rattle.octets.specs.Control.{control}
 use Rattle.octets.specs.declared.Control.the-variants.{Whole}
 use Rattle.octets.proofs.ControlPart.{control-size}
-use Rattle.hproto_table.specs.Entry.{Entry, find}
+use Rattle.hproto_table.specs.Schema.{Schema}
 use Rattle.hproto_table.specs.declared.Meaning.the-variants.{Message}
 use Rattle.hproto_message.specs.Cut.{Cut, end, Contents, Good}
 use Rattle.hproto_message.specs.Tree.{Tree, value, tree}
@@ -19,34 +19,34 @@ use Rattle.hproto_field.proofs.Fields.{front-whole}
 use Rattle.hproto_field.specs.declared.Field.{Field}
 
 -- A cut that is good with fewer levels is good with more.
-pub good-deeper : (es : List Entry) (levels more n : ℕ) (s : List ℕ) (cut : Cut) → levels ≤ more → Good es levels n s cut → Good es more n s cut
-good-deeper es levels more n s cut h g = let k = g .shallow in record { divides = g .divides; allowed = g .allowed; shallow = omega arith }
+pub good-deeper : (sc : Schema) (levels more n : ℕ) (s : List ℕ) (cut : Cut) → levels ≤ more → Good sc levels n s cut → Good sc more n s cut
+good-deeper sc levels more n s cut h g = let k = g .shallow in record { divides = g .divides; allowed = g .allowed; shallow = omega arith }
 
-module _ (es : List Entry) (levels n : ℕ) (s : List ℕ) where
+module _ (sc : Schema) (levels n : ℕ) (s : List ℕ) where
   -- After i octets, the fields that are left.
   pub record Left (i : ℕ) : Type 0 where
     pub rest : Cut
-    pub good : Good es (suc levels) n (drop i s) rest
+    pub good : Good sc (suc levels) n (drop i s) rest
     pub inside : i ≤ length s
 
-  abbrev pub all-left : (cut : Cut) → Good es (suc levels) n s cut → Left 0
+  abbrev pub all-left : (cut : Cut) → Good sc (suc levels) n s cut → Left 0
   all-left cut g = record { rest = cut; good = g; inside = omega arith }
 
   pub none-left : (i : ℕ) (p : Left i) → length s ≤ i → p .rest ≡ end
   none-left i p h =
       let k = p .inside in
-      nothing-left es (suc levels) n (drop i s) (p .rest) (p .good) (simp length-drop (omega arith))
+      nothing-left sc (suc levels) n (drop i s) (p .rest) (p .good) (simp length-drop (omega arith))
 
-  module _ (i : ℕ) (p : Left i) (more : i < length s) (f : Field) (found : f ≡ front es n (drop i s)) where
+  module _ (i : ℕ) (p : Left i) (more : i < length s) (f : Field) (found : f ≡ front sc n (drop i s)) where
     -- The field that the code found at the octets that are left.
-    pub front-is : (control (drop i s) ≡ Whole (f .tag) (f .contents) (f .control)) × (f .kind ≡ find es n (f .tag))
+    pub front-is : (control (drop i s) ≡ Whole (f .tag) (f .contents) (f .control)) × (f .kind ≡ sc .means n (f .tag))
     front-is =
         let d = length-drop i s in
-        let w = fronted es (suc levels) n (drop i s) (p .rest) (p .good) (omega arith) in
+        let w = fronted sc (suc levels) n (drop i s) (p .rest) (p .good) (omega arith) in
         let b = w .inside in
-        let e = found ∙ front-whole es n (drop i s) (w .tag) (w .len) (w .size) (w .control-part) (omega arith) in
+        let e = found ∙ front-whole sc n (drop i s) (w .tag) (w .len) (w .size) (w .control-part) (omega arith) in
         let t : f .tag ≡ w .tag = ap (λ (x : Field). x .tag) e in
-        let k : f .kind ≡ find es n (w .tag) = ap (λ (x : Field). x .kind) e in
+        let k : f .kind ≡ sc .means n (w .tag) = ap (λ (x : Field). x .kind) e in
         let l : f .contents ≡ w .len = ap (λ (x : Field). x .contents) e in
         let z : f .control ≡ w .size = ap (λ (x : Field). x .control) e in
         (rw (t, l, z) (w .control-part), rw t k)
@@ -71,7 +71,7 @@ module _ (es : List Entry) (levels n : ℕ) (s : List ℕ) where
         let e = front-is .0 in
         let d = length-drop i s in
         let x = control-size (drop i s) (f .tag) (f .contents) (f .control) e .0 in
-        let w = fronted es (suc levels) n (drop i s) (p .rest) (p .good) (omega arith) in
+        let w = fronted sc (suc levels) n (drop i s) (p .rest) (p .good) (omega arith) in
         let z = w .inside in
         let wc = w .control-part in
         let l : w .len ≡ f .contents = cc in
@@ -83,14 +83,14 @@ module _ (es : List Entry) (levels n : ℕ) (s : List ℕ) where
     pub record LeafNext : Type 0 where
       pub left : Left (i + f .control + f .contents)
       pub contents : Contents (f .kind) part
-      pub tree-is : tree es n (p .rest) ≡ Tree.leaf (f .tag) (value (f .kind) part) (tree es n (left .rest))
+      pub tree-is : tree sc n (p .rest) ≡ Tree.leaf (f .tag) (value (f .kind) part) (tree sc n (left .rest))
 
     pub leaf-next : Plain (f .kind) → LeafNext
     leaf-next q =
         let k = front-is .1 in
-        let x = next-leaf es levels n (f .tag) (f .contents) (f .control) (drop i s) (p .rest) (p .good) (front-is .0) (subst Plain k q) in
+        let x = next-leaf sc levels n (f .tag) (f .contents) (f .control) (drop i s) (p .rest) (p .good) (front-is .0) (subst Plain k q) in
         record {
-          left = record { rest = x .rest; good = subst (λ (r : List ℕ). Good es (suc levels) n r (x .rest)) rest-is (x .good); inside = ends .1 };
+          left = record { rest = x .rest; good = subst (λ (r : List ℕ). Good sc (suc levels) n r (x .rest)) rest-is (x .good); inside = ends .1 };
           contents = rw (k, ← part-is) (x .contents);
           tree-is = x .tree-is ∙ rw (part-is, ← k);
         }
@@ -99,19 +99,19 @@ module _ (es : List Entry) (levels n : ℕ) (s : List ℕ) where
     pub record NestedNext (m : ℕ) : Type 0 where
       pub left : Left (i + f .control + f .contents)
       pub inner : Cut
-      pub good-inner : Good es levels m part inner
+      pub good-inner : Good sc levels m part inner
       pub positive : 1 ≤ levels
-      pub tree-is : tree es n (p .rest) ≡ Tree.nested (f .tag) (tree es m inner) (tree es n (left .rest))
+      pub tree-is : tree sc n (p .rest) ≡ Tree.nested (f .tag) (tree sc m inner) (tree sc n (left .rest))
 
     pub nested-next : (m : ℕ) → f .kind ≡ Message m → NestedNext m
     nested-next m q =
         let k = front-is .1 in
-        let x = next-nested es levels n (f .tag) (f .contents) (f .control) (drop i s) (p .rest) (p .good) (front-is .0) m (sym k ∙ q) in
-        let g = subst (λ (r : List ℕ). Good es levels m r (x .inner)) part-is (x .good-inner) in
+        let x = next-nested sc levels n (f .tag) (f .contents) (f .control) (drop i s) (p .rest) (p .good) (front-is .0) m (sym k ∙ q) in
+        let g = subst (λ (r : List ℕ). Good sc levels m r (x .inner)) part-is (x .good-inner) in
         let y = g .shallow in
         let z = depth-positive (x .inner) in
         record {
-          left = record { rest = x .rest; good = subst (λ (r : List ℕ). Good es (suc levels) n r (x .rest)) rest-is (x .good); inside = ends .1 };
+          left = record { rest = x .rest; good = subst (λ (r : List ℕ). Good sc (suc levels) n r (x .rest)) rest-is (x .good); inside = ends .1 };
           inner = x .inner;
           good-inner = g;
           positive = omega arith;

@@ -8,7 +8,7 @@ use lib.Dec.{leb}
 use Rattle.octets.specs.Control.{control}
 use Rattle.octets.specs.declared.Control.{Control}
 use Rattle.octets.specs.declared.Control.the-variants.{Absent, Partial, Whole}
-use Rattle.hproto_table.specs.Entry.{Entry, find}
+use Rattle.hproto_table.specs.Schema.{Schema}
 use Rattle.hproto_table.specs.declared.Meaning.{Meaning}
 use Rattle.hproto_table.specs.declared.Meaning.the-variants.{Raw}
 use Rattle.hproto_field.specs.declared.Field.{Field}
@@ -33,5 +33,5 @@ unfoldable pub fieldOf : (ℕ → Meaning) → Extent → Field
 fieldOf kind None = nothing
 fieldOf kind (Found tag size len) = record { tag = tag; kind = kind tag; control = size; contents = len }
 
-unfoldable pub front : List Entry → ℕ → List ℕ → Field
-front es n s = fieldOf (find es n) (part s)
+unfoldable pub front : Schema → ℕ → List ℕ → Field
+front sc n s = fieldOf (sc .means n) (part s)

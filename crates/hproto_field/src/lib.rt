@@ -9,10 +9,11 @@ ghost use lib.Dec.{leb};
 ghost use lib.ListN.{length, take};
 ghost use Rattle.octets.specs.Text.{text};
 ghost use Rattle.hproto_table.specs.Entry.{entry};
+ghost use Rattle.hproto_table.specs.Schema.{schemaOf};
 ghost use Rattle.hproto_message.specs.Reading.{step as step-of, stepByKind};
 ghost use Rattle.hproto_field.specs.Fronts.{front as front-of, part as part-of, nothing as nothing-of};
 ghost use Rattle.hproto_field.specs.Held.{heldIn};
-ghost use Rattle.hproto_index.specs.Slots.{listed};
+ghost use Rattle.hproto_index.specs.Slots.{indexed};
 
 // The tag, the kind and the sizes of the control part and of the contents of a whole field; raw and zeros where there is none.
 pub struct Field {
@@ -74,7 +75,7 @@ fn by_kind(kind: Meaning, size: usize, contents: &[u8]) -> Step
 // The field at the front of octets in a message of a number, under an index and words of a table. The announced length is
 // compared with what is left after the control part.
 pub fn step(slots: &[u16; 256], words: &[u64], number: u64, s: &[u8]) -> Step
-    ensures { λ r. ⌜ r ≡ step-of (listed (now (slots .entry)) (now (words .entry))) number (now (s .entry)) ⌝ }
+    ensures { λ r. ⌜ r ≡ step-of (indexed (now (slots .entry)) (now (words .entry))) number (now (s .entry)) ⌝ }
 {
     match octets_read::control(s) {
         Control::Absent => Step::Done,
@@ -140,7 +141,7 @@ fn nothing() -> Field
 
 // The field at the front of octets, its contents unread, under the first words of a table.
 pub fn field_at(words: &[u64], count: usize, number: u64, s: &[u8]) -> Field
-    ensures { λ r. ⌜ r ≡ front-of (map entry (take count (now (words .entry)))) number (now (s .entry)) ⌝ }
+    ensures { λ r. ⌜ r ≡ front-of (schemaOf (map entry (take count (now (words .entry))))) number (now (s .entry)) ⌝ }
 {
     match part(s) {
         Extent::None => nothing(),
@@ -158,7 +159,7 @@ pub fn field_at(words: &[u64], count: usize, number: u64, s: &[u8]) -> Field
 
 // The same under an index too.
 pub fn field_in(slots: &[u16; 256], words: &[u64], number: u64, s: &[u8]) -> Field
-    ensures { λ r. ⌜ r ≡ front-of (listed (now (slots .entry)) (now (words .entry))) number (now (s .entry)) ⌝ }
+    ensures { λ r. ⌜ r ≡ front-of (indexed (now (slots .entry)) (now (words .entry))) number (now (s .entry)) ⌝ }
 {
     match part(s) {
         Extent::None => nothing(),

@@ -1,16 +1,17 @@
--- An index has the entries of the table that it was made from.
+-- An index has the schema of the table that it was made from.
 use Prim.Native.Nat.{ℕ, zero, suc, _+_, _*_, _-_, _/_, _%_, _≤_, _<_}
 use native.Mathlib.Numerals.{add-one}
 use native.Mathlib.Omega.{arith}
 use mathlib.Core.Path.{_≡_, refl, sym, _∙_, subst}
-use mathlib.Core.Bool.{Bool, true, false, cond, _&&_, true≢false}
+use mathlib.Core.Bool.{Bool, true, false, cond, _&&_}
 use mathlib.Core.List.{List, [], _∷_, _++_, map}
 use lib.ListN.{length, take, getD, replicate}
 use lib.Seq.{take-length}
 use lib.Dec.{eqb, ltb}
-use borrow.Author.Tests.{ltb-true, lt-ltb, eqb-true, eqb-false}
+use borrow.Author.Tests.{ltb-true, eqb-true, eqb-false}
 use Rattle.octets.specs.Number.{number}
 use Rattle.hproto_table.specs.Entry.{entry, entries, find, meaning}
+use Rattle.hproto_table.specs.Schema.{schemaOf, schema}
 use Rattle.hproto_table.specs.Load.{inRange, recordAt, wordAt, wellFormed, wordsBefore, accepted, load}
 use Rattle.hproto_table.specs.Repeat.{distinct, firstRepeat}
 use Rattle.hproto_table.specs.Valid.{allInRange, valid}
@@ -20,32 +21,31 @@ use Rattle.hproto_table.proofs.Bools.{and-left, and-right}
 use Rattle.hproto_table.proofs.Lists.{take-more}
 use Rattle.hproto_table.proofs.Load.{length-words, load-whole, wellFormed-range}
 use Rattle.hproto_table.proofs.Repeat.{distinct-is}
-use Rattle.hproto_table.proofs.Records.{loaded-entries}
+use Rattle.hproto_table.proofs.Schemas.{same-schema, words-schema}
 use Rattle.hproto_table.proofs.Valid.{distinct-snoc, range-at, parts}
-use Rattle.hproto_table.specs.SameFinds.{SameFinds}
 use Rattle.hproto_find.proofs.Finding.{fits}
-use Rattle.hproto_index.specs.Slots.{hasSlot, small, slotOf, free, notedBefore, taken, takenFrom, listed}
-use Rattle.hproto_index.proofs.Finding.{listed-slot, listed-rest}
+use Rattle.hproto_index.specs.Slots.{hasSlot, small, slotOf, free, notedBefore, taken, takenFrom, indexed}
+use Rattle.hproto_index.proofs.Noting.{slot-numbers, slot-not}
+use Rattle.hproto_index.proofs.Finding.{indexed-slot, indexed-rest}
 use Rattle.hproto_index.proofs.Showing.{code-finds, wordsOf, shown, Shows, shows, free-unseen}
 
 -- ---- by the slots, and by the words for what has no slot
 
 module _ (slots ws rest : List ℕ) (shown : Shows slots ws) where
-  by-slot : (n t : ℕ) → n < 16 → t < 16 → find (listed slots rest) n t ≡ find (map entry ws) n t
+  by-slot : (n t : ℕ) → hasSlot n t ≡ true → indexed slots rest .means n t ≡ find (map entry ws) n t
   unfolding Shows
-  by-slot n t h l = listed-slot slots rest n t h l ∙ rw (shown n t h l) (code-finds ws n t (omega arith))
+  by-slot n t e =
+      let q = slot-numbers n t e in
+      let l = q .1 in
+      indexed-slot slots rest n t e ∙ rw (shown n t (q .0) l) (code-finds ws n t (omega arith))
 
-  same-where : ((n t : ℕ) → (n < 16 → t < 16 → ⊥) → find (map entry rest) n t ≡ find (map entry ws) n t) → SameFinds (listed slots rest) (map entry ws)
-  unfolding SameFinds
-  same-where others n t = go (ltb n 16) refl (ltb t 16) refl
+  same-where : ((n t : ℕ) → hasSlot n t ≡ false → find (map entry rest) n t ≡ find (map entry ws) n t) → indexed slots rest ≡ schemaOf (map entry ws)
+  unfolding schemaOf
+  same-where others = same-schema (indexed slots rest) (schemaOf (map entry ws)) (λ n t. go n t (hasSlot n t) refl)
     where
-      beyond : (n < 16 → t < 16 → ⊥) → find (listed slots rest) n t ≡ find (map entry ws) n t
-      beyond d = listed-rest slots rest n t d ∙ others n t d
-
-      go : (a : Bool) → ltb n 16 ≡ a → (b : Bool) → ltb t 16 ≡ b → find (listed slots rest) n t ≡ find (map entry ws) n t
-      go true p true q = by-slot n t (ltb-true n 16 p) (ltb-true t 16 q)
-      go true p false q = beyond (λ h l. true≢false (sym (lt-ltb t 16 l) ∙ q))
-      go false p b q = beyond (λ h l. true≢false (sym (lt-ltb n 16 h) ∙ p))
+      go : (n t : ℕ) (a : Bool) → hasSlot n t ≡ a → indexed slots rest .means n t ≡ find (map entry ws) n t
+      go n t true e = by-slot n t e
+      go n t false e = indexed-rest slots rest n t e ∙ others n t e
 
 -- ---- from octets
 
@@ -144,21 +144,20 @@ module _ (s : List ℕ) (n : ℕ) (count : n ≡ takenFrom s (replicate 256 0) 0
   pub octets-load : load s ≡ accepted (wordsBefore s n)
   octets-load = load-whole s n few formed no-repeat all
 
-  -- The slots alone have the entries of the table.
-  pub octets-same : SameFinds (listed (shown (wordAt s) n) []) (map entry (wordsBefore s n))
+  -- The slots alone have the schema of the table.
+  octets-same : indexed (shown (wordAt s) n) [] ≡ schemaOf (map entry (wordsBefore s n))
   unfolding find
   octets-same =
       same-where (shown (wordAt s) n) (wordsBefore s n) [] (rw (← words-are s n) (shows (wordAt s) n ranges))
-      (λ m t d. sym (rw (← words-are s n) (none-small (wordAt s) n m t small-each d)))
+      (λ m t e. sym (rw (← words-are s n) (none-small (wordAt s) n m t small-each (slot-not m t e))))
 
   pub octets-accepted : load s .refusal ≡ 0
   unfolding accepted
   octets-accepted = rw octets-load refl
 
-  pub octets-entries : (slots ws : List ℕ) → slots ≡ notedBefore (wordAt s) (replicate 256 0) n → ws ≡ []
-      → SameFinds (listed slots ws) (entries (load s .table))
+  pub octets-schema : (slots ws : List ℕ) → slots ≡ notedBefore (wordAt s) (replicate 256 0) n → ws ≡ [] → indexed slots ws ≡ schema (load s .table)
   unfolding accepted
-  octets-entries slots ws e f = rw (e, f, octets-load, loaded-entries (wordsBefore s n)) octets-same
+  octets-schema slots ws e f = rw (e, f, octets-load, words-schema (wordsBefore s n)) octets-same
 
 -- ---- from words
 
@@ -172,16 +171,15 @@ module _ (words : List ℕ) (in-range : allInRange words ≡ true) where
   word-range : (j : ℕ) → j < length words → inRange (entry (getD words j 0)) ≡ true
   word-range j l = range-at words j in-range l
 
-  pub words-same : SameFinds (listed (shown (λ i. getD words i 0) (length words)) words) (map entry words)
+  words-same : indexed (shown (λ i. getD words i 0) (length words)) words ≡ schemaOf (map entry words)
   words-same =
       same-where (shown (λ i. getD words i 0) (length words)) words words
       (subst (Shows (shown (λ i. getD words i 0) (length words)))
       (words-taken words (length words) (omega arith) ∙ take-length words) (shows (λ i. getD words i 0) (length words) word-range))
-      (λ n t d. refl)
+      (λ n t e. refl)
 
 -- A table value that the loader can give.
-pub table-same : (t : Table) (slots ws : List ℕ) → valid t ≡ true → ws ≡ take (t .count) (t .words)
-    → slots ≡ notedBefore (λ i. getD ws i 0) (replicate 256 0) (length ws) → SameFinds (listed slots ws) (entries t)
-unfolding entries
-table-same t slots ws v e f =
-    rw (f, e) (words-same (take (t .count) (t .words)) (parts t v .range))
+pub table-schema : (t : Table) (slots ws : List ℕ) → valid t ≡ true → ws ≡ take (t .count) (t .words)
+    → slots ≡ notedBefore (λ i. getD ws i 0) (replicate 256 0) (length ws) → indexed slots ws ≡ schema t
+unfolding schema entries
+table-schema t slots ws v e f = rw (f, e) (words-same (take (t .count) (t .words)) (parts t v .range))

@@ -1,11 +1,12 @@
 -- The index of a field table: 256 slots, one for each message number and each tag below 16. It serves the code: what the calls answer is
--- said of the entries of a table, and proofs/Loaded.antt shows that an index has the same ones.
+-- said of the schema of a table, and proofs/Loaded.antt shows that an index has the same one.
 use Prim.Native.Nat.{ℕ, zero, suc, _+_, _*_, _/_, _%_, _^_}
 use mathlib.Core.Bool.{Bool, cond, _&&_}
-use mathlib.Core.List.{List, [], _∷_, _++_, map}
+use mathlib.Core.List.{List, map}
 use lib.ListN.{getD, set}
 use lib.Dec.{eqb, ltb}
-use Rattle.hproto_table.specs.Entry.{Entry, entry}
+use Rattle.hproto_table.specs.Entry.{entry, find, meaning}
+use Rattle.hproto_table.specs.Schema.{Schema}
 use Rattle.hproto_table.specs.Load.{recordAt, wordAt, wellFormed}
 
 -- Whether there is a slot for a message number and a tag.
@@ -41,14 +42,7 @@ unfoldable pub takenFrom : List ℕ → List ℕ → ℕ → ℕ → ℕ
 takenFrom s slots i zero = i
 takenFrom s slots i (suc left) = cond (taken s slots i) (takenFrom s slots (suc i) left) i
 
--- The entry in the slot at k.
-unfoldable pub slotEntry : List ℕ → ℕ → Entry
-slotEntry slots k = record { number = k / 16; tag = k % 16; kind = getD slots k 0 / 2 ^ 8 % 2 ^ 8; inner = getD slots k 0 % 2 ^ 8 }
-
-unfoldable pub slotsBelow : List ℕ → ℕ → List Entry
-slotsBelow slots zero = []
-slotsBelow slots (suc k) = slotEntry slots k ∷ slotsBelow slots k
-
--- The entries of an index, and of the words in which the tags from 16 on are looked for.
-unfoldable pub listed : List ℕ → List ℕ → List Entry
-listed slots ws = slotsBelow slots 256 ++ map entry ws
+-- The schema of an index, and of words in which every tag that has no slot is looked for. A slot holds the lowest 16 bits of a word.
+unfoldable pub indexed : List ℕ → List ℕ → Schema
+indexed slots ws =
+    record { means = λ n t. cond (hasSlot n t) (meaning (entry (getD slots (n * 16 + t) 0))) (find (map entry ws) n t) }

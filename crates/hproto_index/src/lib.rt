@@ -4,9 +4,8 @@ use hproto_record::Record;
 use hproto_table::Meaning;
 ghost use mathlib.Core.Path.{_≡_};
 ghost use lib.ListN.{length, getD};
-ghost use Rattle.hproto_table.specs.Entry.{find as find-of};
 ghost use Rattle.hproto_table.specs.Load.{wordAt};
-ghost use Rattle.hproto_index.specs.Slots.{hasSlot, free, noted, notedBefore, takenFrom, listed};
+ghost use Rattle.hproto_index.specs.Slots.{hasSlot, free, noted, notedBefore, takenFrom, indexed};
 
 // Whether there is a slot for a message number and a tag.
 fn has_slot(number: u64, tag: u64) -> bool
@@ -72,7 +71,7 @@ fn wide(x: u16) -> u64
 
 // What a tag means under an index, and under words of a table where it has no slot.
 pub fn find(slots: &[u16; 256], words: &[u64], number: u64, tag: u64) -> Meaning
-    ensures { λ r. ⌜ r ≡ find-of (listed (now (slots .entry)) (now (words .entry))) number tag ⌝ }
+    ensures { λ r. ⌜ r ≡ indexed (now (slots .entry)) (now (words .entry)) .means number tag ⌝ }
 {
     if has_slot(number, tag) {
         return hproto_find::meaning(wide(slots[(number * 16 + tag) as usize]));

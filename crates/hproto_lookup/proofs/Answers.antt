@@ -11,7 +11,8 @@ use lib.Dec.{eqb}
 use borrow.Author.Tests.{le-leb, eq-eqb, ne-eqb}
 use Rattle.octets.specs.Number.{unsigned}
 use Rattle.octets.specs.Signed.{signed}
-use Rattle.hproto_table.specs.Entry.{Entry, find, entries, kindNumber}
+use Rattle.hproto_table.specs.Entry.{kindNumber}
+use Rattle.hproto_table.specs.Schema.{Schema, schema}
 use Rattle.hproto_table.specs.declared.Meaning.{Meaning}
 use Rattle.hproto_table.specs.declared.Meaning.the-variants.{Raw, Uint, Int, String, Text, Message}
 use Rattle.hproto_table.specs.declared.Table.{Table}
@@ -43,20 +44,20 @@ read-leaf String t start b h = refl
 read-leaf Text t start b h = refl
 read-leaf (Message m) t start b h = absurd h
 
-read-item : (es : List Entry) (levels n : ℕ) (i : Item) (start : ℕ) (b : List ℕ) → Shows es levels n b i
-    → read (kindNumber (find es n (itemTag i))) start b ≡ found (some (record { item = i; start = start; length = length b }))
+read-item : (sc : Schema) (levels n : ℕ) (i : Item) (start : ℕ) (b : List ℕ) → Shows sc levels n b i
+    → read (kindNumber (sc .means n (itemTag i))) start b ≡ found (some (record { item = i; start = start; length = length b }))
 unfolding Shows itemTag read kindNumber uintIn intIn found itemKind uintOf intOf
-read-item es levels n (Item.leaf t v) start b h = rw (h .0) (read-leaf (find es n t) t start b (h .1))
-read-item es levels n (Item.nested t inside) start b h = rw (h .2)
+read-item sc levels n (Item.leaf t v) start b h = rw (h .0) (read-leaf (sc .means n t) t start b (h .1))
+read-item sc levels n (Item.nested t inside) start b h = rw (h .2)
 
 -- What was found is read from the octets at its place.
-read-outer : (es : List Entry) (levels n : ℕ) (s : List ℕ) (o : Outer) (t : ℕ) → Held es levels n s o → itemTag (o .item) ≡ t
-    → read (kindNumber (find es n t)) (o .start) (take (o .length) (drop (o .start) s)) ≡ found (some o)
+read-outer : (sc : Schema) (levels n : ℕ) (s : List ℕ) (o : Outer) (t : ℕ) → Held sc levels n s o → itemTag (o .item) ≡ t
+    → read (kindNumber (sc .means n t)) (o .start) (take (o .length) (drop (o .start) s)) ≡ found (some o)
 unfolding found
-read-outer es levels n s o t h e =
+read-outer sc levels n s o t h e =
     let k = h .inside in
     let l = length-take-le (o .length) (drop (o .start) s) (simp length-drop (omega arith)) in
-    let r = read-item es levels n (o .item) (o .start) (take (o .length) (drop (o .start) s)) (h .shows) in
+    let r = read-item sc levels n (o .item) (o .start) (take (o .length) (drop (o .start) s)) (h .shows) in
     rw (← e) (r ∙ rw l)
 
 chosen-spot : (t : ℕ) (w : Occurrence) (s : List ℕ) → chosenSpot t w s ≡ spotOf (chosen w (places t s))
@@ -64,7 +65,7 @@ unfolding chosenSpot nthSpot lastSpot chosen
 chosen-spot t (Nth k) s = refl
 chosen-spot t Last s = refl
 
-pub passed-cut : (t : Table) (n : ℕ) (s : List ℕ) → check t n s .refusal ≡ 0 → (cut : Cut) × (reading (entries t) n s ≡ accepted cut)
+pub passed-cut : (t : Table) (n : ℕ) (s : List ℕ) → check t n s .refusal ≡ 0 → (cut : Cut) × (reading (schema t) n s ≡ accepted cut)
 passed-cut t n s e = check-passed t n s e .1
 
 module _ (t : Table) (n : ℕ) (s : List ℕ) where
@@ -77,35 +78,35 @@ module _ (t : Table) (n : ℕ) (s : List ℕ) where
 
     -- The outermost field that is wanted.
     unfoldable pub wanted : Cut → Option Outer
-    wanted cut = chosen which (withTag itemOf tag (outermost (entries t) n 0 cut))
+    wanted cut = chosen which (withTag itemOf tag (outermost (schema t) n 0 cut))
 
-    pub answered : check t n s .refusal ≡ 0 → (cut : Cut) → reading (entries t) n s ≡ accepted cut → answer t n s tag which ≡ found (wanted cut)
+    pub answered : check t n s .refusal ≡ 0 → (cut : Cut) → reading (schema t) n s ≡ accepted cut → answer t n s tag which ≡ found (wanted cut)
     unfolding answer foundIn wanted
     answered e cut f = rw (eq-eqb (check t n s .refusal) 0 e, f)
 
     -- It stands in the message.
-    pub wanted-held : (cut : Cut) → Good (entries t) 8 n s cut
-        → Of (λ (o : Outer). Held (entries t) 7 n s o × (itemTag (o .item) ≡ tag)) (wanted cut)
+    pub wanted-held : (cut : Cut) → Good (schema t) 8 n s cut
+        → Of (λ (o : Outer). Held (schema t) 7 n s o × (itemTag (o .item) ≡ tag)) (wanted cut)
     unfolding wanted
     wanted-held cut g =
-        chosen-each (λ (o : Outer). Held (entries t) 7 n s o × (itemTag (o .item) ≡ tag)) which (withTag itemOf tag (outermost (entries t) n 0 cut))
-        (withTag-each (Held (entries t) 7 n s) itemOf tag (outermost (entries t) n 0 cut)
-        (each-held (entries t) 7 n s cut 0 (sym (g .divides)) (g .allowed) (g .shallow)))
+        chosen-each (λ (o : Outer). Held (schema t) 7 n s o × (itemTag (o .item) ≡ tag)) which (withTag itemOf tag (outermost (schema t) n 0 cut))
+        (withTag-each (Held (schema t) 7 n s) itemOf tag (outermost (schema t) n 0 cut)
+        (each-held (schema t) 7 n s cut 0 (sym (g .divides)) (g .allowed) (g .shallow)))
 
     -- The walk finds its place.
-    spot-is : (cut : Cut) → Good (entries t) 8 n s cut → chosenSpot tag which s ≡ spotOf (Option·map placeOf (wanted cut))
+    spot-is : (cut : Cut) → Good (schema t) 8 n s cut → chosenSpot tag which s ≡ spotOf (Option·map placeOf (wanted cut))
     unfolding wanted
     spot-is cut g =
         chosen-spot tag which s
-        ∙ rw (places-are (entries t) n tag 8 s cut g, chosen-map placeOf which (withTag itemOf tag (outermost (entries t) n 0 cut)))
+        ∙ rw (places-are (schema t) n tag 8 s cut g, chosen-map placeOf which (withTag itemOf tag (outermost (schema t) n 0 cut)))
 
     module _ (e : check t n s .refusal ≡ 0) where
       cut : Cut
       cut = passed-cut t n s e .0
 
-      is-good : Good (entries t) 8 n s cut
+      is-good : Good (schema t) 8 n s cut
       unfolding reading cut
-      is-good = accepted-good (entries t) 8 n 0 0 s (passed-cut t n s e .0) (passed-cut t n s e .1)
+      is-good = accepted-good (schema t) 8 n 0 0 s (passed-cut t n s e .0) (passed-cut t n s e .1)
 
       is-answered : answer t n s tag which ≡ found (wanted cut)
       unfolding cut
@@ -123,13 +124,13 @@ module _ (t : Table) (n : ℕ) (s : List ℕ) where
       pub record Present (start end : ℕ) : Type 0 where
         pub ordered : start ≤ end
         pub inside : end ≤ length s
-        pub answers : read (kindNumber (find (entries t) n tag)) start (take (end - start) (drop start s)) ≡ answer t n s tag which
+        pub answers : read (kindNumber (schema t .means n tag)) start (take (end - start) (drop start s)) ≡ answer t n s tag which
 
       pub present : (start end : ℕ) (p : Spot) → p ≡ chosenSpot tag which s → p ≡ At start end → Present start end
       unfolding spotOf Of
       present start end p f a = go (wanted cut) refl (wanted-held cut is-good) (sym (spot-is cut is-good) ∙ sym f ∙ a)
         where
-          go : (o : Option Outer) → wanted cut ≡ o → Of (λ (o : Outer). Held (entries t) 7 n s o × (itemTag (o .item) ≡ tag)) o
+          go : (o : Option Outer) → wanted cut ≡ o → Of (λ (o : Outer). Held (schema t) 7 n s o × (itemTag (o .item) ≡ tag)) o
               → spotOf (Option·map placeOf o) ≡ At start end → Present start end
           go none w h d = let z : _≡_ {A = ℕ} 0 1 = cc in absurd (omega arith)
           go (some o) w h d =
@@ -137,7 +138,7 @@ module _ (t : Table) (n : ℕ) (s : List ℕ) where
               let y : o .start + o .length ≡ end = cc in
               let k = h .0 .inside in
               let l : end - start ≡ o .length = omega arith in
-              let r = read-outer (entries t) 7 n s o tag (h .0) (h .1) in
+              let r = read-outer (schema t) 7 n s o tag (h .0) (h .1) in
               record {
                 ordered = omega arith;
                 inside = omega arith;

@@ -14,7 +14,8 @@ use Rattle.octets.specs.declared.Control.the-variants.{Whole}
 use Rattle.octets.specs.Number.{Octets}
 use Rattle.octets.proofs.Number.{octets-before, octets-after}
 use Rattle.octets.proofs.ControlPart.{control-append, control-nil, control-size, control-bounds}
-use Rattle.hproto_table.specs.Entry.{Entry, find, innerOf}
+use Rattle.hproto_table.specs.Entry.{innerOf}
+use Rattle.hproto_table.specs.Schema.{Schema}
 use Rattle.hproto_table.specs.declared.Meaning.the-variants.{Message}
 use Rattle.hproto_message.specs.Cut as cuts
 use Rattle.hproto_message.specs.Cut.{Cut, joined, WholeField, Contents, Allowed, Good}
@@ -31,27 +32,27 @@ abbrev pub itemOf : Outer → Item
 itemOf o = o .item
 
 -- The outermost fields of a cut are those of its tree, in the same order.
-pub items-are : (es : List Entry) (n at : ℕ) (cut : Cut) → map itemOf (outermost es n at cut) ≡ items (tree es n cut)
+pub items-are : (sc : Schema) (n at : ℕ) (cut : Cut) → map itemOf (outermost sc n at cut) ≡ items (tree sc n cut)
 unfolding outermost tree items
-items-are es n at Cut.end = refl
-items-are es n at (Cut.leaf c s rest) =
-    ap (λ (l : List Item). Item.leaf (tagOf (control c)) (value (find es n (tagOf (control c))) s) ∷ l)
-    (items-are es n (at + length c + length s) rest)
-items-are es n at (Cut.nested c inside rest) =
-    ap (λ (l : List Item). Item.nested (tagOf (control c)) (tree es (innerOf (find es n (tagOf (control c)))) inside) ∷ l)
-    (items-are es n (at + length c + length (joined inside)) rest)
+items-are sc n at Cut.end = refl
+items-are sc n at (Cut.leaf c s rest) =
+    ap (λ (l : List Item). Item.leaf (tagOf (control c)) (value (sc .means n (tagOf (control c))) s) ∷ l)
+    (items-are sc n (at + length c + length s) rest)
+items-are sc n at (Cut.nested c inside rest) =
+    ap (λ (l : List Item). Item.nested (tagOf (control c)) (tree sc (innerOf (sc .means n (tagOf (control c)))) inside) ∷ l)
+    (items-are sc n (at + length c + length (joined inside)) rest)
 
 -- What octets say of a field of the tree whose contents they are. A field that is no message has the value that they have by the kind of
 -- its tag. A nested message has them as its octets: they are joined from a good cut under the inner number, and its tree is the field's.
-unfoldable pub Shows : List Entry → ℕ → ℕ → List ℕ → Item → Type 0
-Shows es levels n b (Item.leaf t v) = (v ≡ value (find es n t) b) × Contents (find es n t) b
-Shows es levels n b (Item.nested t inside) =
-    (m : ℕ) × (inner : Cut) × (find es n t ≡ Message m) × Good es levels m b inner × (inside ≡ tree es m inner)
+unfoldable pub Shows : Schema → ℕ → ℕ → List ℕ → Item → Type 0
+Shows sc levels n b (Item.leaf t v) = (v ≡ value (sc .means n t) b) × Contents (sc .means n t) b
+Shows sc levels n b (Item.nested t inside) =
+    (m : ℕ) × (inner : Cut) × (sc .means n t ≡ Message m) × Good sc levels m b inner × (inside ≡ tree sc m inner)
 
 -- The contents of an outermost field stand within the message, at its place.
-pub record Held (es : List Entry) (levels n : ℕ) (s : List ℕ) (o : Outer) : Type 0 where
+pub record Held (sc : Schema) (levels n : ℕ) (s : List ℕ) (o : Outer) : Type 0 where
   pub inside : o .start + o .length ≤ length s
-  pub shows : Shows es levels n (take (o .length) (drop (o .start) s)) (o .item)
+  pub shows : Shows sc levels n (take (o .length) (drop (o .start) s)) (o .item)
 
 module _ (c b r : List ℕ) (t : ℕ) (w : WholeField t c b) where
   positive : 1 ≤ length c
@@ -98,9 +99,9 @@ module _ (c b r : List ℕ) (t : ℕ) (w : WholeField t c b) where
   unfolding placesFrom afterPart
   walked tag fuel at = rw (part-is, in-three c b r .third)
 
-module _ (es : List Entry) (levels n : ℕ) (s : List ℕ) where
-  pub each-held : (cut : Cut) (at : ℕ) → drop at s ≡ joined cut → Allowed es n cut → cuts.depth cut ≤ suc levels
-      → Each (Held es levels n s) (outermost es n at cut)
+module _ (sc : Schema) (levels n : ℕ) (s : List ℕ) where
+  pub each-held : (cut : Cut) (at : ℕ) → drop at s ≡ joined cut → Allowed sc n cut → cuts.depth cut ≤ suc levels
+      → Each (Held sc levels n s) (outermost sc n at cut)
   unfolding Each outermost joined Allowed cuts.depth Shows innerOf
   each-held Cut.end at e a d = tt
   each-held (Cut.leaf c b rest) at e a d =
@@ -113,7 +114,7 @@ module _ (es : List Entry) (levels n : ℕ) (s : List ℕ) where
       let f = a .0 .1 in
       let m = a .0 .0 in
       let p = parts c (joined inner) (joined rest) (f .tag) (f .whole) s at e in
-      let g : Good es levels m (joined inner) inner = record { divides = refl; allowed = a .0 .2; shallow = omega arith } in (
+      let g : Good sc levels m (joined inner) inner = record { divides = refl; allowed = a .0 .2; shallow = omega arith } in (
         record { inside = p .inside; shows = rw (p .contents, tag-is c (joined inner) (joined rest) (f .tag) (f .whole), f .allowed) (m, inner, refl, g, refl) },
         each-held rest (at + length c + length (joined inner)) (p .rest) (a .1) (omega arith),
       )
@@ -122,10 +123,10 @@ module _ (es : List Entry) (levels n : ℕ) (s : List ℕ) where
 abbrev pub placeOf : Outer → Span
 placeOf o = record { start = o .start; end = o .start + o .length }
 
-module _ (es : List Entry) (n t : ℕ) where
+module _ (sc : Schema) (n t : ℕ) where
   -- The places of the outermost fields with a tag are those that the walk finds.
-  found-at : (cut : Cut) (fuel at : ℕ) → Allowed es n cut → length (joined cut) < fuel
-      → placesFrom t fuel at (joined cut) ≡ map placeOf (withTag itemOf t (outermost es n at cut))
+  found-at : (cut : Cut) (fuel at : ℕ) → Allowed sc n cut → length (joined cut) < fuel
+      → placesFrom t fuel at (joined cut) ≡ map placeOf (withTag itemOf t (outermost sc n at cut))
   unfolding placesFrom afterPart part partFrom outermost withTag joined Allowed itemTag
   found-at Cut.end zero at a h = absurd (omega arith)
   found-at Cut.end (suc fuel) at a h = rw control-nil
@@ -136,8 +137,8 @@ module _ (es : List Entry) (n t : ℕ) where
       let l : length (c ++ b ++ joined rest) ≡ length c + length b + length (joined rest) = simp length-append (omega arith) in
       let i = found-at rest fuel (at + length c + length b) (a .1) (omega arith) in
       walked c b (joined rest) (f .tag) (f .whole) t fuel at ∙ rw (i, ← tag-is c b (joined rest) (f .tag) (f .whole))
-      (sym (map-withTag placeOf itemOf t (record { item = Item.leaf (tagOf (control c)) (value (find es n (tagOf (control c))) b); start = at + length c; length = length b })
-      (outermost es n (at + length c + length b) rest)))
+      (sym (map-withTag placeOf itemOf t (record { item = Item.leaf (tagOf (control c)) (value (sc .means n (tagOf (control c))) b); start = at + length c; length = length b })
+      (outermost sc n (at + length c + length b) rest)))
   found-at (Cut.nested c inner rest) zero at a h = absurd (omega arith)
   found-at (Cut.nested c inner rest) (suc fuel) at a h =
       let f = a .0 .1 in
@@ -147,32 +148,32 @@ module _ (es : List Entry) (n t : ℕ) where
       let i = found-at rest fuel (at + length c + length b) (a .1) (omega arith) in
       walked c b (joined rest) (f .tag) (f .whole) t fuel at ∙ rw (i, ← tag-is c b (joined rest) (f .tag) (f .whole))
       (sym (map-withTag placeOf itemOf t
-      (record { item = Item.nested (tagOf (control c)) (tree es (innerOf (find es n (tagOf (control c)))) inner); start = at + length c; length = length b })
-      (outermost es n (at + length c + length b) rest)))
+      (record { item = Item.nested (tagOf (control c)) (tree sc (innerOf (sc .means n (tagOf (control c)))) inner); start = at + length c; length = length b })
+      (outermost sc n (at + length c + length b) rest)))
 
-  pub places-are : (levels : ℕ) (s : List ℕ) (cut : Cut) → Good es levels n s cut → places t s ≡ map placeOf (withTag itemOf t (outermost es n 0 cut))
+  pub places-are : (levels : ℕ) (s : List ℕ) (cut : Cut) → Good sc levels n s cut → places t s ≡ map placeOf (withTag itemOf t (outermost sc n 0 cut))
   unfolding places
   places-are levels s cut g =
-      subst (λ (r : List ℕ). placesFrom t (suc (length r)) 0 r ≡ map placeOf (withTag itemOf t (outermost es n 0 cut))) (g .divides)
+      subst (λ (r : List ℕ). placesFrom t (suc (length r)) 0 r ≡ map placeOf (withTag itemOf t (outermost sc n 0 cut))) (g .divides)
       (found-at cut (suc (length (joined cut))) 0 (g .allowed) (omega arith))
 
 -- A tag has at most two octets.
-pub small-tags : (es : List Entry) (n : ℕ) (cut : Cut) (at : ℕ) → Allowed es n cut → Octets (joined cut)
-    → Each (λ (o : Outer). itemTag (o .item) < 256 ^ 2) (outermost es n at cut)
+pub small-tags : (sc : Schema) (n : ℕ) (cut : Cut) (at : ℕ) → Allowed sc n cut → Octets (joined cut)
+    → Each (λ (o : Outer). itemTag (o .item) < 256 ^ 2) (outermost sc n at cut)
 unfolding Each outermost joined Allowed itemTag
-small-tags es n Cut.end at a o = tt
-small-tags es n (Cut.leaf c b rest) at a o =
+small-tags sc n Cut.end at a o = tt
+small-tags sc n (Cut.leaf c b rest) at a o =
     let f = a .0 in
     let q : Octets (c ++ b) = octets-before (c ++ b) (joined rest) o in
     let k = control-bounds c (f .tag) (length b) (octets-before c b q) (f .whole .control-part) .0 in (
       rw (tag-is c b (joined rest) (f .tag) (f .whole)) k,
-      small-tags es n rest (at + length c + length b) (a .1) (octets-after (c ++ b) (joined rest) o),
+      small-tags sc n rest (at + length c + length b) (a .1) (octets-after (c ++ b) (joined rest) o),
     )
-small-tags es n (Cut.nested c inner rest) at a o =
+small-tags sc n (Cut.nested c inner rest) at a o =
     let f = a .0 .1 in
     let b = joined inner in
     let q : Octets (c ++ b) = octets-before (c ++ b) (joined rest) o in
     let k = control-bounds c (f .tag) (length b) (octets-before c b q) (f .whole .control-part) .0 in (
       rw (tag-is c b (joined rest) (f .tag) (f .whole)) k,
-      small-tags es n rest (at + length c + length b) (a .1) (octets-after (c ++ b) (joined rest) o),
+      small-tags sc n rest (at + length c + length b) (a .1) (octets-after (c ++ b) (joined rest) o),
     )

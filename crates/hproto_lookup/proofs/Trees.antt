@@ -7,7 +7,7 @@ use mathlib.Core.Logic.{_↔_}
 use mathlib.Core.Option.{Option, none, some, Option·map}
 use lib.ListN.{length, take, drop}
 use Rattle.octets.specs.Number.{Octets}
-use Rattle.hproto_table.specs.Entry.{Entry, entries}
+use Rattle.hproto_table.specs.Schema.{Schema, schema}
 use Rattle.hproto_table.specs.declared.Table.{Table}
 use Rattle.hproto_message.specs.Cut.{Cut, Good}
 use Rattle.hproto_message.specs.Tree.{tree}
@@ -23,7 +23,7 @@ use Rattle.hproto_lookup.proofs.Answers.{refused-first, wanted, answere
 
 -- An answer that gives a field of the tree: its kind and its value. The octets at the answer's place are the field's contents; of a
 -- nested message they are the joined octets of its cut.
-pub record Gives (es : List Entry) (n : ℕ) (s : List ℕ) (tag : ℕ) (i : Item) (r : Found) : Type 0 where
+pub record Gives (sc : Schema) (n : ℕ) (s : List ℕ) (tag : ℕ) (i : Item) (r : Found) : Type 0 where
   pub accepted : r .refusal ≡ 0
   pub nowhere : r .place ≡ 0
   pub tagged : itemTag i ≡ tag
@@ -31,38 +31,38 @@ pub record Gives (es : List Entry) (n : ℕ) (s : List ℕ) (tag : ℕ) (i : Ite
   pub number : r .number ≡ uintOf i
   pub signed : r .signed ≡ intOf i
   pub inside : r .start + r .length ≤ length s
-  pub contents : Shows es 7 n (take (r .length) (drop (r .start) s)) i
+  pub contents : Shows sc 7 n (take (r .length) (drop (r .start) s)) i
 
 -- The answer for what the tree has: 18 where it has nothing.
-unfoldable pub Answers : List Entry → ℕ → List ℕ → ℕ → Option Item → Found → Type 0
-Answers es n s tag none r = r ≡ refusal 18 0
-Answers es n s tag (some i) r = Gives es n s tag i r
+unfoldable pub Answers : Schema → ℕ → List ℕ → ℕ → Option Item → Found → Type 0
+Answers sc n s tag none r = r ≡ refusal 18 0
+Answers sc n s tag (some i) r = Gives sc n s tag i r
 
 module _ (t : Table) (n : ℕ) (s : List ℕ) (tag : ℕ) (which : Occurrence) where
   -- What the check refuses is refused with the check's number and place.
   pub refused-as-checked : (check t n s .refusal ≡ 0 → ⊥) → answer t n s tag which ≡ refusal (check t n s .refusal) (check t n s .place)
   refused-as-checked ne = sym (refused-first t n s tag which (check t n s) refl ne)
 
-  module _ (e : check t n s .refusal ≡ 0) (cut : Cut) (g : Good (entries t) 8 n s cut) where
-    wanted-item : Option·map itemOf (wanted t n s tag which cut) ≡ occurrence (tree (entries t) n cut) tag which
+  module _ (e : check t n s .refusal ≡ 0) (cut : Cut) (g : Good (schema t) 8 n s cut) where
+    wanted-item : Option·map itemOf (wanted t n s tag which cut) ≡ occurrence (tree (schema t) n cut) tag which
     unfolding wanted occurrence
     wanted-item =
-        sym (chosen-map itemOf which (withTag itemOf tag (outermost (entries t) n 0 cut)))
-        ∙ ap (chosen which) (sym (withTag-map itemOf (λ (i : Item). i) tag (outermost (entries t) n 0 cut)))
-        ∙ ap (λ (l : List Item). chosen which (withTag (λ (i : Item). i) tag l)) (items-are (entries t) n 0 cut)
+        sym (chosen-map itemOf which (withTag itemOf tag (outermost (schema t) n 0 cut)))
+        ∙ ap (chosen which) (sym (withTag-map itemOf (λ (i : Item). i) tag (outermost (schema t) n 0 cut)))
+        ∙ ap (λ (l : List Item). chosen which (withTag (λ (i : Item). i) tag l)) (items-are (schema t) n 0 cut)
 
     is-found : answer t n s tag which ≡ found (wanted t n s tag which cut)
     unfolding reading
-    is-found = answered t n s tag which e cut (good-accepted (entries t) 8 n 0 0 s cut g)
+    is-found = answered t n s tag which e cut (good-accepted (schema t) 8 n 0 0 s cut g)
 
     -- The answer is the wanted one of the tree's outermost fields with the tag.
-    pub answers-tree : Answers (entries t) n s tag (occurrence (tree (entries t) n cut) tag which) (answer t n s tag which)
+    pub answers-tree : Answers (schema t) n s tag (occurrence (tree (schema t) n cut) tag which) (answer t n s tag which)
     unfolding Answers Of found
     answers-tree =
         rw (← wanted-item, is-found) (go (wanted t n s tag which cut) (wanted-held t n s tag which cut g))
       where
-        go : (o : Option Outer) → Of (λ (o : Outer). Held (entries t) 7 n s o × (itemTag (o .item) ≡ tag)) o
-            → Answers (entries t) n s tag (Option·map itemOf o) (found o)
+        go : (o : Option Outer) → Of (λ (o : Outer). Held (schema t) 7 n s o × (itemTag (o .item) ≡ tag)) o
+            → Answers (schema t) n s tag (Option·map itemOf o) (found o)
         go none h = refl
         go (some o) h =
             record {
@@ -77,11 +77,11 @@ module _ (t : Table) (n : ℕ) (s : List ℕ) (tag : ℕ) (which : Occurrence) w
             }
 
     -- 18 is answered exactly where the tree has no such field.
-    pub absent-exactly : (answer t n s tag which .refusal ≡ 18) ↔ (occurrence (tree (entries t) n cut) tag which ≡ none)
+    pub absent-exactly : (answer t n s tag which .refusal ≡ 18) ↔ (occurrence (tree (schema t) n cut) tag which ≡ none)
     unfolding Answers refusal
-    absent-exactly = go (occurrence (tree (entries t) n cut) tag which) answers-tree
+    absent-exactly = go (occurrence (tree (schema t) n cut) tag which) answers-tree
       where
-        go : (o : Option Item) → Answers (entries t) n s tag o (answer t n s tag which) → (answer t n s tag which .refusal ≡ 18) ↔ (o ≡ none)
+        go : (o : Option Item) → Answers (schema t) n s tag o (answer t n s tag which) → (answer t n s tag which .refusal ≡ 18) ↔ (o ≡ none)
         go none h = (λ x. refl, λ x. ap (λ (r : Found). r .refusal) h)
         go (some i) h = (λ x. let a = h .accepted in absurd (omega arith), λ x. let z : _≡_ {A = ℕ} 0 1 = cc in absurd (omega arith))
 
@@ -89,6 +89,6 @@ module _ (t : Table) (n : ℕ) (s : List ℕ) (tag : ℕ) (which : Occurrence) w
     pub large-tag : Octets s → 65535 < tag → answer t n s tag which ≡ refusal 18 0
     unfolding wanted found
     large-tag o h =
-        let k = small-tags (entries t) n cut 0 (g .allowed) (subst Octets (sym (g .divides)) o) in
-        let f = withTag-none itemOf (256 ^ 2) tag (outermost (entries t) n 0 cut) (omega arith) k in
+        let k = small-tags (schema t) n cut 0 (g .allowed) (subst Octets (sym (g .divides)) o) in
+        let f = withTag-none itemOf (256 ^ 2) tag (outermost (schema t) n 0 cut) (omega arith) k in
         is-found ∙ rw (f, chosen-none {A = Outer} which)

@@ -7,7 +7,8 @@ use lib.ListN as lists
 use lib.IntN.{ℤ, pos}
 use lib.Dec.{eqb}
 use Rattle.octets.specs.Control.{control}
-use Rattle.hproto_table.specs.Entry.{Entry, find, entries, innerOf}
+use Rattle.hproto_table.specs.Entry.{innerOf}
+use Rattle.hproto_table.specs.Schema.{Schema, schema}
 use Rattle.hproto_table.specs.declared.Table.{Table}
 use Rattle.hproto_message.specs.Cut.{Cut, joined}
 use Rattle.hproto_message.specs.Tree.{Value, raw, uint, int, string, text, Tree, tagOf, value, tree}
@@ -38,18 +39,18 @@ pub record Outer : Type 0 where
 
 -- The outermost fields of a cut, in order, each as the tree has it. The first one's control part stands at the place `at`. The value of
 -- a nested message is the octets at its place.
-unfoldable pub outermost : List Entry → ℕ → ℕ → Cut → List Outer
-outermost es n at Cut.end = []
-outermost es n at (Cut.leaf c s rest) =
+unfoldable pub outermost : Schema → ℕ → ℕ → Cut → List Outer
+outermost sc n at Cut.end = []
+outermost sc n at (Cut.leaf c s rest) =
     let tag = tagOf (control c) in
     let k = lists.length c in
     let l = lists.length s in
-    record { item = leaf tag (value (find es n tag) s); start = at + k; length = l } ∷ outermost es n (at + k + l) rest
-outermost es n at (Cut.nested c inside rest) =
+    record { item = leaf tag (value (sc .means n tag) s); start = at + k; length = l } ∷ outermost sc n (at + k + l) rest
+outermost sc n at (Cut.nested c inside rest) =
     let tag = tagOf (control c) in
     let k = lists.length c in
     let l = lists.length (joined inside) in
-    record { item = nested tag (tree es (innerOf (find es n tag)) inside); start = at + k; length = l } ∷ outermost es n (at + k + l) rest
+    record { item = nested tag (tree sc (innerOf (sc .means n tag)) inside); start = at + k; length = l } ∷ outermost sc n (at + k + l) rest
 
 unfoldable pub itemTag : Item → ℕ
 itemTag (leaf t v) = t
@@ -115,15 +116,15 @@ found (some o) =
     }
 
 -- What is answered for a message that was read.
-unfoldable pub foundIn : List Entry → ℕ → ℕ → Occurrence → Reading Cut → Found
-foundIn es n t which (accepted cut) = found (chosen which (withTag (λ (o : Outer). o .item) t (outermost es n 0 cut)))
-foundIn es n t which (refused number place) = refusal number place
+unfoldable pub foundIn : Schema → ℕ → ℕ → Occurrence → Reading Cut → Found
+foundIn sc n t which (accepted cut) = found (chosen which (withTag (λ (o : Outer). o .item) t (outermost sc n 0 cut)))
+foundIn sc n t which (refused number place) = refusal number place
 
 -- The check's refusal, or what is found.
 unfoldable pub answer : Table → ℕ → List ℕ → ℕ → Occurrence → Found
 answer t n s tag which =
     let c = check t n s in
-    cond (eqb (c .refusal) 0) (foundIn (entries t) n tag which (reading (entries t) n s)) (refusal (c .refusal) (c .place))
+    cond (eqb (c .refusal) 0) (foundIn (schema t) n tag which (reading (schema t) n s)) (refusal (c .refusal) (c .place))
 
 -- The k-th of the outermost fields with a tag.
 unfoldable pub lookup : Table → ℕ → List ℕ → ℕ → ℕ → Found

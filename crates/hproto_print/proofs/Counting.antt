@@ -9,7 +9,7 @@ use Rattle.hproto_field.specs.Held.{heldIn}
 use Rattle.hproto_message.specs.Reading.{Accepts}
 use Rattle.hproto_message.proofs.Accepted.{accepts-good}
 use Rattle.hproto_field.proofs.HeldKinds.{message-of, plain-of}
-use Rattle.hproto_table.specs.Entry.{Entry}
+use Rattle.hproto_table.specs.Schema.{Schema}
 use Rattle.hproto_message.specs.Cut.{Cut, Good}
 use Rattle.hproto_message.specs.Tree.{tree}
 use Rattle.hproto_message.proofs.Accepted.{good-accepted}
@@ -25,32 +25,32 @@ use Rattle.hproto_field.proofs.Passing.{Left, all-left, none-left, ends, leaf-n
 pub left-octets : (i : ℕ) (s : List ℕ) → take (length s - i) (drop i s) ≡ drop i s
 left-octets i s = take-all (length s - i) (drop i s) (simp length-drop (omega arith))
 
-pub direct-is : (es : List Entry) (n : ℕ) (s : List ℕ) (cut : Cut) → Good es 8 n s cut → directOf es n s ≡ direct (tree es n cut)
+pub direct-is : (sc : Schema) (n : ℕ) (s : List ℕ) (cut : Cut) → Good sc 8 n s cut → directOf sc n s ≡ direct (tree sc n cut)
 unfolding directOf directRead
-direct-is es n s cut g = rw (good-accepted es 8 n 0 0 s cut g)
+direct-is sc n s cut g = rw (good-accepted sc 8 n 0 0 s cut g)
 
-module _ (es : List Entry) (n : ℕ) (s : List ℕ) where
+module _ (sc : Schema) (n : ℕ) (s : List ℕ) where
   -- After i octets, k fields are counted.
   pub record Counted (i k : ℕ) : Type 0 where
-    pub left : Left es 7 n s i
+    pub left : Left sc 7 n s i
     pub few : k ≤ i
-    pub whole : directOf es n s ≡ k + direct (tree es n (left .rest))
+    pub whole : directOf sc n s ≡ k + direct (tree sc n (left .rest))
 
-  pub none-counted : Accepts es 8 n s → Counted 0 0
+  pub none-counted : Accepts sc 8 n s → Counted 0 0
   none-counted a =
-      let g = accepts-good es 8 n s a in
-      record { left = all-left es 7 n s (g .0) (g .1); few = omega arith; whole = direct-is es n s (g .0) (g .1) ∙ omega arith }
+      let g = accepts-good sc 8 n s a in
+      record { left = all-left sc 7 n s (g .0) (g .1); few = omega arith; whole = direct-is sc n s (g .0) (g .1) ∙ omega arith }
 
-  pub all-counted : (i k : ℕ) → Counted i k → length s ≤ i → k ≡ directOf es n s
+  pub all-counted : (i k : ℕ) → Counted i k → length s ≤ i → k ≡ directOf sc n s
   unfolding tree direct
   all-counted i k p h =
-      sym (p .whole ∙ ap (λ (c : Cut). k + direct (tree es n c)) (none-left es 7 n s i (p .left) h) ∙ omega arith)
+      sym (p .whole ∙ ap (λ (c : Cut). k + direct (tree sc n c)) (none-left sc 7 n s i (p .left) h) ∙ omega arith)
 
-  module _ (i k : ℕ) (p : Counted i k) (more : i < length s) (f : Field) (found : f ≡ front es n (drop i s)) where
+  module _ (i k : ℕ) (p : Counted i k) (more : i < length s) (f : Field) (found : f ≡ front sc n (drop i s)) where
     pub count-ends : (i < i + f .control + f .contents) × (i + f .control + f .contents ≤ length s)
-    count-ends = ends es 7 n s i (p .left) more f found
+    count-ends = ends sc 7 n s i (p .left) more f found
 
-    one-more : (left : Left es 7 n s (i + f .control + f .contents)) → direct (tree es n (p .left .rest)) ≡ suc (direct (tree es n (left .rest)))
+    one-more : (left : Left sc 7 n s (i + f .control + f .contents)) → direct (tree sc n (p .left .rest)) ≡ suc (direct (tree sc n (left .rest)))
         → Counted (i + f .control + f .contents) (k + 1)
     one-more left e =
         let h = count-ends .0 in
@@ -63,6 +63,6 @@ module _ (es : List Entry) (n : ℕ) (s : List ℕ) where
     counted-turn = go (heldIn (f .kind)) refl
       where
         go : (x : Holds) → heldIn (f .kind) ≡ x → Counted (i + f .control + f .contents) (k + 1)
-        go None e = let x = leaf-next es 7 n s i (p .left) more f found (plain-of (f .kind) e) in one-more (x .left) (ap direct (x .tree-is))
+        go None e = let x = leaf-next sc 7 n s i (p .left) more f found (plain-of (f .kind) e) in one-more (x .left) (ap direct (x .tree-is))
         go (Number m) e =
-            let x = nested-next es 7 n s i (p .left) more f found m (message-of (f .kind) m e) in one-more (x .left) (ap direct (x .tree-is))
+            let x = nested-next sc 7 n s i (p .left) more f found m (message-of (f .kind) m e) in one-more (x .left) (ap direct (x .tree-is))

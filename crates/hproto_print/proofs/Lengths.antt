@@ -9,7 +9,8 @@ use Rattle.hproto_message.proofs.Accepted.{accepts-good}
 use Rattle.octets.specs.Number.{number}
 use Rattle.octets.specs.Signed.{integer}
 use Rattle.octets.specs.Control.{control}
-use Rattle.hproto_table.specs.Entry.{Entry, find, innerOf}
+use Rattle.hproto_table.specs.Entry.{innerOf}
+use Rattle.hproto_table.specs.Schema.{Schema}
 use Rattle.hproto_message.specs.Cut.{Cut, end, leaf, nested, joined, Allowed}
 use Rattle.hproto_message.specs.Tree.{Value, raw, uint, int, string, text, tree, value, tagOf}
 use Rattle.hproto_table.specs.declared.Meaning.{Meaning}
@@ -59,32 +60,32 @@ unfolding line front ascii fourDigits
 line-length depth tag kind v h = let d = decimal-length depth in simp length-append (omega arith)
 
 -- A field takes an octet or more, and its line not many more than its octets. The tree may be that under any number.
-lines-length : (es : List Entry) (cut : Cut) (n k depth : ℕ) → Allowed es k cut → length (lines depth (tree es n cut)) ≤ 60 * length (joined cut)
+lines-length : (sc : Schema) (cut : Cut) (n k depth : ℕ) → Allowed sc k cut → length (lines depth (tree sc n cut)) ≤ 60 * length (joined cut)
 unfolding lines tree joined Allowed
-lines-length es end n k depth a = omega arith
-lines-length es (leaf c b rest) n k depth a =
+lines-length sc end n k depth a = omega arith
+lines-length sc (leaf c b rest) n k depth a =
     let z = field-size (a .0 .tag) c b (a .0 .whole) in
-    let m = find es n (tagOf (control c)) in
+    let m = sc .means n (tagOf (control c)) in
     let v = value-length m b in
     let l = line-length depth (tagOf (control c)) (kindName (value m b)) (valueText (value m b)) (name-length (value m b)) in
-    let h = lines-length es rest n k depth (a .1) in
+    let h = lines-length sc rest n k depth (a .1) in
     simp length-append (omega arith)
-lines-length es (nested c inside rest) n k depth a =
+lines-length sc (nested c inside rest) n k depth a =
     let z = field-size (a .0 .1 .tag) c (joined inside) (a .0 .1 .whole) in
-    let m = innerOf (find es n (tagOf (control c))) in
-    let v = decimal-length (direct (tree es m inside)) in
-    let l = line-length depth (tagOf (control c)) (ascii "message") (decimal (direct (tree es m inside))) message-length in
-    let g = lines-length es inside m (a .0 .0) (suc depth) (a .0 .2) in
-    let h = lines-length es rest n k depth (a .1) in
+    let m = innerOf (sc .means n (tagOf (control c))) in
+    let v = decimal-length (direct (tree sc m inside)) in
+    let l = line-length depth (tagOf (control c)) (ascii "message") (decimal (direct (tree sc m inside))) message-length in
+    let g = lines-length sc inside m (a .0 .0) (suc depth) (a .0 .2) in
+    let h = lines-length sc rest n k depth (a .1) in
     simp length-append (omega arith)
 
 -- What is printed for a message within the limit, and for a refusal, has room from the start.
-pub page-fits : (es : List Entry) (n : ℕ) (s : List ℕ) (count : ℕ) → length s ≤ 65536 → Accepts es 8 n s → FitsU64 0 (page (linesOf es 8 n s) count (length s))
+pub page-fits : (sc : Schema) (n : ℕ) (s : List ℕ) (count : ℕ) → length s ≤ 65536 → Accepts sc 8 n s → FitsU64 0 (page (linesOf sc 8 n s) count (length s))
 unfolding page ascii
-page-fits es n s count h a =
-    let g = accepts-good es 8 n s a in
-    let e = ap length (lines-is es 8 n s (g .0) (g .1)) in
-    let l = lines-length es (g .0) n n 1 (g .1 .allowed) in
+page-fits sc n s count h a =
+    let g = accepts-good sc 8 n s a in
+    let e = ap length (lines-is sc 8 n s (g .0) (g .1)) in
+    let l = lines-length sc (g .0) n n 1 (g .1 .allowed) in
     let d = ap length (g .1 .divides) in
     let x = decimal-length count in
     let y = decimal-length (length s) in

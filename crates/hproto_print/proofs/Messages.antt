@@ -8,7 +8,7 @@ use lib.ListN.{length}
 use lib.Dec.{ltb}
 use borrow.Author.Tests.{eq-eqb, ne-eqb}
 use Rattle.hproto_message.specs.Reading.{Accepts}
-use Rattle.hproto_table.specs.Entry.{entries}
+use Rattle.hproto_table.specs.Schema.{schema}
 use Rattle.hproto_table.specs.Valid.{valid}
 use Rattle.hproto_table.specs.declared.Table.{Table}
 use Rattle.hproto_message.specs.Cut.{Cut}
@@ -24,37 +24,37 @@ use Rattle.hproto_print.specs.Text.{page, shown, refusal, readText, mess
 use Rattle.hproto_print.specs.Walk.{linesRead, linesOf}
 
 -- What is printed for a message that was read.
-shown-is : (t : Table) (s : List ℕ) (c : Checked) → c ≡ check t 0 s → c .refusal ≡ 0 → (cut : Cut) → reading (entries t) 0 s ≡ accepted cut
-    → c .fields ≡ trees.fields (tree (entries t) 0 cut) → page (linesOf (entries t) 8 0 s) (c .fields) (length s) ≡ messageText t s
+shown-is : (t : Table) (s : List ℕ) (c : Checked) → c ≡ check t 0 s → c .refusal ≡ 0 → (cut : Cut) → reading (schema t) 0 s ≡ accepted cut
+    → c .fields ≡ trees.fields (tree (schema t) 0 cut) → page (linesOf (schema t) 8 0 s) (c .fields) (length s) ≡ messageText t s
 unfolding messageText readText shown linesOf linesRead reading
 shown-is t s c e z cut r f = rw (← e, eq-eqb (c .refusal) 0 z, r, f)
 
 -- A message that the check does not refuse is short enough, and its reading is a cut.
 passed : (t : Table) (s : List ℕ) (c : Checked) → c ≡ check t 0 s → c .refusal ≡ 0
-    → (length s ≤ 65536) × ((cut : Cut) × (reading (entries t) 0 s ≡ accepted cut))
+    → (length s ≤ 65536) × ((cut : Cut) × (reading (schema t) 0 s ≡ accepted cut))
 passed t s c e z = check-passed t 0 s (ap (λ (x : Checked). x .refusal) (sym e) ∙ z)
 
 -- The check's count of fields is that of the tree.
-fields-are : (t : Table) (s : List ℕ) (c : Checked) → c ≡ check t 0 s → c .refusal ≡ 0 → (cut : Cut) → reading (entries t) 0 s ≡ accepted cut
-    → c .fields ≡ trees.fields (tree (entries t) 0 cut)
+fields-are : (t : Table) (s : List ℕ) (c : Checked) → c ≡ check t 0 s → c .refusal ≡ 0 → (cut : Cut) → reading (schema t) 0 s ≡ accepted cut
+    → c .fields ≡ trees.fields (tree (schema t) 0 cut)
 unfolding check checkUnder answers.refusal treeCounts answers.counts
 fields-are t s c e z cut r = long (ltb messageLimit (length s)) e
   where
     Right : Type 0
-    Right = c .fields ≡ trees.fields (tree (entries t) 0 cut)
+    Right = c .fields ≡ trees.fields (tree (schema t) 0 cut)
 
-    read : c ≡ treeCounts (entries t) 0 (reading (entries t) 0 s) → Right
-    read g = ap (λ (x : Checked). x .fields) (g ∙ ap (treeCounts (entries t) 0) r)
+    read : c ≡ treeCounts (schema t) 0 (reading (schema t) 0 s) → Right
+    read g = ap (λ (x : Checked). x .fields) (g ∙ ap (treeCounts (schema t) 0) r)
 
-    again : (b : Bool) → c ≡ cond b (answers.refusal 1 0) (cond (ltb 15 0) (answers.refusal 2 0) (treeCounts (entries t) 0 (reading (entries t) 0 s))) → Right
+    again : (b : Bool) → c ≡ cond b (answers.refusal 1 0) (cond (ltb 15 0) (answers.refusal 2 0) (treeCounts (schema t) 0 (reading (schema t) 0 s))) → Right
     again true g = let l : c .refusal ≡ 1 = ap (λ (x : Checked). x .refusal) g in absurd (omega arith)
     again false g = read g
 
-    good : (v : Bool) → c ≡ cond v (checkUnder (entries t) 0 s) (answers.refusal 2 0) → Right
+    good : (v : Bool) → c ≡ cond v (checkUnder (schema t) 0 s) (answers.refusal 2 0) → Right
     good true g = again (ltb messageLimit (length s)) g
     good false g = let l : c .refusal ≡ 2 = ap (λ (x : Checked). x .refusal) g in absurd (omega arith)
 
-    long : (b : Bool) → c ≡ cond b (answers.refusal 1 0) (cond (valid t) (checkUnder (entries t) 0 s) (answers.refusal 2 0)) → Right
+    long : (b : Bool) → c ≡ cond b (answers.refusal 1 0) (cond (valid t) (checkUnder (schema t) 0 s) (answers.refusal 2 0)) → Right
     long true g = let l : c .refusal ≡ 1 = ap (λ (x : Checked). x .refusal) g in absurd (omega arith)
     long false g = good (valid t) g
 
@@ -64,11 +64,11 @@ module _ (t : Table) (s : List ℕ) (c : Checked) (e : c ≡ check t 0 s) where
   unfolding messageText
   message-refused ne = rw (← e, ne-eqb (c .refusal) 0 ne)
 
-  pub message-accepts : c .refusal ≡ 0 → (length s ≤ 65536) × Accepts (entries t) 8 0 s
+  pub message-accepts : c .refusal ≡ 0 → (length s ≤ 65536) × Accepts (schema t) 8 0 s
   unfolding Accepts IsAccepted reading
   message-accepts z = let p = passed t s c e z in (p .0, (p .1 .0, p .1 .1))
 
-  pub message-shown : c .refusal ≡ 0 → page (linesOf (entries t) 8 0 s) (c .fields) (length s) ≡ messageText t s
+  pub message-shown : c .refusal ≡ 0 → page (linesOf (schema t) 8 0 s) (c .fields) (length s) ≡ messageText t s
   message-shown z =
       let p = passed t s c e z .1 in
       shown-is t s c e z (p .0) (p .1) (fields-are t s c e z (p .0) (p .1))

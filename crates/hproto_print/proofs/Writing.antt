@@ -6,7 +6,7 @@ use mathlib.Core.List.{List, [], _++_, append-assoc, append-nil}
 use lib.ListN.{length, drop, length-append}
 use Rattle.hproto_message.specs.Reading.{Accepts}
 use Rattle.hproto_message.proofs.Accepted.{accepts-good, accepts-levels, good-accepts}
-use Rattle.hproto_table.specs.Entry.{Entry}
+use Rattle.hproto_table.specs.Schema.{Schema}
 use Rattle.hproto_table.specs.declared.Meaning.the-variants.{Message}
 use Rattle.hproto_message.specs.Cut.{Cut, Contents, Good}
 use Rattle.hproto_message.specs.Tree.{Tree, value, tree}
@@ -23,51 +23,51 @@ use Rattle.hproto_print.proofs.Windows.{then, printed-nothing, printed-
 use Rattle.hproto_field.proofs.Passing.{Left, all-left, none-left, part, ends, leaf-next, nested-next, good-deeper}
 use Rattle.hproto_print.proofs.Counting.{direct-is}
 
-pub lines-is : (es : List Entry) (levels n : ℕ) (s : List ℕ) (cut : Cut) → Good es levels n s cut → linesOf es levels n s ≡ lines (9 - levels) (tree es n cut)
+pub lines-is : (sc : Schema) (levels n : ℕ) (s : List ℕ) (cut : Cut) → Good sc levels n s cut → linesOf sc levels n s ≡ lines (9 - levels) (tree sc n cut)
 unfolding linesOf linesRead
-lines-is es levels n s cut g = rw (good-accepted es levels n 0 0 s cut g)
+lines-is sc levels n s cut g = rw (good-accepted sc levels n 0 0 s cut g)
 
-module _ (es : List Entry) (levels n : ℕ) (s before : List ℕ) (from at : ℕ) where
+module _ (sc : Schema) (levels n : ℕ) (s before : List ℕ) (from at : ℕ) where
   abbrev pub whole : List ℕ
-  whole = linesOf es levels n s
+  whole = linesOf sc levels n s
 
   abbrev depth : ℕ
   depth = 9 - levels
 
   -- After i octets the lines of the fields passed are put.
   pub record Progress (i end : ℕ) (out : List ℕ) : Type 0 where
-    pub left : Left es (levels - 1) n s i
+    pub left : Left sc (levels - 1) n s i
     pub written : List ℕ
     pub printed : Printed before from at written end out
-    pub whole-is : whole ≡ written ++ lines depth (tree es n (left .rest))
+    pub whole-is : whole ≡ written ++ lines depth (tree sc n (left .rest))
 
-  pub begun : Accepts es levels n s → Progress 0 at before
+  pub begun : Accepts sc levels n s → Progress 0 at before
   begun a =
-      let g = accepts-good es levels n s a in
-      let r = accepts-levels es levels n s a in
+      let g = accepts-good sc levels n s a in
+      let r = accepts-levels sc levels n s a in
       record {
-        left = all-left es (levels - 1) n s (g .0) (subst (λ (r : ℕ). Good es r n s (g .0)) (sym r) (g .1));
+        left = all-left sc (levels - 1) n s (g .0) (subst (λ (r : ℕ). Good sc r n s (g .0)) (sym r) (g .1));
         written = [];
         printed = printed-nothing before from at;
-        whole-is = lines-is es levels n s (g .0) (g .1);
+        whole-is = lines-is sc levels n s (g .0) (g .1);
       }
 
   pub ended : (i end : ℕ) (out : List ℕ) → Progress i end out → length s ≤ i → Printed before from at whole end out
   unfolding tree lines
   ended i end out p h =
       same-place whole
-      (sym (p .whole-is ∙ ap (λ (c : Cut). p .written ++ lines depth (tree es n c)) (none-left es (levels - 1) n s i (p .left) h) ∙ append-nil (p .written)))
+      (sym (p .whole-is ∙ ap (λ (c : Cut). p .written ++ lines depth (tree sc n c)) (none-left sc (levels - 1) n s i (p .left) h) ∙ append-nil (p .written)))
       (p .printed)
 
   pub same-length : (i end : ℕ) (out : List ℕ) → Progress i end out → length out ≡ length before
   same-length i end out p = printed-length before from at (p .written) end out (p .printed)
 
-  module _ (fits : FitsU64 at whole) (i end : ℕ) (out : List ℕ) (p : Progress i end out) (more : i < length s) (f : Field) (found : f ≡ front es n (drop i s)) where
+  module _ (fits : FitsU64 at whole) (i end : ℕ) (out : List ℕ) (p : Progress i end out) (more : i < length s) (f : Field) (found : f ≡ front sc n (drop i s)) where
     abbrev pub contents : List ℕ
-    contents = part es (levels - 1) n s i (p .left) more f found
+    contents = part sc (levels - 1) n s i (p .left) more f found
 
     pub next-ends : (i < i + f .control + f .contents) × (i + f .control + f .contents ≤ length s)
-    next-ends = ends es (levels - 1) n s i (p .left) more f found
+    next-ends = ends sc (levels - 1) n s i (p .left) more f found
 
     -- A piece that is the next part of the whole has room.
     next-fits : (piece rest : List ℕ) → whole ≡ p .written ++ piece ++ rest → FitsU64 end piece
@@ -77,23 +77,23 @@ module _ (es : List Entry) (levels n : ℕ) (s before : List ℕ) (from at : ℕ
       abbrev leaf-text : List ℕ
       leaf-text = line depth (f .tag) (kindName (value (f .kind) contents)) (valueText (value (f .kind) contents))
 
-      leaf-whole : whole ≡ p .written ++ leaf-text ++ lines depth (tree es n (leaf-next es (levels - 1) n s i (p .left) more f found q .left .rest))
+      leaf-whole : whole ≡ p .written ++ leaf-text ++ lines depth (tree sc n (leaf-next sc (levels - 1) n s i (p .left) more f found q .left .rest))
       unfolding lines
       leaf-whole =
-          let x = leaf-next es (levels - 1) n s i (p .left) more f found q in
+          let x = leaf-next sc (levels - 1) n s i (p .left) more f found q in
           p .whole-is ∙ ap (λ (t : Tree). p .written ++ lines depth t) (x .tree-is)
-          ∙ sym (append-assoc (p .written) leaf-text (lines depth (tree es n (x .left .rest))))
+          ∙ sym (append-assoc (p .written) leaf-text (lines depth (tree sc n (x .left .rest))))
 
       pub leaf-contents : Contents (f .kind) contents
-      leaf-contents = leaf-next es (levels - 1) n s i (p .left) more f found q .contents
+      leaf-contents = leaf-next sc (levels - 1) n s i (p .left) more f found q .contents
 
       pub leaf-fits : FitsU64 end leaf-text
-      leaf-fits = next-fits leaf-text (lines depth (tree es n (leaf-next es (levels - 1) n s i (p .left) more f found q .left .rest))) leaf-whole
+      leaf-fits = next-fits leaf-text (lines depth (tree sc n (leaf-next sc (levels - 1) n s i (p .left) more f found q .left .rest))) leaf-whole
 
       pub leaf-written : (r : ℕ) (after : List ℕ) → Printed out from end leaf-text r after → Progress (i + f .control + f .contents) r after
       leaf-written r after put =
           record {
-            left = leaf-next es (levels - 1) n s i (p .left) more f found q .left;
+            left = leaf-next sc (levels - 1) n s i (p .left) more f found q .left;
             written = p .written ++ leaf-text;
             printed = then (p .printed) put;
             whole-is = leaf-whole;
@@ -101,27 +101,27 @@ module _ (es : List Entry) (levels n : ℕ) (s before : List ℕ) (from at : ℕ
 
     module _ (few : levels ≤ 8) (m : ℕ) (q : f .kind ≡ Message m) where
       abbrev message-text : List ℕ
-      message-text = line depth (f .tag) (ascii "message") (decimal (directOf es m contents))
+      message-text = line depth (f .tag) (ascii "message") (decimal (directOf sc m contents))
 
       abbrev inner-text : List ℕ
-      inner-text = linesOf es (levels - 1) m contents
+      inner-text = linesOf sc (levels - 1) m contents
 
-      pub nested-accepts : (1 ≤ levels - 1) × Accepts es (levels - 1) m contents × Accepts es 8 m contents
+      pub nested-accepts : (1 ≤ levels - 1) × Accepts sc (levels - 1) m contents × Accepts sc 8 m contents
       nested-accepts =
-          let x = nested-next es (levels - 1) n s i (p .left) more f found m q in
-          let g = good-deeper es (levels - 1) 8 m contents (x .inner) (omega arith) (x .good-inner) in
-          (x .positive, good-accepts es (levels - 1) m contents (x .inner) (x .good-inner), good-accepts es 8 m contents (x .inner) g)
+          let x = nested-next sc (levels - 1) n s i (p .left) more f found m q in
+          let g = good-deeper sc (levels - 1) 8 m contents (x .inner) (omega arith) (x .good-inner) in
+          (x .positive, good-accepts sc (levels - 1) m contents (x .inner) (x .good-inner), good-accepts sc 8 m contents (x .inner) g)
 
-      nested-whole : whole ≡ p .written ++ message-text ++ inner-text ++ lines depth (tree es n (nested-next es (levels - 1) n s i (p .left) more f found m q .left .rest))
+      nested-whole : whole ≡ p .written ++ message-text ++ inner-text ++ lines depth (tree sc n (nested-next sc (levels - 1) n s i (p .left) more f found m q .left .rest))
       unfolding lines
       nested-whole =
-          let x = nested-next es (levels - 1) n s i (p .left) more f found m q in
-          let g = good-deeper es (levels - 1) 8 m contents (x .inner) (omega arith) (x .good-inner) in
+          let x = nested-next sc (levels - 1) n s i (p .left) more f found m q in
+          let g = good-deeper sc (levels - 1) 8 m contents (x .inner) (omega arith) (x .good-inner) in
           let h = x .positive in
           let e : 9 - (levels - 1) ≡ suc depth = omega arith in
-          let a = direct-is es m contents (x .inner) g in
-          let b = lines-is es (levels - 1) m contents (x .inner) (x .good-inner) ∙ ap (λ (d : ℕ). lines d (tree es m (x .inner))) e in
-          let rest = lines depth (tree es n (x .left .rest)) in
+          let a = direct-is sc m contents (x .inner) g in
+          let b = lines-is sc (levels - 1) m contents (x .inner) (x .good-inner) ∙ ap (λ (d : ℕ). lines d (tree sc m (x .inner))) e in
+          let rest = lines depth (tree sc n (x .left .rest)) in
           p .whole-is ∙ ap (λ (t : Tree). p .written ++ lines depth t) (x .tree-is)
           ∙ rw (← a, ← b) (sym (ap (λ (l : List ℕ). l ++ rest) (append-assoc (p .written) message-text inner-text) ∙ append-assoc (p .written) (message-text ++ inner-text) rest))
 
@@ -136,7 +136,7 @@ module _ (es : List Entry) (levels n : ℕ) (s before : List ℕ) (from at : ℕ
         pub nested-written : (r : ℕ) (after : List ℕ) → Printed between from b inner-text r after → Progress (i + f .control + f .contents) r after
         nested-written r after more-put =
             record {
-              left = nested-next es (levels - 1) n s i (p .left) more f found m q .left;
+              left = nested-next sc (levels - 1) n s i (p .left) more f found m q .left;
               written = p .written ++ message-text ++ inner-text;
               printed = then (then (p .printed) put) more-put;
               whole-is = nested-whole;

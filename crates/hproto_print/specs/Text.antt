@@ -4,7 +4,7 @@ use mathlib.Core.Bool.{cond}
 use mathlib.Core.List.{List, [], _++_}
 use lib.ListN.{length}
 use lib.Dec.{eqb}
-use Rattle.hproto_table.specs.Entry.{entries}
+use Rattle.hproto_table.specs.Schema.{schema}
 use Rattle.hproto_table.specs.declared.Table.{Table}
 use Rattle.hproto_message.specs.Cut.{Cut}
 use Rattle.hproto_message.specs.Tree.{Value, raw, uint, int, string, text, Tree, end, leaf, nested, tree, fields}
@@ -66,11 +66,11 @@ refusal number place = ascii "refused " ++ decimal number ++ ascii " at " ++ dec
 
 -- A message by what reading it comes to.
 unfoldable pub readText : Table → List ℕ → Reading Cut → List ℕ
-readText t message (accepted cut) = shown (tree (entries t) 0 cut) (length message)
+readText t message (accepted cut) = shown (tree (schema t) 0 cut) (length message)
 readText t message (refused number place) = refusal number place
 
 -- The refusal of the check of a message with number 0, or the message.
 unfoldable pub messageText : Table → List ℕ → List ℕ
 messageText t message =
     let c = check t 0 message in
-    cond (eqb (c .refusal) 0) (readText t message (reading (entries t) 0 message)) (refusal (c .refusal) (c .place))
+    cond (eqb (c .refusal) 0) (readText t message (reading (schema t) 0 message)) (refusal (c .refusal) (c .place))

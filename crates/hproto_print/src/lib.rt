@@ -10,6 +10,7 @@ ghost use Prim.Native.Nat.{_≤_};
 ghost use lib.ListN.{length, take};
 ghost use Rattle.reading.specs.Reading.{messageLimit};
 ghost use Rattle.hproto_table.specs.Entry.{entry};
+ghost use Rattle.hproto_table.specs.Schema.{schemaOf};
 ghost use Rattle.hproto_print.specs.Window.{window, Printed};
 ghost use Rattle.hproto_print.specs.Text.{page as page-of, refusal as refusal-of, messageText};
 ghost use Rattle.hproto_message.specs.Reading.{Accepts};
@@ -18,8 +19,8 @@ ghost use Rattle.hproto_print.specs.Walk.{linesOf};
 // The text of a message with number 0 that was checked before, its count of fields given.
 fn page(words: &[u64], count: usize, fields: u64, s: &[u8], from: u64, out: &mut [u8]) -> u64
     requires { ⌜ length (now s) ≤ messageLimit ⌝ }
-    requires { ⌜ Accepts (map entry (take count (now words))) 8 0 (now s) ⌝ }
-    ensures { λ r. ⌜ Printed (now (out .entry)) from 0 (page-of (linesOf (map entry (take count (now (words .entry)))) 8 0 (now (s .entry))) fields (length (now (s .entry)))) r (now (out .exit)) ⌝ }
+    requires { ⌜ Accepts (schemaOf (map entry (take count (now words)))) 8 0 (now s) ⌝ }
+    ensures { λ r. ⌜ Printed (now (out .entry)) from 0 (page-of (linesOf (schemaOf (map entry (take count (now (words .entry))))) 8 0 (now (s .entry))) fields (length (now (s .entry)))) r (now (out .exit)) ⌝ }
 {
     let a = print::octets(out, from, 0, b"depth tag kind value\n");
     let b = lines::write(words, count, 0, 8, s, out, from, a);

@@ -10,6 +10,7 @@ ghost use lib.ListN.{length, take};
 ghost use Rattle.octets.specs.Number.{number as number-of};
 ghost use Rattle.octets.specs.Signed.{integer};
 ghost use Rattle.hproto_table.specs.Entry.{entry};
+ghost use Rattle.hproto_table.specs.Schema.{schemaOf};
 ghost use Rattle.hproto_message.specs.Cut.{Contents};
 ghost use Rattle.hproto_message.specs.Reading.{Accepts};
 ghost use Rattle.hproto_message.specs.Tree.{value as value-of};
@@ -101,8 +102,8 @@ fn leaf_line(
 
 // How many fields a message has itself.
 fn direct(words: &[u64], count: usize, number: u64, s: &[u8]) -> u64
-    requires { ⌜ Accepts (map entry (take count (now words))) 8 number (now s) ⌝ }
-    ensures { λ r. ⌜ r ≡ directOf (map entry (take count (now (words .entry)))) number (now (s .entry)) ⌝ }
+    requires { ⌜ Accepts (schemaOf (map entry (take count (now words)))) 8 number (now s) ⌝ }
+    ensures { λ r. ⌜ r ≡ directOf (schemaOf (map entry (take count (now (words .entry))))) number (now (s .entry)) ⌝ }
 {
     let mut i: usize = 0;
     let mut n: u64 = 0;
@@ -127,9 +128,9 @@ fn message_line(
     depth: u64,
     tag: u64,
 ) -> u64
-    requires { ⌜ Accepts (map entry (take count (now words))) 8 number (now s) ⌝ }
-    requires { ⌜ FitsU64 at (line depth tag (ascii "message") (decimal (directOf (map entry (take count (now words))) number (now s)))) ⌝ }
-    ensures { λ r. ⌜ Printed (now (out .entry)) from at (line depth tag (ascii "message") (decimal (directOf (map entry (take count (now (words .entry)))) number (now (s .entry))))) r (now (out .exit)) ⌝ }
+    requires { ⌜ Accepts (schemaOf (map entry (take count (now words)))) 8 number (now s) ⌝ }
+    requires { ⌜ FitsU64 at (line depth tag (ascii "message") (decimal (directOf (schemaOf (map entry (take count (now words)))) number (now s)))) ⌝ }
+    ensures { λ r. ⌜ Printed (now (out .entry)) from at (line depth tag (ascii "message") (decimal (directOf (schemaOf (map entry (take count (now (words .entry))))) number (now (s .entry))))) r (now (out .exit)) ⌝ }
 {
     let n = direct(words, count, number, s);
     let a = front(out, from, at, depth, tag, Meaning::Message(number));
@@ -150,9 +151,9 @@ pub(crate) fn write(
     at: u64,
 ) -> u64
     requires { ⌜ levels ≤ 8 ⌝ }
-    requires { ⌜ Accepts (map entry (take count (now words))) levels number (now s) ⌝ }
-    requires { ⌜ FitsU64 at (linesOf (map entry (take count (now words))) levels number (now s)) ⌝ }
-    ensures { λ r. ⌜ Printed (now (out .entry)) from at (linesOf (map entry (take count (now (words .entry)))) levels number (now (s .entry))) r (now (out .exit)) ⌝ }
+    requires { ⌜ Accepts (schemaOf (map entry (take count (now words)))) levels number (now s) ⌝ }
+    requires { ⌜ FitsU64 at (linesOf (schemaOf (map entry (take count (now words)))) levels number (now s)) ⌝ }
+    ensures { λ r. ⌜ Printed (now (out .entry)) from at (linesOf (schemaOf (map entry (take count (now (words .entry))))) levels number (now (s .entry))) r (now (out .exit)) ⌝ }
 {
     let mut i: usize = 0;
     let mut end = at;

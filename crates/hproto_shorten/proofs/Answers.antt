@@ -8,7 +8,7 @@ use lib.ListN.{length}
 use lib.Dec.{eqb}
 use borrow.Author.Tests.{le-leb, lt-leb, eq-eqb, ne-eqb}
 use Rattle.hproto_message.specs.Reading.{Accepts}
-use Rattle.hproto_table.specs.Entry.{Entry, entries}
+use Rattle.hproto_table.specs.Schema.{Schema, schema}
 use Rattle.hproto_table.specs.Valid.{valid}
 use Rattle.hproto_table.specs.declared.Table.{Table}
 use Rattle.reading.specs.Reading.{IsAccepted}
@@ -24,17 +24,17 @@ use Rattle.hproto_shorten.specs.declared.Shortened.{Shortened}
 use Rattle.hproto_check.proofs.Passed.{under-passed}
 
 -- A message that the check does not refuse is short enough and accepted.
-pub passed-accepts : (es : List Entry) (n : ℕ) (s : List ℕ) → checkUnder es n s .refusal ≡ 0 → (length s ≤ 65536) × Accepts es 8 n s
+pub passed-accepts : (sc : Schema) (n : ℕ) (s : List ℕ) → checkUnder sc n s .refusal ≡ 0 → (length s ≤ 65536) × Accepts sc 8 n s
 unfolding Accepts IsAccepted reading
-passed-accepts es n s e = under-passed es n s e
+passed-accepts sc n s e = under-passed sc n s e
 
-pub short-under : (es : List Entry) (n : ℕ) (s : List ℕ) → shortUnder es n s ≡ short es 8 n s
+pub short-under : (sc : Schema) (n : ℕ) (s : List ℕ) → shortUnder sc n s ≡ short sc 8 n s
 unfolding shortUnder short reading
-short-under es n s = refl
+short-under sc n s = refl
 
-pub short-form : (t : Table) (n : ℕ) (s : List ℕ) → shortForm t n s ≡ short (entries t) 8 n s
+pub short-form : (t : Table) (n : ℕ) (s : List ℕ) → shortForm t n s ≡ short (schema t) 8 n s
 unfolding shortForm
-short-form t n s = short-under (entries t) n s
+short-form t n s = short-under (schema t) n s
 
 -- What is promised of the answer r and of the buffer afterwards, by the check's answer c, the shortest octets and the buffer before.
 pub record Answered (c : Checked) (xs out : List ℕ) (r : Shortened) (after : List ℕ) : Type 0 where
@@ -72,15 +72,15 @@ module _ (c : Checked) (xs out : List ℕ) where
         let a : answerTo c xs out ≡ record { refusal = 0; place = 0; length = end } = rw (passed, le-leb (length xs) (length out) h, q) in
         record { answered = sym a; left = b ∙ stored-fits out 0 xs (omega arith) ∙ rw a }
 
--- A table that the loader can give is shortened under as its entries are.
-module _ (t : Table) (n : ℕ) (s out : List ℕ) (h : length s ≤ 65536) (v : valid t ≡ true) where
-  pub answer-under : answerUnder (entries t) n s out ≡ answer t n s out
+-- Under the schema of a table that the loader can give, the shortener answers as under the table.
+module _ (t : Table) (sc : Schema) (same : sc ≡ schema t) (n : ℕ) (s out : List ℕ) (h : length s ≤ 65536) (v : valid t ≡ true) where
+  pub answer-under : answerUnder sc n s out ≡ answer t n s out
   unfolding answerUnder answer shortForm
-  answer-under = ap (λ (c : Checked). answerTo c (shortUnder (entries t) n s) out) (under-valid t n s h v)
+  answer-under = rw (under-valid t n s h v sc same, same) refl
 
-  pub buffer-under : bufferUnder (entries t) n s out ≡ buffer t n s out
+  pub buffer-under : bufferUnder sc n s out ≡ buffer t n s out
   unfolding bufferUnder buffer shortForm
-  buffer-under = ap (λ (c : Checked). bufferTo c (shortUnder (entries t) n s) out) (under-valid t n s h v)
+  buffer-under = rw (under-valid t n s h v sc same, same) refl
 
 -- A refused call leaves the second buffer as it was.
 pub refused-leaves : (t : Table) (n : ℕ) (s out : List ℕ) → (answer t n s out .refusal ≡ 0 → ⊥) → buffer t n s out ≡ out

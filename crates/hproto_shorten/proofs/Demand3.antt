@@ -11,7 +11,7 @@ use Rattle.hproto_message.proofs.Accepted.{accepts-good}
 use Rattle.hproto_store.specs.Store.{stored}
 use Rattle.hproto_store.proofs.Stores.{stored-parts}
 use Rattle.octets.specs.Number.{Octets}
-use Rattle.hproto_table.specs.Entry.{entries}
+use Rattle.hproto_table.specs.Schema.{schema}
 use Rattle.hproto_table.specs.Load.{load}
 use Rattle.hproto_table.specs.Valid.{valid}
 use Rattle.hproto_table.specs.declared.Table.{Table}
@@ -36,45 +36,45 @@ module _ (t : Table) (n : ℕ) (v : valid t ≡ true) (k : n ≤ 15) where
   cut-accepted : (s : List ℕ) → length s ≤ 65536 → HasCut t n s → check t n s .refusal ≡ 0
   unfolding treeCounts counts
   cut-accepted s h c =
-      let e = accepted-exactly (entries t) n s (c .0) .1 (c .1) in
-      ap (λ (x : Checked). x .refusal) (read-through t n s h v k ∙ ap (treeCounts (entries t) n) e)
+      let e = accepted-exactly (schema t) n s (c .0) .1 (c .1) in
+      ap (λ (x : Checked). x .refusal) (read-through t n s h v k ∙ ap (treeCounts (schema t) n) e)
 
   accepted-cut : (s : List ℕ) → check t n s .refusal ≡ 0 → HasCut t n s
   unfolding Accepts IsAccepted reading
-  accepted-cut s e = accepts-good (entries t) 8 n s (check-passed t n s e .1)
+  accepted-cut s e = accepts-good (schema t) 8 n s (check-passed t n s e .1)
 
   -- The short form is the shortest form of the tree of the cut.
-  short-of : (s : List ℕ) (cut : Cut) → Good (entries t) 8 n s cut → shortForm t n s ≡ shortest (tree (entries t) n cut)
-  short-of s cut g = short-form t n s ∙ short-is (entries t) 8 n s cut g
+  short-of : (s : List ℕ) (cut : Cut) → Good (schema t) 8 n s cut → shortForm t n s ≡ shortest (tree (schema t) n cut)
+  short-of s cut g = short-form t n s ∙ short-is (schema t) 8 n s cut g
 
   module _ (s : List ℕ) (o : Octets s) (h : length s ≤ 65536) (c : HasCut t n s) where
     short-cut : ReadTheSame t n s (shortForm t n s)
     short-cut =
-        let g = shortest-good (entries t) 8 n s (c .0) o (c .1) in
+        let g = shortest-good (schema t) 8 n s (c .0) o (c .1) in
         let e = short-of s (c .0) (c .1) in
         record {
           first = c .0;
           second = g .0;
           first-good = c .1;
-          second-good = subst (λ (r : List ℕ). Good (entries t) 8 n r (g .0)) (sym e) (g .1);
+          second-good = subst (λ (r : List ℕ). Good (schema t) 8 n r (g .0)) (sym e) (g .1);
           same-tree = g .2;
         }
 
     short-is-octets : Octets (shortForm t n s)
-    short-is-octets = rw (short-of s (c .0) (c .1)) (shortest-octets (entries t) 8 n s (c .0) o (c .1))
+    short-is-octets = rw (short-of s (c .0) (c .1)) (shortest-octets (schema t) 8 n s (c .0) o (c .1))
 
     short-passes : check t n (shortForm t n s) .refusal ≡ 0
     short-passes =
         let e = ap length (short-of s (c .0) (c .1)) in
-        let l = shortest-no-longer (entries t) 8 n s (c .0) o (c .1) in
+        let l = shortest-no-longer (schema t) 8 n s (c .0) o (c .1) in
         cut-accepted (shortForm t n s) (omega arith) (short-cut .second, short-cut .second-good)
 
   others : (s r : List ℕ) → Octets r → ReadTheSame t n s r → (r ≡ shortForm t n s → ⊥) → length (shortForm t n s) < length r
   others s r o same ne =
       let e = short-of s (same .first) (same .first-good) in
-      let x : shortest (tree (entries t) n (same .second)) ≡ shortForm t n s = ap shortest (same .same-tree) ∙ sym e in
+      let x : shortest (tree (schema t) n (same .second)) ≡ shortForm t n s = ap shortest (same .same-tree) ∙ sym e in
       subst (λ (l : List ℕ). length l < length r) x
-      (others-longer (entries t) 8 n r (same .second) o (same .second-good) (λ q. ne (sym q ∙ x)))
+      (others-longer (schema t) 8 n r (same .second) o (same .second-good) (λ q. ne (sym q ∙ x)))
 
   module _ (s out : List ℕ) (h : length s ≤ 65536) (c : HasCut t n s) where
     passes : check t n s .refusal ≡ 0
@@ -103,7 +103,7 @@ demand-3 octets to loaded n k s o h out =
     let v : valid t ≡ true = loaded-valid octets (load octets) to refl loaded in
     record {
       accepted-exactly-cut = (accepted-cut t n v k s, cut-accepted t n v k s h);
-      one-cut = good-cut-unique (entries t) 8 n s;
+      one-cut = good-cut-unique (schema t) 8 n s;
       short-octets = short-is-octets t n v k s o h;
       short-accepted = short-passes t n v k s o h;
       short-reads-the-same = short-cut t n v k s o h;

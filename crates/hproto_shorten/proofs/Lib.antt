@@ -6,4 +6,3 @@ pub mod Writing
 pub mod Measuring
 pub mod Answers
 pub mod Demand3
-pub mod SameFinds

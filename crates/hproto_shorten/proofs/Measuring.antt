@@ -12,7 +12,7 @@ use Rattle.octets.specs.Signed.{integer, signedWidth}
 use Rattle.octets.specs.Control.{leastControl, controlWidths}
 use Rattle.octets.proofs.Number.{length-leastUint, width-bound}
 use Rattle.octets.proofs.Integer.{length-leastInt}
-use Rattle.hproto_table.specs.Entry.{Entry}
+use Rattle.hproto_table.specs.Schema.{Schema}
 use Rattle.hproto_table.specs.declared.Meaning.{Meaning}
 use Rattle.hproto_table.specs.declared.Meaning.the-variants.{Raw, Uint, Int, String, Text, Message}
 use Rattle.hproto_message.specs.Tree.{value}
@@ -50,40 +50,40 @@ control-few tag len =
     omega arith
 
 -- The shortest form of an accepted message is no longer than the message.
-pub short-few : (es : List Entry) (levels n : ℕ) (s : List ℕ) → Octets s → Accepts es levels n s → length (short es levels n s) ≤ length s
-short-few es levels n s o a =
-    let g = accepts-good es levels n s a in
-    rw (short-is es levels n s (g .0) (g .1)) (shortest-no-longer es levels n s (g .0) o (g .1))
+pub short-few : (sc : Schema) (levels n : ℕ) (s : List ℕ) → Octets s → Accepts sc levels n s → length (short sc levels n s) ≤ length s
+short-few sc levels n s o a =
+    let g = accepts-good sc levels n s a in
+    rw (short-is sc levels n s (g .0) (g .1)) (shortest-no-longer sc levels n s (g .0) o (g .1))
 
-module _ (es : List Entry) (levels n : ℕ) (s : List ℕ) where
+module _ (sc : Schema) (levels n : ℕ) (s : List ℕ) where
   -- After i octets, `size` counts what has been passed.
   pub record Counted (i size : ℕ) : Type 0 where
     pub written : List ℕ
-    pub passed : Passed es levels n s i written
+    pub passed : Passed sc levels n s i written
     pub total : size ≡ length written
 
-  pub counted-none : Accepts es (suc levels) n s → Counted 0 0
-  counted-none a = record { written = []; passed = nothing-passed es levels n s a; total = refl }
+  pub counted-none : Accepts sc (suc levels) n s → Counted 0 0
+  counted-none a = record { written = []; passed = nothing-passed sc levels n s a; total = refl }
 
-  pub counted-all : (i size : ℕ) → Counted i size → length s ≤ i → size ≡ length (short es (suc levels) n s)
-  counted-all i size p h = p .total ∙ sym (ap length (all-passed es levels n s i (p .written) (p .passed) h))
+  pub counted-all : (i size : ℕ) → Counted i size → length s ≤ i → size ≡ length (short sc (suc levels) n s)
+  counted-all i size p h = p .total ∙ sym (ap length (all-passed sc levels n s i (p .written) (p .passed) h))
 
-  pub counted-few : (i size : ℕ) → Counted i size → size ≤ length (short es (suc levels) n s)
-  counted-few i size p = let e = p .total in let k = passed-length es levels n s i (p .written) (p .passed) in omega arith
+  pub counted-few : (i size : ℕ) → Counted i size → size ≤ length (short sc (suc levels) n s)
+  counted-few i size p = let e = p .total in let k = passed-length sc levels n s i (p .written) (p .passed) in omega arith
 
-  module _ (i size : ℕ) (p : Counted i size) (more : i < length s) (o : Octets s) (f : Field) (found : f ≡ front es n (drop i s)) where
+  module _ (i size : ℕ) (p : Counted i size) (more : i < length s) (o : Octets s) (f : Field) (found : f ≡ front sc n (drop i s)) where
     abbrev contents : List ℕ
-    contents = part es levels n s i (p .written) (p .passed) more f found
+    contents = part sc levels n s i (p .written) (p .passed) more f found
 
     small : f .tag % 65536 ≡ f .tag
-    small = ends es levels n s i (p .written) (p .passed) more f found o .tag-small
+    small = ends sc levels n s i (p .written) (p .passed) more f found o .tag-small
 
     pub next-onward : (i < i + f .control + f .contents) × (i + f .control + f .contents ≤ length s)
     next-onward =
-        let h = ends es levels n s i (p .written) (p .passed) more f found o in
+        let h = ends sc levels n s i (p .written) (p .passed) more f found o in
         (h .onward, h .inside)
 
-    counted-next : (j : ℕ) (xs : List ℕ) → Passed es levels n s j (p .written ++ xs) → Counted j (size + length xs)
+    counted-next : (j : ℕ) (xs : List ℕ) → Passed sc levels n s j (p .written ++ xs) → Counted j (size + length xs)
     counted-next j xs q =
         let e = p .total in
         record { written = p .written ++ xs; passed = q; total = rw (length-append (p .written) xs) (omega arith) }
@@ -93,19 +93,19 @@ module _ (es : List Entry) (levels n : ℕ) (s : List ℕ) where
     leaf-counted r q e =
         subst (λ (x : ℕ). Counted (i + f .control + f .contents) (size + x)) (sym (e ∙ rw small))
         (counted-next (i + f .control + f .contents) (field (f .tag) (leastContents (value (f .kind) contents)))
-        (leaf-passed es levels n s i (p .written) (p .passed) more f found q))
+        (leaf-passed sc levels n s i (p .written) (p .passed) more f found q))
 
     module _ (m : ℕ) (q : f .kind ≡ Message m) where
-      pub nested-accepts : (1 ≤ levels) × Accepts es levels m contents
+      pub nested-accepts : (1 ≤ levels) × Accepts sc levels m contents
       nested-accepts =
-          let h = nested-passed es levels n s i (p .written) (p .passed) more f found m q in
+          let h = nested-passed sc levels n s i (p .written) (p .passed) more f found m q in
           (h .positive, h .accepts)
 
-      pub nested-counted : (k l : ℕ) → k ≡ length (short es levels m contents) → l ≡ length (leastControl (f .tag % 65536) k)
+      pub nested-counted : (k l : ℕ) → k ≡ length (short sc levels m contents) → l ≡ length (leastControl (f .tag % 65536) k)
           → Counted (i + f .control + f .contents) (size + (l + k))
       nested-counted k l a b =
-          let h = nested-passed es levels n s i (p .written) (p .passed) more f found m q in
-          let xs = short es levels m contents in
+          let h = nested-passed sc levels n s i (p .written) (p .passed) more f found m q in
+          let xs = short sc levels m contents in
           let c : l ≡ length (leastControl (f .tag) (length xs)) = b ∙ rw (small, a) in
           let e : length (field (f .tag) xs) ≡ l + k = field-length (f .tag) xs ∙ rw (a, c) in
           subst (λ (x : ℕ). Counted (i + f .control + f .contents) (size + x)) e

@@ -9,7 +9,7 @@ use lib.Seq.{length-take-le}
 use Rattle.octets.specs.Number.{Octets}
 use Rattle.octets.proofs.Number.{octets-part}
 use Rattle.octets.proofs.ControlPart.{control-size, control-take, control-bounds}
-use Rattle.hproto_table.specs.Entry.{Entry}
+use Rattle.hproto_table.specs.Schema.{Schema}
 use Rattle.hproto_table.specs.declared.Meaning.the-variants.{Message}
 use Rattle.hproto_message.specs.Cut.{Cut, Contents, Good}
 use Rattle.hproto_message.specs.Tree.{Tree, value, tree}
@@ -24,30 +24,30 @@ use Rattle.hproto_field.proofs.Passing.{Left, all-left, none-left, front-is, le
 use Rattle.hproto_shorten.specs.Written.{shortestOf, short}
 
 -- The cut of an accepted message, and its shortest form.
-pub short-is : (es : List Entry) (levels n : ℕ) (s : List ℕ) (cut : Cut) → Good es levels n s cut → short es levels n s ≡ shortest (tree es n cut)
+pub short-is : (sc : Schema) (levels n : ℕ) (s : List ℕ) (cut : Cut) → Good sc levels n s cut → short sc levels n s ≡ shortest (tree sc n cut)
 unfolding short shortestOf
-short-is es levels n s cut g = rw (good-accepted es levels n 0 0 s cut g)
+short-is sc levels n s cut g = rw (good-accepted sc levels n 0 0 s cut g)
 
-module _ (es : List Entry) (levels n : ℕ) (s : List ℕ) where
+module _ (sc : Schema) (levels n : ℕ) (s : List ℕ) where
   -- After i octets, `written` is the shortest form of the fields passed.
   pub record Passed (i : ℕ) (written : List ℕ) : Type 0 where
-    pub left : Left es levels n s i
-    pub whole : short es (suc levels) n s ≡ written ++ shortest (tree es n (left .rest))
+    pub left : Left sc levels n s i
+    pub whole : short sc (suc levels) n s ≡ written ++ shortest (tree sc n (left .rest))
 
-  pub nothing-passed : Accepts es (suc levels) n s → Passed 0 []
+  pub nothing-passed : Accepts sc (suc levels) n s → Passed 0 []
   nothing-passed a =
-      let g = accepts-good es (suc levels) n s a in
-      record { left = all-left es levels n s (g .0) (g .1); whole = short-is es (suc levels) n s (g .0) (g .1) }
+      let g = accepts-good sc (suc levels) n s a in
+      record { left = all-left sc levels n s (g .0) (g .1); whole = short-is sc (suc levels) n s (g .0) (g .1) }
 
-  pub all-passed : (i : ℕ) (written : List ℕ) → Passed i written → length s ≤ i → short es (suc levels) n s ≡ written
+  pub all-passed : (i : ℕ) (written : List ℕ) → Passed i written → length s ≤ i → short sc (suc levels) n s ≡ written
   unfolding tree shortest
   all-passed i written p h =
-      p .whole ∙ ap (λ (c : Cut). written ++ shortest (tree es n c)) (none-left es levels n s i (p .left) h) ∙ append-nil written
+      p .whole ∙ ap (λ (c : Cut). written ++ shortest (tree sc n c)) (none-left sc levels n s i (p .left) h) ∙ append-nil written
 
-  module _ (i : ℕ) (written : List ℕ) (p : Passed i written) (more : i < length s) (f : Field) (found : f ≡ front es n (drop i s)) where
+  module _ (i : ℕ) (written : List ℕ) (p : Passed i written) (more : i < length s) (f : Field) (found : f ≡ front sc n (drop i s)) where
     -- The field's octets, counted from the start of the message.
     abbrev pub part : List ℕ
-    part = fields.part es levels n s i (p .left) more f found
+    part = fields.part sc levels n s i (p .left) more f found
 
     -- The field ends within the message, and its tag has at most two octets.
     pub record Ends : Type 0 where
@@ -57,8 +57,8 @@ module _ (es : List Entry) (levels n : ℕ) (s : List ℕ) where
 
     pub ends : Octets s → Ends
     ends o =
-        let e = front-is es levels n s i (p .left) more f found .0 in
-        let w = fields.ends es levels n s i (p .left) more f found in
+        let e = front-is sc levels n s i (p .left) more f found .0 in
+        let w = fields.ends sc levels n s i (p .left) more f found in
         let y = control-size (drop i s) (f .tag) (f .contents) (f .control) e .1 in
         let m = length-take-le (f .control) (drop i s) y in
         let b = control-bounds (take (f .control) (drop i s)) (f .tag) (f .contents) (octets-part (f .control) i s o)
@@ -70,41 +70,41 @@ module _ (es : List Entry) (levels n : ℕ) (s : List ℕ) where
         → Passed (i + f .control + f .contents) (written ++ field (f .tag) (leastContents (value (f .kind) part)))
     unfolding shortest
     leaf-passed q =
-        let x = leaf-next es levels n s i (p .left) more f found q in
+        let x = leaf-next sc levels n s i (p .left) more f found q in
         let v = value (f .kind) part in
         record {
           left = x .left;
           whole =
               p .whole ∙ ap (λ (y : Tree). written ++ shortest y) (x .tree-is)
-              ∙ sym (append-assoc written (field (f .tag) (leastContents v)) (shortest (tree es n (x .left .rest))));
+              ∙ sym (append-assoc written (field (f .tag) (leastContents v)) (shortest (tree sc n (x .left .rest))));
         }
 
     pub leaf-contents : Plain (f .kind) → Contents (f .kind) part
-    leaf-contents q = leaf-next es levels n s i (p .left) more f found q .contents
+    leaf-contents q = leaf-next sc levels n s i (p .left) more f found q .contents
 
     -- A field that is a message of the number m: it is accepted, and its shortest form with a control part is the next part.
     pub record NestedPassed (m : ℕ) : Type 0 where
-      pub accepts : Accepts es levels m part
-      pub passed : Passed (i + f .control + f .contents) (written ++ field (f .tag) (short es levels m part))
+      pub accepts : Accepts sc levels m part
+      pub passed : Passed (i + f .control + f .contents) (written ++ field (f .tag) (short sc levels m part))
       pub positive : 1 ≤ levels
 
     pub nested-passed : (m : ℕ) → f .kind ≡ Message m → NestedPassed m
     unfolding shortest
     nested-passed m q =
-        let x = nested-next es levels n s i (p .left) more f found m q in
-        let e = short-is es levels m part (x .inner) (x .good-inner) in
+        let x = nested-next sc levels n s i (p .left) more f found m q in
+        let e = short-is sc levels m part (x .inner) (x .good-inner) in
         record {
-          accepts = good-accepts es levels m part (x .inner) (x .good-inner);
+          accepts = good-accepts sc levels m part (x .inner) (x .good-inner);
           passed =
               record {
                 left = x .left;
                 whole =
                     p .whole ∙ ap (λ (y : Tree). written ++ shortest y) (x .tree-is)
-                    ∙ rw (← e) (sym (append-assoc written (field (f .tag) (short es levels m part)) (shortest (tree es n (x .left .rest)))));
+                    ∙ rw (← e) (sym (append-assoc written (field (f .tag) (short sc levels m part)) (shortest (tree sc n (x .left .rest)))));
               };
           positive = x .positive;
         }
 
   -- What has been passed is no longer than the whole.
-  pub passed-length : (i : ℕ) (written : List ℕ) → Passed i written → length written ≤ length (short es (suc levels) n s)
+  pub passed-length : (i : ℕ) (written : List ℕ) → Passed i written → length written ≤ length (short sc (suc levels) n s)
   passed-length i written p = rw (p .whole) (simp length-append (omega arith))

@@ -7,7 +7,7 @@ use lib.ListN.{length, drop, length-append}
 use Rattle.hproto_message.specs.Reading.{Accepts}
 use Rattle.octets.specs.Number.{Octets}
 use Rattle.octets.specs.Control.{leastControl}
-use Rattle.hproto_table.specs.Entry.{Entry}
+use Rattle.hproto_table.specs.Schema.{Schema}
 use Rattle.hproto_table.specs.declared.Meaning.the-variants.{Message}
 use Rattle.hproto_message.specs.Tree.{value}
 use Rattle.hproto_message.specs.Shortest.{field, leastContents}
@@ -22,31 +22,31 @@ use Rattle.hproto_message.proofs.Fields.{field-length}
 use Rattle.hproto_shorten.proofs.Puts.{control-some}
 use Rattle.hproto_shorten.proofs.Behind.{stored-behind}
 
-module _ (es : List Entry) (levels n : ℕ) (s before : List ℕ) (to : ℕ) where
+module _ (sc : Schema) (levels n : ℕ) (s before : List ℕ) (to : ℕ) where
   -- After i octets the buffer holds what has been passed, from `to` up to `end`.
   pub record Progress (i end : ℕ) (out : List ℕ) : Type 0 where
     pub written : List ℕ
-    pub passed : Passed es levels n s i written
+    pub passed : Passed sc levels n s i written
     pub place : end ≡ to + length written
     pub buffer : out ≡ stored before to written
 
-  pub begun : Accepts es (suc levels) n s → Progress 0 to before
-  begun a = record { written = []; passed = nothing-passed es levels n s a; place = omega arith; buffer = sym (stored-nothing before to) }
+  pub begun : Accepts sc (suc levels) n s → Progress 0 to before
+  begun a = record { written = []; passed = nothing-passed sc levels n s a; place = omega arith; buffer = sym (stored-nothing before to) }
 
-  pub ended : (i end : ℕ) (out : List ℕ) → Progress i end out → length s ≤ i → Put before to (short es (suc levels) n s) end out
+  pub ended : (i end : ℕ) (out : List ℕ) → Progress i end out → length s ≤ i → Put before to (short sc (suc levels) n s) end out
   ended i end out p h =
-      let e = all-passed es levels n s i (p .written) (p .passed) h in
+      let e = all-passed sc levels n s i (p .written) (p .passed) h in
       record { place = rw e (p .place); buffer = rw e (p .buffer) }
 
   pub same-length : (i end : ℕ) (out : List ℕ) → Progress i end out → length out ≡ length before
   same-length i end out p = ap length (p .buffer) ∙ length-stored before to (p .written)
 
-  module _ (fits : to + length (short es (suc levels) n s) ≤ length before) (i end : ℕ) (out : List ℕ) (p : Progress i end out) where
+  module _ (fits : to + length (short sc (suc levels) n s) ≤ length before) (i end : ℕ) (out : List ℕ) (p : Progress i end out) where
     -- One more part, stored where the buffer's part ends.
-    stored-next : (j r : ℕ) (xs after : List ℕ) → Passed es levels n s j (p .written ++ xs) → Put out end xs r after → Progress j r after
+    stored-next : (j r : ℕ) (xs after : List ℕ) → Passed sc levels n s j (p .written ++ xs) → Put out end xs r after → Progress j r after
     stored-next j r xs after q put =
         let e = p .place in
-        let k = passed-length es levels n s j (p .written ++ xs) q in
+        let k = passed-length sc levels n s j (p .written ++ xs) q in
         let l = length-append (p .written) xs in
         let x = put .place in
         record {
@@ -58,56 +58,56 @@ module _ (es : List Entry) (levels n : ℕ) (s before : List ℕ) (to : ℕ) whe
         }
 
     -- One more part has room.
-    next-fits : (j : ℕ) (xs : List ℕ) → Passed es levels n s j (p .written ++ xs) → end + length xs ≤ length out
+    next-fits : (j : ℕ) (xs : List ℕ) → Passed sc levels n s j (p .written ++ xs) → end + length xs ≤ length out
     next-fits j xs q =
         let e = p .place in
-        let k = passed-length es levels n s j (p .written ++ xs) q in
+        let k = passed-length sc levels n s j (p .written ++ xs) q in
         let l = length-append (p .written) xs in
         let m = same-length i end out p in
         omega arith
 
-    module _ (more : i < length s) (o : Octets s) (f : Field) (found : f ≡ front es n (drop i s)) where
+    module _ (more : i < length s) (o : Octets s) (f : Field) (found : f ≡ front sc n (drop i s)) where
       abbrev pub contents : List ℕ
-      contents = part es levels n s i (p .written) (p .passed) more f found
+      contents = part sc levels n s i (p .written) (p .passed) more f found
 
       abbrev pub next : ℕ
       next = i + f .control + f .contents
 
       small : f .tag % 65536 ≡ f .tag
-      small = ends es levels n s i (p .written) (p .passed) more f found o .tag-small
+      small = ends sc levels n s i (p .written) (p .passed) more f found o .tag-small
 
       pub next-onward : (i < next) × (next ≤ length s)
       next-onward =
-          let h = ends es levels n s i (p .written) (p .passed) more f found o in
+          let h = ends sc levels n s i (p .written) (p .passed) more f found o in
           (h .onward, h .inside)
 
       pub leaf-fits : Plain (f .kind) → end + length (field (f .tag % 65536) (leastContents (value (f .kind) contents))) ≤ length out
-      leaf-fits q = rw small (next-fits next (field (f .tag) (leastContents (value (f .kind) contents))) (leaf-passed es levels n s i (p .written) (p .passed) more f found q))
+      leaf-fits q = rw small (next-fits next (field (f .tag) (leastContents (value (f .kind) contents))) (leaf-passed sc levels n s i (p .written) (p .passed) more f found q))
 
       pub leaf-written : (r : ℕ) (after : List ℕ) → Plain (f .kind)
           → Put out end (field (f .tag % 65536) (leastContents (value (f .kind) contents))) r after → Progress next r after
       leaf-written r after q put =
           stored-next next r (field (f .tag) (leastContents (value (f .kind) contents))) after
-          (leaf-passed es levels n s i (p .written) (p .passed) more f found q)
+          (leaf-passed sc levels n s i (p .written) (p .passed) more f found q)
           (subst (λ (t : ℕ). Put out end (field t (leastContents (value (f .kind) contents))) r after) small put)
 
       module _ (m : ℕ) (q : f .kind ≡ Message m) where
-        pub nested-accepts : (1 ≤ levels) × Accepts es levels m contents
+        pub nested-accepts : (1 ≤ levels) × Accepts sc levels m contents
         nested-accepts =
-            let h = nested-passed es levels n s i (p .written) (p .passed) more f found m q in
+            let h = nested-passed sc levels n s i (p .written) (p .passed) more f found m q in
             (h .positive, h .accepts)
 
-        whole-fits : end + (length (leastControl (f .tag) (length (short es levels m contents))) + length (short es levels m contents)) ≤ length out
+        whole-fits : end + (length (leastControl (f .tag) (length (short sc levels m contents))) + length (short sc levels m contents)) ≤ length out
         whole-fits =
-            let h = nested-passed es levels n s i (p .written) (p .passed) more f found m q in
-            subst (λ (l : ℕ). end + l ≤ length out) (field-length (f .tag) (short es levels m contents))
-            (next-fits next (field (f .tag) (short es levels m contents)) (h .passed))
+            let h = nested-passed sc levels n s i (p .written) (p .passed) more f found m q in
+            subst (λ (l : ℕ). end + l ≤ length out) (field-length (f .tag) (short sc levels m contents))
+            (next-fits next (field (f .tag) (short sc levels m contents)) (h .passed))
 
-        pub nested-fits : end + 1 + length (short es levels m contents) ≤ length out
-        nested-fits = let h = whole-fits in let o = control-some (f .tag) (length (short es levels m contents)) in omega arith
+        pub nested-fits : end + 1 + length (short sc levels m contents) ≤ length out
+        nested-fits = let h = whole-fits in let o = control-some (f .tag) (length (short sc levels m contents)) in omega arith
 
-        module _ (x : ℕ) (between : List ℕ) (put : Put out (end + 1) (short es levels m contents) x between) where
-          inner-length : x - (end + 1) ≡ length (short es levels m contents)
+        module _ (x : ℕ) (between : List ℕ) (put : Put out (end + 1) (short sc levels m contents) x between) where
+          inner-length : x - (end + 1) ≡ length (short sc levels m contents)
           inner-length = let h = put .place in omega arith
 
           pub inner-after : end + 1 ≤ x
@@ -116,7 +116,7 @@ module _ (es : List Entry) (levels n : ℕ) (s before : List ℕ) (to : ℕ) whe
           pub wrap-fits : end + length (leastControl (f .tag % 65536) (x - (end + 1))) + (x - (end + 1)) ≤ length between
           wrap-fits =
               let h = whole-fits in
-              let l = ap length (put .buffer) ∙ length-stored out (end + 1) (short es levels m contents) in
+              let l = ap length (put .buffer) ∙ length-stored out (end + 1) (short sc levels m contents) in
               rw (small, inner-length) (omega arith)
 
           pub nested-written : (r : ℕ) (after : List ℕ) → r ≡ end + length (leastControl (f .tag % 65536) (x - (end + 1))) + (x - (end + 1))
@@ -125,8 +125,8 @@ module _ (es : List Entry) (levels n : ℕ) (s before : List ℕ) (to : ℕ) whe
               → Progress next r after
           unfolding field
           nested-written r after a b =
-              let h = nested-passed es levels n s i (p .written) (p .passed) more f found m q in
-              let xs = short es levels m contents in
+              let h = nested-passed sc levels n s i (p .written) (p .passed) more f found m q in
+              let xs = short sc levels m contents in
               let k = whole-fits in
               let fl = field-length (f .tag) xs in
               let o = control-some (f .tag) (length xs) in

@@ -7,7 +7,7 @@ use mathlib.Core.Logic.{_↔_}
 use lib.ListN.{length, drop}
 use Rattle.reading.specs.Reading.{messageLimit}
 use Rattle.octets.specs.Number.{Octets}
-use Rattle.hproto_table.specs.Entry.{entries}
+use Rattle.hproto_table.specs.Schema.{schema}
 use Rattle.hproto_table.specs.Load.{load}
 use Rattle.hproto_table.specs.declared.Table.{Table}
 use Rattle.hproto_table.specs.declared.Loaded.{Loaded}
@@ -20,21 +20,21 @@ use Rattle.hproto_shorten.specs.declared.Shortened.{Shortened}
 
 -- Octets have a good cut under a table and a number.
 abbrev pub HasCut : Table → ℕ → List ℕ → Type 0
-HasCut t n s = (cut : Cut) × Good (entries t) 8 n s cut
+HasCut t n s = (cut : Cut) × Good (schema t) 8 n s cut
 
 -- Document 01's term: two messages read the same when both have a good cut and the trees of their cuts are equal.
 pub record ReadTheSame (t : Table) (n : ℕ) (s r : List ℕ) : Type 0 where
   pub first : Cut
   pub second : Cut
-  pub first-good : Good (entries t) 8 n s first
-  pub second-good : Good (entries t) 8 n r second
-  pub same-tree : tree (entries t) n second ≡ tree (entries t) n first
+  pub first-good : Good (schema t) 8 n s first
+  pub second-good : Good (schema t) 8 n r second
+  pub same-tree : tree (schema t) n second ≡ tree (schema t) n first
 
 -- What the order's third demand says of a table, a message number, a message and a second buffer.
 pub record Demand3 (t : Table) (n : ℕ) (s out : List ℕ) : Type 0 where
   -- The check accepts the message exactly where it has a good cut, and it has at most one.
   pub accepted-exactly-cut : (check t n s .refusal ≡ 0) ↔ HasCut t n s
-  pub one-cut : (a b : Cut) → Good (entries t) 8 n s a → Good (entries t) 8 n s b → a ≡ b
+  pub one-cut : (a b : Cut) → Good (schema t) 8 n s a → Good (schema t) 8 n s b → a ≡ b
   -- The short form consists of octets, the check accepts it, and it has the same tree.
   pub short-octets : HasCut t n s → Octets (shortForm t n s)
   pub short-accepted : HasCut t n s → check t n (shortForm t n s) .refusal ≡ 0

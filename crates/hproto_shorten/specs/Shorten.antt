@@ -5,7 +5,7 @@ use mathlib.Core.List.{List}
 use lib.ListN.{length}
 use lib.Seq.{sets}
 use lib.Dec.{leb, eqb}
-use Rattle.hproto_table.specs.Entry.{Entry, entries}
+use Rattle.hproto_table.specs.Schema.{Schema, schema}
 use Rattle.hproto_table.specs.declared.Table.{Table}
 use Rattle.hproto_message.specs.Reading.{reading}
 use Rattle.hproto_check.specs.Check.{check, checkUnder}
@@ -16,12 +16,12 @@ use Rattle.hproto_shorten.specs.declared.Shortened.{Shortened}
 unfoldable pub refusal : ℕ → ℕ → Shortened
 refusal number place = record { refusal = number; place = place; length = 0 }
 
--- The shortest octets that read the same as a message under entries, where it is accepted; nothing for a message that is not.
-unfoldable pub shortUnder : List Entry → ℕ → List ℕ → List ℕ
-shortUnder es n s = shortestOf es n (reading es n s)
+-- The shortest octets that read the same as a message under a schema, where it is accepted; nothing for a message that is not.
+unfoldable pub shortUnder : Schema → ℕ → List ℕ → List ℕ
+shortUnder sc n s = shortestOf sc n (reading sc n s)
 
 unfoldable pub shortForm : Table → ℕ → List ℕ → List ℕ
-shortForm t n s = shortUnder (entries t) n s
+shortForm t n s = shortUnder (schema t) n s
 
 -- Document 01's room: the second buffer is no shorter than the shortest octets.
 unfoldable pub roomy : List ℕ → List ℕ → Bool
@@ -38,15 +38,15 @@ answerTo c short out =
 unfoldable pub bufferTo : Checked → List ℕ → List ℕ → List ℕ
 bufferTo c short out = cond (eqb (answerTo c short out .refusal) 0) (sets out 0 short) out
 
--- Under a table, and under a list of entries, whatever they are.
+-- Under a table, and under a schema.
 unfoldable pub answer : Table → ℕ → List ℕ → List ℕ → Shortened
 answer t n s out = answerTo (check t n s) (shortForm t n s) out
 
 unfoldable pub buffer : Table → ℕ → List ℕ → List ℕ → List ℕ
 buffer t n s out = bufferTo (check t n s) (shortForm t n s) out
 
-unfoldable pub answerUnder : List Entry → ℕ → List ℕ → List ℕ → Shortened
-answerUnder es n s out = answerTo (checkUnder es n s) (shortUnder es n s) out
+unfoldable pub answerUnder : Schema → ℕ → List ℕ → List ℕ → Shortened
+answerUnder sc n s out = answerTo (checkUnder sc n s) (shortUnder sc n s) out
 
-unfoldable pub bufferUnder : List Entry → ℕ → List ℕ → List ℕ → List ℕ
-bufferUnder es n s out = bufferTo (checkUnder es n s) (shortUnder es n s) out
+unfoldable pub bufferUnder : Schema → ℕ → List ℕ → List ℕ → List ℕ
+bufferUnder sc n s out = bufferTo (checkUnder sc n s) (shortUnder sc n s) out

@@ -12,7 +12,7 @@ ghost use Rattle.octets.specs.Number.{Octets, number as number-of, octetsOf, le
 ghost use Rattle.octets.specs.Signed.{integer, leastInt};
 ghost use Rattle.octets.specs.Control.{leastControl};
 ghost use Rattle.hproto_store.specs.Store.{stored, moved};
-ghost use Rattle.hproto_index.specs.Slots.{listed};
+ghost use Rattle.hproto_index.specs.Slots.{indexed};
 ghost use Rattle.hproto_field.specs.Fronts.{front as front-of};
 ghost use Rattle.hproto_message.specs.Cut.{Contents};
 ghost use Rattle.hproto_message.specs.Reading.{Accepts};
@@ -146,7 +146,7 @@ fn wrap(tag: u16, out: &mut [u8], to: usize, n: usize) -> usize
 
 // The field at the front of octets, its contents unread. Most control parts are one octet, so that case is tested first.
 fn next_field(slots: &[u16; 256], words: &[u64], number: u64, s: &[u8]) -> Field
-    ensures { λ r. ⌜ r ≡ front-of (listed (now (slots .entry)) (now (words .entry))) number (now (s .entry)) ⌝ }
+    ensures { λ r. ⌜ r ≡ front-of (indexed (now (slots .entry)) (now (words .entry))) number (now (s .entry)) ⌝ }
 {
     if 0 < s.len() {
         let c = s[0];
@@ -176,9 +176,9 @@ fn write(
     to: usize,
 ) -> usize
     requires { ⌜ Octets (now s) ⌝ }
-    requires { ⌜ Accepts (listed (now slots) (now words)) levels number (now s) ⌝ }
-    requires { ⌜ to + length (short (listed (now slots) (now words)) levels number (now s)) ≤ length (now out) ⌝ }
-    ensures { λ r. ⌜ Put (now (out .entry)) to (short (listed (now (slots .entry)) (now (words .entry))) levels number (now (s .entry))) r (now (out .exit)) ⌝ }
+    requires { ⌜ Accepts (indexed (now slots) (now words)) levels number (now s) ⌝ }
+    requires { ⌜ to + length (short (indexed (now slots) (now words)) levels number (now s)) ≤ length (now out) ⌝ }
+    ensures { λ r. ⌜ Put (now (out .entry)) to (short (indexed (now (slots .entry)) (now (words .entry))) levels number (now (s .entry))) r (now (out .exit)) ⌝ }
 {
     let mut i: usize = 0;
     let mut end = to;
@@ -255,8 +255,8 @@ fn value_size(kind: Meaning, tag: u16, s: &[u8]) -> usize
 fn measure(slots: &[u16; 256], words: &[u64], number: u64, levels: u64, s: &[u8]) -> usize
     requires { ⌜ length (now s) ≤ messageLimit ⌝ }
     requires { ⌜ Octets (now s) ⌝ }
-    requires { ⌜ Accepts (listed (now slots) (now words)) levels number (now s) ⌝ }
-    ensures { λ r. ⌜ r ≡ length (short (listed (now (slots .entry)) (now (words .entry))) levels number (now (s .entry))) ⌝ }
+    requires { ⌜ Accepts (indexed (now slots) (now words)) levels number (now s) ⌝ }
+    ensures { λ r. ⌜ r ≡ length (short (indexed (now (slots .entry)) (now (words .entry))) levels number (now (s .entry))) ⌝ }
 {
     let mut i: usize = 0;
     let mut size: usize = 0;
@@ -286,8 +286,8 @@ fn measure(slots: &[u16; 256], words: &[u64], number: u64, levels: u64, s: &[u8]
 fn has_room(slots: &[u16; 256], words: &[u64], number: u64, message: &[u8], len: usize) -> bool
     requires { ⌜ length (now message) ≤ messageLimit ⌝ }
     requires { ⌜ Octets (now message) ⌝ }
-    requires { ⌜ Accepts (listed (now slots) (now words)) 8 number (now message) ⌝ }
-    ensures { λ r. ⌜ r ≡ leb (length (short (listed (now (slots .entry)) (now (words .entry))) 8 number (now (message .entry)))) len ⌝ }
+    requires { ⌜ Accepts (indexed (now slots) (now words)) 8 number (now message) ⌝ }
+    ensures { λ r. ⌜ r ≡ leb (length (short (indexed (now (slots .entry)) (now (words .entry))) 8 number (now (message .entry)))) len ⌝ }
 {
     if message.len() <= len {
         return true;
@@ -316,8 +316,8 @@ pub fn shorten_under(
     message: &[u8],
     out: &mut [u8],
 ) -> Shortened
-    ensures { λ r. ⌜ r ≡ answerUnder (listed (now (slots .entry)) (now (words .entry))) number (now (message .entry)) (now (out .entry)) ⌝ }
-    ensures { λ r. ⌜ now (out .exit) ≡ bufferUnder (listed (now (slots .entry)) (now (words .entry))) number (now (message .entry)) (now (out .entry)) ⌝ }
+    ensures { λ r. ⌜ r ≡ answerUnder (indexed (now (slots .entry)) (now (words .entry))) number (now (message .entry)) (now (out .entry)) ⌝ }
+    ensures { λ r. ⌜ now (out .exit) ≡ bufferUnder (indexed (now (slots .entry)) (now (words .entry))) number (now (message .entry)) (now (out .entry)) ⌝ }
 {
     let c = hproto_check::check_under(slots, words, number, message);
     if c.refusal != 0 {

@@ -7,6 +7,7 @@ use Rattle.octets.specs.Signed as signs
 use Rattle.octets.specs.Control as controls
 use Rattle.octets.specs.Text as texts
 use Rattle.hproto_table.specs.Entry as entries
+use Rattle.hproto_table.specs.Schema as schemas
 use Rattle.hproto_table.specs.Load as loads
 use Rattle.hproto_table.specs.Repeat as repeats
 use Rattle.hproto_table.specs.Valid as valids
@@ -56,7 +57,7 @@ unfolding input output shows.firstText shows.tableText shows.secondText prints.m
     digits.hexOrDash ascii frames.frameRead frames.frontRead frames.prefixed frames.announced frames.messagePart
     checks.check checks.checkUnder checks.treeCounts answers.counts answers.refusal readings.reading readings.messageFrom readings.fieldsFrom readings.afterStep onAccepted inOrder
     readings.step readings.stepFrom readings.stepByKind trees.tree trees.tagOf entries.innerOf trees.value trees.fields trees.depth
-    entries.find entries.meaning entries.entries entries.entry loads.load loads.loadFrom loads.accepted loads.refused loads.tableOf loads.faulty
+    schemas.schema schemas.schemaOf entries.find entries.meaning entries.entries entries.entry loads.load loads.loadFrom loads.accepted loads.refused loads.tableOf loads.faulty
     loads.seen loads.pair loads.wordsBefore loads.wellFormed loads.wordAt loads.recordAt loads.inRange valids.valid valids.allInRange valids.allZero
     repeats.distinct texts.text texts.textAfter texts.follower texts.followers octets.number signs.integer signs.withSign signs.lowest
     controls.control controls.controlOf controls.following controls.coded

@@ -7,7 +7,8 @@ use lib.Dec.{eqb, leb}
 use Rattle.reading.specs.Reading.{messageLimit}
 use Rattle.octets.specs.Text.{text}
 use Rattle.octets.specs.Control.{leastControl}
-use Rattle.hproto_table.specs.Entry.{entries, find, kindNumber, innerOf}
+use Rattle.hproto_table.specs.Entry.{kindNumber, innerOf}
+use Rattle.hproto_table.specs.Schema.{schema}
 use Rattle.hproto_table.specs.Valid.{valid}
 use Rattle.hproto_table.specs.declared.Meaning.{Meaning}
 use Rattle.hproto_table.specs.declared.Table.{Table}
@@ -36,7 +37,7 @@ level s = cond (leb (s .opened) 7) (getD (s .numbers) (s .opened) 0) 0
 
 -- What a tag means in the innermost message that is open.
 unfoldable pub meant : Table → State → ℕ → Meaning
-meant t s tag = find (entries t) (level s) tag
+meant t s tag = schema t .means (level s) tag
 
 -- The state after n more octets are stored before the earlier ones.
 unfoldable pub back : State → ℕ → State

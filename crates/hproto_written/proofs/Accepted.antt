@@ -8,7 +8,8 @@ use lib.ListN.{length}
 use lib.Dec.{eqb}
 use Rattle.octets.specs.Number.{leastUint}
 use Rattle.octets.specs.Signed.{leastInt}
-use Rattle.hproto_table.specs.Entry.{entries, find, kindNumber, innerOf}
+use Rattle.hproto_table.specs.Entry.{kindNumber, innerOf}
+use Rattle.hproto_table.specs.Schema.{schema}
 use Rattle.hproto_table.specs.declared.Meaning.{Meaning}
 use Rattle.hproto_table.specs.declared.Table.{Table}
 use Rattle.hproto_message.specs.Tree.{Tree, end, leaf, Value, uint, int}
@@ -37,7 +38,7 @@ reached-start t number lent e =
 module _ (t : Table) (number : ℕ) (lent : List ℕ) (s : State) (d : List ℕ) where
   module _ (g : Given) (r : Reached t number lent s d g) (tag : ℕ) where
     abbrev means : Meaning
-    means = find (entries t) (innermost (entries t) number g) tag
+    means = schema t .means (innermost (schema t) number g) tag
 
     reached-put : (agrees reads : Bool) (xs : List ℕ) (v : Value) → Suits means v xs → putRefusal t s (length d) agrees reads (length (field tag xs)) ≡ 0
         → Reached t number lent (put t s tag agrees reads xs (length d) .state) (putBuffer t s tag agrees reads xs d) (onFields (leaf tag v) g)
@@ -51,8 +52,8 @@ module _ (t : Table) (number : ℕ) (lent : List ℕ) (s : State) (d : List ℕ)
         let k = narrow t s tag (λ z. f .some-kind (sym (ap kindNumber (reached-meant t number lent s d g r tag)) ∙ z)) in
         rw e
         (reached-stored t number lent s d g r (field tag xs) (leaf tag v) h (λ (w : Tree). unfold shortest in rw (f .least) refl)
-        (read-more (entries t) number (leaf tag v) g
-        (λ (w : Tree). reads-leaf (entries t) (innermost (entries t) number g) tag k w (8 - openFields g) v (omega arith) (f .allowed) (f .same))
+        (read-more (schema t) number (leaf tag v) g
+        (λ (w : Tree). reads-leaf (schema t) (innermost (schema t) number g) tag k w (8 - openFields g) v (omega arith) (f .allowed) (f .same))
         (r .reads)))
 
     -- What the state says of a tag is what the fields given say of it.

@@ -4,7 +4,7 @@ use native.Mathlib.Omega.{arith}
 use mathlib.Core.Path.{_≡_, refl, sym, ap, _∙_, subst}
 use mathlib.Core.List.{List}
 use lib.ListN.{length, drop}
-use Rattle.hproto_table.specs.Entry.{entries}
+use Rattle.hproto_table.specs.Schema.{schema}
 use Rattle.hproto_table.specs.declared.Table.{Table}
 use Rattle.hproto_message.specs.Cut.{Good}
 use Rattle.hproto_message.specs.Tree.{Tree}
@@ -27,19 +27,19 @@ module _ (t : Table) (number : ℕ) (lent : List ℕ) (s : State) (d : List ℕ)
   whole-reads : (w : Tree) → Reached t number lent s d (message w) → Demand2 t number lent (s .start) d (message w)
   unfolding written AllRead treeCounts counts
   whole-reads w r =
-      let es = entries t in
+      let sc = schema t in
       let back = r .reads in
       let f = r .filled in
       let p = f .place in
       let l : length (drop (s .start) d) ≡ length (shortest w) = ap length (f .stands) in
       let limit = r .limit in
-      let good : Good es 8 number (drop (s .start) d) (back .cut) = subst (λ (m : List ℕ). Good es 8 number m (back .cut)) (sym (f .stands)) (back .good) in
-      let read = accepted-exactly es number (drop (s .start) d) (back .cut) .1 good in
+      let good : Good sc 8 number (drop (s .start) d) (back .cut) = subst (λ (m : List ℕ). Good sc 8 number m (back .cut)) (sym (f .stands)) (back .good) in
+      let read = accepted-exactly sc number (drop (s .start) d) (back .cut) .1 good in
       record {
         whole = w;
         all-given = refl;
         accepted =
-            read-through t number (drop (s .start) d) (omega arith) (r .good-table) (r .good-number) ∙ ap (treeCounts es number) read
+            read-through t number (drop (s .start) d) (omega arith) (r .good-table) (r .good-number) ∙ ap (treeCounts sc number) read
             ∙ rw (back .is) refl;
         cut = back .cut;
         good = good;

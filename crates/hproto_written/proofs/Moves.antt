@@ -7,7 +7,7 @@ use mathlib.Core.Bool.{true}
 use mathlib.Core.List.{List, _++_, append-assoc}
 use lib.ListN.{length, getD, length-append, length-set}
 use Rattle.octets.specs.Control.{leastControl}
-use Rattle.hproto_table.specs.Entry.{entries, find}
+use Rattle.hproto_table.specs.Schema.{schema}
 use Rattle.hproto_table.specs.Valid.{valid}
 use Rattle.hproto_table.specs.declared.Meaning.the-variants.{Message}
 use Rattle.hproto_table.specs.declared.Table.{Table}
@@ -38,13 +38,13 @@ reached-begun t number lent v k h =
       few = omega arith;
       filled = not-filled lent;
       noted = refl;
-      reads = reads-end (entries t) 8 number (omega arith);
+      reads = reads-end (schema t) 8 number (omega arith);
     }
 
 module _ (t : Table) (number : ℕ) (lent : List ℕ) (s : State) (d : List ℕ) where
   -- A field is stored just before the others.
   pub reached-stored : (g : Given) → Reached t number lent s d g → (xs : List ℕ) (f : Tree → Tree) → length xs ≤ s .start
-      → ((w : Tree) → shortest (f w) ≡ xs ++ shortest w) → AllRead (entries t) number (onFields f g)
+      → ((w : Tree) → shortest (f w) ≡ xs ++ shortest w) → AllRead (schema t) number (onFields f g)
       → Reached t number lent (back s (length xs)) (stored d (s .start - length xs) xs) (onFields f g)
   unfolding back
   reached-stored g r xs f h e reads =
@@ -67,7 +67,7 @@ module _ (t : Table) (number : ℕ) (lent : List ℕ) (s : State) (d : List ℕ)
       }
 
   pub reached-deeper : (g : Given) → Reached t number lent s d g → (tag m : ℕ) → tag < 65536
-      → find (entries t) (innermost (entries t) number g) tag ≡ Message m → openFields g ≤ 6
+      → schema t .means (innermost (schema t) number g) tag ≡ Message m → openFields g ≤ 6
       → Reached t number lent (deeper s tag m) d (opened tag end g)
   unfolding deeper
   reached-deeper g r tag m h e k =
@@ -75,7 +75,7 @@ module _ (t : Table) (number : ℕ) (lent : List ℕ) (s : State) (d : List ℕ)
       let a = r .slots .number-slots in
       let b = r .slots .mark-slots in
       let c = r .slots .tag-slots in
-      let i = opened-innermost (entries t) number tag m end g e in
+      let i = opened-innermost (schema t) number tag m end g e in
       record {
         good-table = r .good-table;
         good-number = r .good-number;
@@ -94,7 +94,7 @@ module _ (t : Table) (number : ℕ) (lent : List ℕ) (s : State) (d : List ℕ)
             rw (o, add-one (openFields g), ← i)
             (noted-opened t number (length lent) (s .numbers) (s .marks) (s .tags) tag (s .start) g (omega arith) (omega arith) (omega arith)
             (r .filled .place) (r .noted));
-        reads = read-opened (entries t) number tag g h m e k (r .reads);
+        reads = read-opened (schema t) number tag g h m e k (r .reads);
       }
 
   module _ (tag : ℕ) (w : Tree) (around : Given) (r : Reached t number lent s d (opened tag w around)) where
@@ -116,7 +116,7 @@ module _ (t : Table) (number : ℕ) (lent : List ℕ) (s : State) (d : List ℕ)
         → Reached t number lent (outer (back s (length part))) (stored d (s .start - length part) part) (onFields (nested tag w) around)
     unfolding outer back written openFields Noted AllRead
     reached-outer part e h =
-        let es = entries t in
+        let sc = schema t in
         let f : Tree → Tree = nested tag w in
         let k = r .few in
         let c = r .count in
@@ -124,8 +124,8 @@ module _ (t : Table) (number : ℕ) (lent : List ℕ) (s : State) (d : List ℕ)
         let p = r .filled .place in
         let l = length-append (shortest w) (written around) in
         let limit = r .limit in
-        let n = innermost es number around in
-        let m = innermost es number (opened tag w around) in
+        let n = innermost sc number around in
+        let m = innermost sc number (opened tag w around) in
         let in-one : 8 - openFields around ≡ suc (8 - suc (openFields around)) = omega arith in
         let all : part ++ (shortest w ++ written around) ≡ written (onFields f around) =
         unfold field in rw e (sym (append-assoc (leastControl tag (length (shortest w))) (shortest w) (written around))
@@ -144,10 +144,10 @@ module _ (t : Table) (number : ℕ) (lent : List ℕ) (s : State) (d : List ℕ)
               (filled-before lent d (s .start) (shortest w ++ written around) part (r .filled) h);
           noted = noted-more t number (length lent) (s .numbers) (s .marks) (s .tags) f around (r .noted .1);
           reads =
-              read-more es number f around
-              (λ (u : Tree) (later : ReadsBack es (8 - openFields around) n u).
-              subst (λ (x : ℕ). ReadsBack es x n (f u)) (sym in-one)
-              (reads-nested es n tag (r .reads .0 .narrow) u (8 - suc (openFields around)) m w (omega arith) (r .reads .0 .kind)
-              (r .reads .0 .reads) (subst (λ (x : ℕ). ReadsBack es x n u) in-one later)))
+              read-more sc number f around
+              (λ (u : Tree) (later : ReadsBack sc (8 - openFields around) n u).
+              subst (λ (x : ℕ). ReadsBack sc x n (f u)) (sym in-one)
+              (reads-nested sc n tag (r .reads .0 .narrow) u (8 - suc (openFields around)) m w (omega arith) (r .reads .0 .kind)
+              (r .reads .0 .reads) (subst (λ (x : ℕ). ReadsBack sc x n u) in-one later)))
               (r .reads .1);
         }

@@ -6,7 +6,7 @@ use mathlib.Core.Bool.{true}
 use mathlib.Core.List.{List, []}
 use lib.ListN.{length, getD, set, take, length-append}
 use lib.Seq.{take-suc, getD-set-same, getD-set-other}
-use Rattle.hproto_table.specs.Entry.{entries}
+use Rattle.hproto_table.specs.Schema.{schema}
 use Rattle.hproto_table.specs.Valid.{valid}
 use Rattle.hproto_table.specs.declared.Table.{Table}
 use Rattle.hproto_message.specs.Tree.{Tree, end}
@@ -21,7 +21,7 @@ module _ (t : Table) (number len : ℕ) where
   pub record OpenNoted (numbers marks tags : List ℕ) (tag : ℕ) (w : Tree) (around : Given) : Type 0 where
     pub tag-noted : getD tags (openFields around) 0 ≡ tag
     pub mark-noted : getD marks (openFields around) 0 + length (written around) ≡ len
-    pub number-noted : getD numbers (suc (openFields around)) 0 ≡ innermost (entries t) number (opened tag w around)
+    pub number-noted : getD numbers (suc (openFields around)) 0 ≡ innermost (schema t) number (opened tag w around)
 
   unfoldable pub Noted : List ℕ → List ℕ → List ℕ → Given → Type 0
   Noted numbers marks tags (message w) = getD numbers 0 0 ≡ number
@@ -29,7 +29,7 @@ module _ (t : Table) (number len : ℕ) where
 
   module _ (numbers marks tags : List ℕ) where
     -- The number noted for the innermost message is its own.
-    pub noted-number : (g : Given) → Noted numbers marks tags g → getD numbers (openFields g) 0 ≡ innermost (entries t) number g
+    pub noted-number : (g : Given) → Noted numbers marks tags g → getD numbers (openFields g) 0 ≡ innermost (schema t) number g
     unfolding Noted openFields innermost
     noted-number (message w) n = n
     noted-number (opened tag w around) n = n .0 .number-noted
@@ -60,7 +60,7 @@ module _ (t : Table) (number len : ℕ) where
     noted-small v s (opened tag w around) h n =
         let k = suc (openFields around) in
         let e = n .0 .number-noted in
-        let l = inner-small t (innermost (entries t) number around) tag v in
+        let l = inner-small t (innermost (schema t) number around) tag v in
         rw (take-suc numbers k 0 h) (small-last (getD numbers k 0) (take k numbers) (omega arith)
         (noted-small v s around (omega arith) (n .1)))
 
@@ -81,12 +81,12 @@ module _ (t : Table) (number len : ℕ) where
 
     pub noted-opened : (tag start : ℕ) (g : Given) → suc (openFields g) < length numbers → openFields g < length marks → openFields g < length tags
         → start + length (written g) ≡ len → Noted numbers marks tags g
-        → Noted (set numbers (suc (openFields g)) (innermost (entries t) number (opened tag end g))) (set marks (openFields g) start)
+        → Noted (set numbers (suc (openFields g)) (innermost (schema t) number (opened tag end g))) (set marks (openFields g) start)
         (set tags (openFields g) tag) (opened tag end g)
     unfolding Noted
     noted-opened tag start g a b d e n =
         let k = openFields g in
-        let m = innermost (entries t) number (opened tag end g) in (
+        let m = innermost (schema t) number (opened tag end g) in (
           record {
             tag-noted = getD-set-same tags k tag 0 d;
             mark-noted = ap (λ (x : ℕ). x + length (written g)) (getD-set-same marks k start 0 b) ∙ e;

@@ -8,7 +8,7 @@ use mathlib.Core.List.{List}
 use lib.ListN.{length, take, getD}
 use lib.Dec.{leb}
 use borrow.Author.Tests.{le-leb}
-use Rattle.hproto_table.specs.Entry.{entries, find}
+use Rattle.hproto_table.specs.Schema.{schema}
 use Rattle.hproto_table.specs.Valid.{valid}
 use Rattle.hproto_table.specs.declared.Table.{Table}
 use Rattle.hproto_table.proofs.Bools.{and-both}
@@ -39,7 +39,7 @@ pub record Reached (t : Table) (number : ℕ) (lent : List ℕ) (s : State) (d :
   pub few : openFields g ≤ 7
   pub filled : Filled lent d (s .start) (written g)
   pub noted : Noted t number (length lent) (s .numbers) (s .marks) (s .tags) g
-  pub reads : AllRead (entries t) number g
+  pub reads : AllRead (schema t) number g
 
 module _ (t : Table) (number : ℕ) (lent : List ℕ) (s : State) (d : List ℕ) (g : Given) (r : Reached t number lent s d g) where
   pub reached-sound : sound s ≡ true
@@ -70,13 +70,13 @@ module _ (t : Table) (number : ℕ) (lent : List ℕ) (s : State) (d : List ℕ)
       smalls
 
   -- The level of the state is that of the fields given.
-  pub reached-level : level s ≡ innermost (entries t) number g
+  pub reached-level : level s ≡ innermost (schema t) number g
   reached-level =
       let k = r .few in
       let o = r .count in
       sym (level-in s (omega arith)) ∙ ap (λ (i : ℕ). getD (s .numbers) i 0) o
       ∙ noted-number t number (length lent) (s .numbers) (s .marks) (s .tags) g (r .noted)
 
-  pub reached-meant : (tag : ℕ) → meant t s tag ≡ find (entries t) (innermost (entries t) number g) tag
+  pub reached-meant : (tag : ℕ) → meant t s tag ≡ schema t .means (innermost (schema t) number g) tag
   unfolding meant
-  reached-meant tag = ap (λ (n : ℕ). find (entries t) n tag) reached-level
+  reached-meant tag = ap (λ (n : ℕ). schema t .means n tag) reached-level

@@ -6,7 +6,8 @@ use mathlib.Core.List.{List, _++_}
 use lib.ListN.{length}
 use Rattle.octets.specs.Control.{control, leastControl}
 use Rattle.octets.proofs.ControlPart.{control-leastControl}
-use Rattle.hproto_table.specs.Entry.{Entry, find, innerOf}
+use Rattle.hproto_table.specs.Entry.{innerOf}
+use Rattle.hproto_table.specs.Schema.{Schema}
 use Rattle.hproto_table.specs.declared.Meaning.the-variants.{Message}
 use Rattle.hproto_message.specs.Cut as cuts
 use Rattle.hproto_message.specs.Cut.{Cut, joined, WholeField, Contents, NestedField, Allowed, Good}
@@ -14,14 +15,14 @@ use Rattle.hproto_message.specs.Tree.{Tree, Value, tagOf, value, tree}
 use Rattle.hproto_message.specs.Shortest.{leastContents, field, shortest}
 
 -- The shortest form of a tree, as a message of a number and at most so many levels deep, reads back as the tree.
-pub record ReadsBack (es : List Entry) (levels n : ℕ) (w : Tree) : Type 0 where
+pub record ReadsBack (sc : Schema) (levels n : ℕ) (w : Tree) : Type 0 where
   pub cut : Cut
-  pub good : Good es levels n (shortest w) cut
-  pub is : tree es n cut ≡ w
+  pub good : Good sc levels n (shortest w) cut
+  pub is : tree sc n cut ≡ w
 
-pub reads-end : (es : List Entry) (levels n : ℕ) → 1 ≤ levels → ReadsBack es levels n Tree.end
+pub reads-end : (sc : Schema) (levels n : ℕ) → 1 ≤ levels → ReadsBack sc levels n Tree.end
 unfolding joined Allowed cuts.depth tree shortest
-reads-end es levels n h = record { cut = Cut.end; good = record { divides = refl; allowed = tt; shallow = h }; is = refl }
+reads-end sc levels n h = record { cut = Cut.end; good = record { divides = refl; allowed = tt; shallow = h }; is = refl }
 
 module _ (tag : ℕ) (r : List ℕ) (h : tag < 65536) (k : length r ≤ 65536) where
   whole : WholeField tag (leastControl tag (length r)) r
@@ -31,9 +32,9 @@ module _ (tag : ℕ) (r : List ℕ) (h : tag < 65536) (k : length r ≤ 65536) w
   unfolding tagOf
   tag-is = ap tagOf (whole .control-part)
 
-module _ (es : List Entry) (n tag : ℕ) (h : tag < 65536) (w : Tree) where
-  pub reads-leaf : (levels : ℕ) (v : Value) → length (leastContents v) ≤ 65536 → Contents (find es n tag) (leastContents v)
-      → value (find es n tag) (leastContents v) ≡ v → ReadsBack es levels n w → ReadsBack es levels n (Tree.leaf tag v w)
+module _ (sc : Schema) (n tag : ℕ) (h : tag < 65536) (w : Tree) where
+  pub reads-leaf : (levels : ℕ) (v : Value) → length (leastContents v) ≤ 65536 → Contents (sc .means n tag) (leastContents v)
+      → value (sc .means n tag) (leastContents v) ≡ v → ReadsBack sc levels n w → ReadsBack sc levels n (Tree.leaf tag v w)
   unfolding joined Allowed cuts.depth tree shortest field
   reads-leaf levels v k a e later =
       let r = leastContents v in
@@ -49,21 +50,21 @@ module _ (es : List Entry) (n tag : ℕ) (h : tag < 65536) (w : Tree) where
         is = rw (tag-is tag r h k, e, later .is);
       }
 
-  pub reads-nested : (levels m : ℕ) (inside : Tree) → length (shortest inside) ≤ 65536 → find es n tag ≡ Message m
-      → ReadsBack es levels m inside → ReadsBack es (suc levels) n w → ReadsBack es (suc levels) n (Tree.nested tag inside w)
+  pub reads-nested : (levels m : ℕ) (inside : Tree) → length (shortest inside) ≤ 65536 → sc .means n tag ≡ Message m
+      → ReadsBack sc levels m inside → ReadsBack sc (suc levels) n w → ReadsBack sc (suc levels) n (Tree.nested tag inside w)
   unfolding joined Allowed cuts.depth tree shortest field innerOf
   reads-nested levels m inside k e inner later =
       let r = shortest inside in
       let c = leastControl tag (length r) in
       let p = inner .good .shallow in
       let q = later .good .shallow in
-      let f : NestedField es n m c r = record { tag = tag; whole = whole tag r h k; allowed = e } in
+      let f : NestedField sc n m c r = record { tag = tag; whole = whole tag r h k; allowed = e } in
       record {
         cut = Cut.nested c (inner .cut) (later .cut);
         good =
             record {
               divides = ap₂ (λ (x y : List ℕ). c ++ x ++ y) (inner .good .divides) (later .good .divides);
-              allowed = ((m, subst (λ (x : List ℕ). NestedField es n m c x) (sym (inner .good .divides)) f, inner .good .allowed), later .good .allowed);
+              allowed = ((m, subst (λ (x : List ℕ). NestedField sc n m c x) (sym (inner .good .divides)) f, inner .good .allowed), later .good .allowed);
               shallow = omega arith;
             };
         is = rw (tag-is tag r h k, e, inner .is, later .is);

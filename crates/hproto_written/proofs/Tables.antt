@@ -8,6 +8,7 @@ use lib.ListN.{take, drop}
 use lib.Dec.{eqb, leb, ltb}
 use borrow.Author.Tests.{ltb-true}
 use Rattle.hproto_table.specs.Entry.{Entry, meaning, entry, find, entries, innerOf}
+use Rattle.hproto_table.specs.Schema.{schemaOf, schema}
 use Rattle.hproto_table.specs.Load.{inRange}
 use Rattle.hproto_table.specs.Repeat.{distinct}
 use Rattle.hproto_table.specs.Valid.{allInRange, allZero, valid}
@@ -44,8 +45,8 @@ words-small (w ∷ ws) number tag h =
     (words-small ws number tag (and-right (inRange (entry w)) (allInRange ws) h))
 
 -- No inner number of a table that the loader can give is above 15.
-pub inner-small : (t : Table) (number tag : ℕ) → valid t ≡ true → innerOf (find (entries t) number tag) ≤ 15
-unfolding valid entries
+pub inner-small : (t : Table) (number tag : ℕ) → valid t ≡ true → innerOf (schema t .means number tag) ≤ 15
+unfolding valid schema schemaOf entries
 inner-small t number tag v =
     let used = take (t .count) (t .words) in
     let a = leb (t .count) 64 in

@@ -6,7 +6,8 @@ use mathlib.Core.List.{List, _++_, append-assoc}
 use lib.ListN.{length, length-append}
 use borrow.Author.Tests.{le-leb}
 use Rattle.octets.specs.Control.{leastControl}
-use Rattle.hproto_table.specs.Entry.{entries, find, kindNumber}
+use Rattle.hproto_table.specs.Entry.{kindNumber}
+use Rattle.hproto_table.specs.Schema.{schema}
 use Rattle.hproto_table.specs.declared.Meaning.{Meaning}
 use Rattle.hproto_table.specs.declared.Meaning.the-variants.{Uint, Int, String, Text, Message}
 use Rattle.hproto_table.specs.declared.Table.{Table}
@@ -87,11 +88,11 @@ module _ (t : Table) (number : ℕ) (lent : List ℕ) where
     unfolding refusalForRoom orRefuse
     has-room size h = rw (le-leb (length (written g) + size) (length lent) h) refl
 
-    of-kind : (tag : ℕ) (k : Meaning) → find (entries t) (innermost (entries t) number g) tag ≡ k → kindIn t number g tag ≡ kindNumber k
+    of-kind : (tag : ℕ) (k : Meaning) → schema t .means (innermost (schema t) number g) tag ≡ k → kindIn t number g tag ≡ kindNumber k
     unfolding kindIn
     of-kind tag k e = ap kindNumber e
 
-    more-leaf : RunTo g → (tag : ℕ) (v : Value) → OfKind (find (entries t) (innermost (entries t) number g) tag) v
+    more-leaf : RunTo g → (tag : ℕ) (v : Value) → OfKind (schema t .means (innermost (schema t) number g) tag) v
         → length (written g) + length (field tag (leastContents v)) ≤ length lent → RunTo (onFields (leaf tag v) g)
     unfolding OfKind leastContents InRange refusalOfCall giving orRefuse kindNumber ofOctets readable octetsAs
     more-leaf r tag (raw xs) h l = absurd h
@@ -104,7 +105,7 @@ module _ (t : Table) (number : ℕ) (lent : List ℕ) where
         let e = of-kind tag Text (h .0) in
         subst RunTo (rw e refl) (one-more g r (putOctets tag xs) tt (rw (e, h .1) (has-room (length (field tag xs)) l)))
 
-    more-open : RunTo g → (tag m : ℕ) → find (entries t) (innermost (entries t) number g) tag ≡ Message m → openFields g ≤ 6 → RunTo (opened tag end g)
+    more-open : RunTo g → (tag m : ℕ) → schema t .means (innermost (schema t) number g) tag ≡ Message m → openFields g ≤ 6 → RunTo (opened tag end g)
     unfolding InRange refusalOfCall giving orRefuse kindNumber
     more-open r tag m e h = one-more g r (openField tag) tt (rw (of-kind tag (Message m) e, le-leb (openFields g) 6 h) refl)
 
@@ -115,7 +116,7 @@ module _ (t : Table) (number : ℕ) (lent : List ℕ) where
 
   -- ---- a whole tree
 
-  more-fields : (w : Tree) (g : Given) → Writable (entries t) (innermost (entries t) number g) w → depth w + openFields g ≤ 8
+  more-fields : (w : Tree) (g : Given) → Writable (schema t) (innermost (schema t) number g) w → depth w + openFields g ≤ 8
       → length (written g) + length (shortest w) ≤ length lent → RunTo g → RunTo (onFields (before w) g)
   unfolding Writable depth shortest
   more-fields end g h d l r = subst RunTo (sym (on-end g)) r
@@ -124,8 +125,8 @@ module _ (t : Table) (number : ℕ) (lent : List ℕ) where
       let a = length-append (field tag (leastContents v)) (shortest rest) in
       let b = ap length (written-before (shortest rest) (before rest) (shortest-before rest) g) in
       let c = length-append (shortest rest) (written g) in
-      let n = same-innermost (entries t) number (before rest) g in
-      let k = subst (λ (i : ℕ). OfKind (find (entries t) i tag) v) (sym n) (h .0) in
+      let n = same-innermost (schema t) number (before rest) g in
+      let k = subst (λ (i : ℕ). OfKind (schema t .means i tag) v) (sym n) (h .0) in
       subst RunTo (on-leaf tag v rest g) (more-leaf one (more-fields rest g (h .1) d (omega arith) r) tag v k (omega arith))
   more-fields (nested tag inside rest) g h d l r =
       let one = onFields (before rest) g in
@@ -136,14 +137,14 @@ module _ (t : Table) (number : ℕ) (lent : List ℕ) where
       let b = ap length (written-before (shortest rest) (before rest) (shortest-before rest) g) in
       let c = length-append (shortest rest) (written g) in
       let o = same-open (before rest) g in
-      let n = same-innermost (entries t) number (before rest) g in
+      let n = same-innermost (schema t) number (before rest) g in
       let p = depth-positive inside in
-      let e : find (entries t) (innermost (entries t) number one) tag ≡ Message m = subst (λ (i : ℕ). find (entries t) i tag ≡ Message m) (sym n) (h .0 .1) in
-      let i = opened-innermost (entries t) number tag m end one e in
+      let e : schema t .means (innermost (schema t) number one) tag ≡ Message m = subst (λ (i : ℕ). schema t .means i tag ≡ Message m) (sym n) (h .0 .1) in
+      let i = opened-innermost (schema t) number tag m end one e in
       let u : length (written two) ≡ length (written one) = unfold written shortest in refl in
       let q : openFields two ≡ suc (openFields one) = unfold openFields in refl in
       let opens = more-open one (more-fields rest g (h .1) (omega arith) (omega arith) r) tag m e (omega arith) in
-      let fills = more-fields inside two (subst (λ (x : ℕ). Writable (entries t) x inside) (sym i) (h .0 .2)) (omega arith) (omega arith) opens in
+      let fills = more-fields inside two (subst (λ (x : ℕ). Writable (schema t) x inside) (sym i) (h .0 .2)) (omega arith) (omega arith) opens in
       let three : onFields (before inside) two ≡ opened tag inside one = unfold onFields in ap (λ (x : Tree). opened tag x one) (before-end inside) in
       let s : length (written (opened tag inside one)) ≡ length (shortest inside) + length (written one) =
       unfold written in length-append (shortest inside) (written one) in
@@ -151,7 +152,7 @@ module _ (t : Table) (number : ℕ) (lent : List ℕ) where
 
 -- Where start is accepted, a run writes each tree that can be written, is at most 8 deep and fits the lent buffer in its shortest form.
 pub all-written : (t : Table) (number : ℕ) (lent : List ℕ) → started t number (length lent) .refusal ≡ 0
-    → (w : Tree) → Writable (entries t) number w → depth w ≤ 8 → length (shortest w) ≤ length lent → Writes t number lent w
+    → (w : Tree) → Writable (schema t) number w → depth w ≤ 8 → length (shortest w) ≤ length lent → Writes t number lent w
 unfolding innermost openFields written onFields refusalOfFinish shortest
 all-written t number lent e w h d l =
     let r : RunTo t number lent (message end) = record { state = _; after = _; run = start e } in

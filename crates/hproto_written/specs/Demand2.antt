@@ -4,7 +4,7 @@ use Prim.Native.Nat.{ℕ, _+_}
 use mathlib.Core.Path.{_≡_}
 use mathlib.Core.List.{List}
 use lib.ListN.{length, take, drop}
-use Rattle.hproto_table.specs.Entry.{entries}
+use Rattle.hproto_table.specs.Schema.{schema}
 use Rattle.hproto_table.specs.declared.Table.{Table}
 use Rattle.hproto_message.specs.Cut.{Cut, Good}
 use Rattle.hproto_message.specs.Tree.{Tree, tree, fields, depth}
@@ -25,8 +25,8 @@ pub record Demand2 (t : Table) (number : ℕ) (lent : List ℕ) (from : ℕ) (af
   pub accepted : check t number (drop from after) ≡ record { refusal = 0; place = 0; fields = fields whole; depth = depth whole }
   -- They have a good cut, and its tree is that of the fields given.
   pub cut : Cut
-  pub good : Good (entries t) 8 number (drop from after) cut
-  pub reads-back : tree (entries t) number cut ≡ whole
+  pub good : Good (schema t) 8 number (drop from after) cut
+  pub reads-back : tree (schema t) number cut ≡ whole
   -- They are the shortest octets that do and reach to the buffer's end, and the octets before them are as they were lent.
   pub is-shortest : drop from after ≡ shortest whole
   pub to-the-end : from + length (shortest whole) ≡ length lent

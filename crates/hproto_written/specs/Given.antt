@@ -1,7 +1,8 @@
 -- The fields that calls of the writer give.
 use Prim.Native.Nat.{ℕ, suc}
 use mathlib.Core.List.{List, _++_}
-use Rattle.hproto_table.specs.Entry.{Entry, find, innerOf}
+use Rattle.hproto_table.specs.Entry.{innerOf}
+use Rattle.hproto_table.specs.Schema.{Schema}
 use Rattle.hproto_message.specs.Tree.{Tree, nested}
 use Rattle.hproto_message.specs.Shortest.{shortest}
 
@@ -28,9 +29,9 @@ openFields (message w) = 0
 openFields (opened tag w around) = suc (openFields around)
 
 -- The number of the innermost message under a table, where the outermost message has this number.
-unfoldable pub innermost : List Entry → ℕ → Given → ℕ
-innermost es number (message w) = number
-innermost es number (opened tag w around) = innerOf (find es (innermost es number around) tag)
+unfoldable pub innermost : Schema → ℕ → Given → ℕ
+innermost sc number (message w) = number
+innermost sc number (opened tag w around) = innerOf (sc .means (innermost sc number around) tag)
 
 -- The octets written for what is given so far. The control part of a field that is open is not written yet.
 unfoldable pub written : Given → List ℕ

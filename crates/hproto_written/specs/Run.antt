@@ -6,7 +6,8 @@ use mathlib.Core.List.{List}
 use lib.ListN.{length}
 use lib.Dec.{eqb}
 use lib.Signed.{mag}
-use Rattle.hproto_table.specs.Entry.{entries, find, kindNumber}
+use Rattle.hproto_table.specs.Entry.{kindNumber}
+use Rattle.hproto_table.specs.Schema.{schema}
 use Rattle.hproto_table.specs.declared.Table.{Table}
 use Rattle.hproto_message.specs.Tree.{end, leaf, Value, uint, int, string, text}
 use Rattle.hproto_state.specs.Calls.{started}
@@ -25,7 +26,7 @@ InRange closeField = Unit {0}
 
 -- The number of the kind that a tag has in the innermost message, under a table and the number of the outermost message.
 unfoldable pub kindIn : Table → ℕ → Given → ℕ → ℕ
-kindIn t number g tag = kindNumber (find (entries t) (innermost (entries t) number g) tag)
+kindIn t number g tag = kindNumber (schema t .means (innermost (schema t) number g) tag)
 
 -- Octets as a value of a kind: text for kind 4, else string.
 unfoldable pub octetsAs : ℕ → List ℕ → Value

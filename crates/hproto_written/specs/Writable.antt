@@ -6,7 +6,7 @@ use mathlib.Core.Bool.{true}
 use mathlib.Core.List.{List}
 use lib.Signed.{mag}
 use Rattle.octets.specs.Text as octets
-use Rattle.hproto_table.specs.Entry.{Entry, find}
+use Rattle.hproto_table.specs.Schema.{Schema}
 use Rattle.hproto_table.specs.declared.Meaning.{Meaning}
 use Rattle.hproto_table.specs.declared.Meaning.the-variants.{Uint, Int, String, Text, Message}
 use Rattle.hproto_table.specs.declared.Table.{Table}
@@ -25,10 +25,10 @@ OfKind k (string xs) = k ≡ String
 OfKind k (text xs) = (k ≡ Text) × (octets.text xs ≡ true)
 
 -- Every field of a tree, at all depths, has a tag of the table and a value of its kind.
-unfoldable pub Writable : List Entry → ℕ → Tree → Type 0
-Writable es n end = Unit {0}
-Writable es n (leaf tag v rest) = OfKind (find es n tag) v × Writable es n rest
-Writable es n (nested tag inside rest) = ((m : ℕ) × (find es n tag ≡ Message m) × Writable es m inside) × Writable es n rest
+unfoldable pub Writable : Schema → ℕ → Tree → Type 0
+Writable sc n end = Unit {0}
+Writable sc n (leaf tag v rest) = OfKind (sc .means n tag) v × Writable sc n rest
+Writable sc n (nested tag inside rest) = ((m : ℕ) × (sc .means n tag ≡ Message m) × Writable sc m inside) × Writable sc n rest
 
 -- A run that gives just the fields of a tree, and that can be finished.
 pub record Writes (t : Table) (number : ℕ) (lent : List ℕ) (w : Tree) : Type 0 where

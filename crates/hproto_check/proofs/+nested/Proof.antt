@@ -6,8 +6,8 @@ use mathlib.Core.List.{List}
 use lib.ListN.{length, take, drop, length-take, length-drop}
 use lib.Seq.{take-all}
 use denote.Ref.{now}
-use Rattle.hproto_table.specs.Entry.{Entry}
-use Rattle.hproto_index.specs.Slots.{listed}
+use Rattle.hproto_table.specs.Schema.{Schema}
+use Rattle.hproto_index.specs.Slots.{indexed}
 use Rattle.hproto_message.specs.Reading.{messageFrom, fieldsFrom, step}
 use Rattle.reading.specs.Checks.{walkOf}
 use Rattle.hproto_check.specs.Walks as walks
@@ -33,7 +33,7 @@ nested-below t = and 3 nested-kinds.ps (falls 3 nested-kinds.ps _<_ μ-nested t)
 
 abbrev nested-Inv-loop : nested-lts.InvT-loop
 nested-Inv-loop slots rest n levels from at s i₀ fields₀ depth₀ i fields depth =
-    (1 ≤ levels) × State (listed slots rest) (messageFrom (listed slots rest) (levels - 1)) n at s i fields depth
+    (1 ≤ levels) × State (indexed slots rest) (messageFrom (indexed slots rest) (levels - 1)) n at s i fields depth
 
 abbrev nested-μ-loop : nested-lts.MeasureT-loop
 nested-μ-loop slots rest n levels from at s i₀ fields₀ depth₀ i fields depth = length s - i
@@ -55,8 +55,8 @@ module _ (t : ℕ) (c : After-step t) where
   abbrev args : nested-lts.Args (step-reads.Asked, step-reads.Learnt, nested-below t, nested.Post, larger-reads.Asked, larger-reads.Learnt) (nested-at t) nested.Post nested-Inv-loop nested-μ-loop (c .before .before .before .before .before .before .κs)
   args = c .before .before .before .before .before .before .args
 
-  abbrev es : List Entry
-  es = listed (now (args .slots)) (now (args .rest))
+  abbrev sc : Schema
+  sc = indexed (now (args .slots)) (now (args .rest))
 
   abbrev octets : List ℕ
   octets = now (args .s)
@@ -64,7 +64,7 @@ module _ (t : ℕ) (c : After-step t) where
   abbrev i : ℕ
   i = c .before .before .loop .i
 
-  abbrev state : State es (messageFrom es (args .levels - 1)) (args .n) (args .at) octets i (c .before .before .loop .fields) (c .before .before .loop .depth)
+  abbrev state : State sc (messageFrom sc (args .levels - 1)) (args .n) (args .at) octets i (c .before .before .loop .fields) (c .before .before .loop .depth)
   state = c .before .before .loop .inv .1
 
   abbrev room-left : 1 ≤ args .levels
@@ -74,13 +74,13 @@ module _ (t : ℕ) (c : After-step t) where
   bounds = c .before .before .before .before .before .before .pre .1
 
   -- What the step found at the octets that are left.
-  step-found : c .step .result ≡ step es (args .n) (drop i octets)
+  step-found : c .step .result ≡ step sc (args .n) (drop i octets)
   step-found = let h = state .inside in c .step .ensures ∙ rw (take-all (length octets - i) (drop i octets) (simp length-drop (omega arith)))
 
   -- What the whole message comes to, in terms of its fields.
-  opened : walks.walk (messageFrom es (args .levels) (args .n) (args .from) (args .at) octets)
-      ≡ walks.walk (fieldsFrom es (messageFrom es (args .levels - 1)) (args .n) (suc (length octets)) (args .at) octets)
-  opened = ap walks.walk (room-open es (args .levels) (args .n) (args .from) (args .at) octets room-left)
+  opened : walks.walk (messageFrom sc (args .levels) (args .n) (args .from) (args .at) octets)
+      ≡ walks.walk (fieldsFrom sc (messageFrom sc (args .levels - 1)) (args .n) (suc (length octets)) (args .at) octets)
+  opened = ap walks.walk (room-open sc (args .levels) (args .n) (args .from) (args .at) octets room-left)
 
 -- The field that the loop goes over ends within the octets.
 over-ends : (t : ℕ) (c : Over-field t) → let b = c .before .before .before in let v = c .before .control .given .0 in
@@ -88,7 +88,7 @@ over-ends : (t : ℕ) (c : Over-field t) → let b = c .before .before .before i
 over-ends t c =
     let b = c .before .before .before in
     let v = c .before .control .given in
-    leaf-ends (es t b) (messageFrom (es t b) (args t b .levels - 1)) (args t b .n) (args t b .at) (octets t b) (i t b)
+    leaf-ends (sc t b) (messageFrom (sc t b) (args t b .levels - 1)) (args t b .n) (args t b .at) (octets t b) (i t b)
     (b .before .before .loop .fields) (b .before .before .loop .depth) (state t b) (v .0 .0) (v .0 .1 .0) (sym (step-found t b) ∙ v .1)
 
 -- The field that holds a nested message ends within the octets.
@@ -97,7 +97,7 @@ in-ends : (t : ℕ) (c : In-field t) → let b = c .before .before .before in le
 in-ends t c =
     let b = c .before .before .before in
     let v = c .before .m .given in
-    nested-ends (es t b) (messageFrom (es t b) (args t b .levels - 1)) (args t b .n) (args t b .at) (octets t b) (i t b)
+    nested-ends (sc t b) (messageFrom (sc t b) (args t b .levels - 1)) (args t b .n) (args t b .at) (octets t b) (i t b)
     (b .before .before .loop .fields) (b .before .before .loop .depth) (state t b) (v .0 .0) (v .0 .1 .0) (v .0 .1 .1 .0) (sym (step-found t b) ∙ v .1)
 
 -- The nested message's counts are small.
@@ -108,7 +108,7 @@ inner-small t c =
     let b = d .before .before .before in
     let v = d .before .m .given .0 in
     let w = c .before .f .given in
-    nested-small (es t b) (args t b .levels - 1) (v .0) (args t b .at + i t b) (args t b .at + (i t b + v .1 .0)) (i t b) (v .1 .0) (v .1 .1 .0) (octets t b)
+    nested-small (sc t b) (args t b .levels - 1) (v .0) (args t b .at + i t b) (args t b .at + (i t b + v .1 .0)) (i t b) (v .1 .0) (v .1 .1 .0) (octets t b)
     (w .0 .0) (w .0 .1 .0) (c .before .before .before .nested .result) (in-ends t d .1) (c .before .before .before .nested .ensures) (w .1)
 
 nested-returns : (t : ℕ) → nested-lts.Need-returns (step-reads.Asked, step-reads.Learnt, nested-below t, nested.Post, larger-reads.Asked, larger-reads.Learnt) (nested-at t) nested.Post nested-Inv-loop nested-μ-loop
@@ -118,7 +118,7 @@ nested-returns t c = rw (c .if1 .taken)
 nested-loop-holds : (t : ℕ) → nested-lts.Need-loop-holds (step-reads.Asked, step-reads.Learnt, nested-below t, nested.Post, larger-reads.Asked, larger-reads.Learnt) (nested-at t) nested.Post nested-Inv-loop nested-μ-loop
 nested-loop-holds t c =
     let a = c .before .before .before .args in
-    let e = listed (now (a .slots)) (now (a .rest)) in
+    let e = indexed (now (a .slots)) (now (a .rest)) in
     let h = c .if1 .left in
     (omega arith, start e (messageFrom e (a .levels - 1)) (a .n) (a .at) (now (a .s)))
 
@@ -140,7 +140,7 @@ nested-enum-told t c = search needs
 nested-returns-2 : (t : ℕ) → nested-lts.Need-returns-2 (step-reads.Asked, step-reads.Learnt, nested-below t, nested.Post, larger-reads.Asked, larger-reads.Learnt) (nested-at t) nested.Post nested-Inv-loop nested-μ-loop
 nested-returns-2 t c =
     let b = c .before .before in
-    sym (opened t b ∙ at-end (es t b) (messageFrom (es t b) (args t b .levels - 1)) (args t b .n) (args t b .at) (octets t b) (i t b) (b .before .before .loop .fields) (b .before .before .loop .depth) (state t b) (sym (step-found t b) ∙ c .enum-told .given .1))
+    sym (opened t b ∙ at-end (sc t b) (messageFrom (sc t b) (args t b .levels - 1)) (args t b .n) (args t b .at) (octets t b) (i t b) (b .before .before .loop .fields) (b .before .before .loop .depth) (state t b) (sym (step-found t b) ∙ c .enum-told .given .1))
 
 nested-enum-known-k : (t : ℕ) → nested-lts.Need-enum-known-k (step-reads.Asked, step-reads.Learnt, nested-below t, nested.Post, larger-reads.Asked, larger-reads.Learnt) (nested-at t) nested.Post nested-Inv-loop nested-μ-loop
 nested-enum-known-k t c = search needs
@@ -152,7 +152,7 @@ nested-returns-3 : (t : ℕ) → nested-lts.Need-returns-3 (step-reads.Asked, st
 nested-returns-3 t c =
     let b = c .before .before .before in
     let v = c .before .k .given in
-    sym (opened t b ∙ at-fault (es t b) (messageFrom (es t b) (args t b .levels - 1)) (args t b .n) (args t b .at) (octets t b) (i t b) (b .before .before .loop .fields) (b .before .before .loop .depth) (state t b) (v .0 .0) (sym (step-found t b) ∙ v .1))
+    sym (opened t b ∙ at-fault (sc t b) (messageFrom (sc t b) (args t b .levels - 1)) (args t b .n) (args t b .at) (octets t b) (i t b) (b .before .before .loop .fields) (b .before .before .loop .depth) (state t b) (v .0 .0) (sym (step-found t b) ∙ v .1))
 
 nested-enum-known-control : (t : ℕ) → nested-lts.Need-enum-known-control (step-reads.Asked, step-reads.Learnt, nested-below t, nested.Post, larger-reads.Asked, larger-reads.Learnt) (nested-at t) nested.Post nested-Inv-loop nested-μ-loop
 nested-enum-known-control t c = search needs
@@ -173,7 +173,7 @@ nested-loop-again : (t : ℕ) → nested-lts.Need-loop-again (step-reads.Asked, 
 nested-loop-again t c =
     let b = c .before .before .before in
     let v = c .before .control .given in
-    (room-left t b, over-leaf (es t b) (messageFrom (es t b) (args t b .levels - 1)) (args t b .n) (args t b .at) (octets t b) (i t b) (b .before .before .loop .fields) (b .before .before .loop .depth) (state t b) (v .0 .0) (v .0 .1 .0) (sym (step-found t b) ∙ v .1))
+    (room-left t b, over-leaf (sc t b) (messageFrom (sc t b) (args t b .levels - 1)) (args t b .n) (args t b .at) (octets t b) (i t b) (b .before .before .loop .fields) (b .before .before .loop .depth) (state t b) (v .0 .0) (v .0 .1 .0) (sym (step-found t b) ∙ v .1))
 
 nested-enum-known-m : (t : ℕ) → nested-lts.Need-enum-known-m (step-reads.Asked, step-reads.Learnt, nested-below t, nested.Post, larger-reads.Asked, larger-reads.Learnt) (nested-at t) nested.Post nested-Inv-loop nested-μ-loop
 nested-enum-known-m t c = search needs
@@ -268,7 +268,7 @@ nested-loop-again-2 t c =
     let v = d .before .m .given in
     let w = n .before .f .given in (
       room-left t b,
-      nested-turn (es t b) (messageFrom (es t b) (args t b .levels - 1)) (args t b .n) (args t b .at) (octets t b) (i t b) (b .before .before .loop .fields) (b .before .before .loop .depth) (state t b) (v .0 .0) (v .0 .1 .0) (v .0 .1 .1 .0) (w .0 .0) (w .0 .1 .0) (c .larger .result) (n .before .before .before .nested .result)
+      nested-turn (sc t b) (messageFrom (sc t b) (args t b .levels - 1)) (args t b .n) (args t b .at) (octets t b) (i t b) (b .before .before .loop .fields) (b .before .before .loop .depth) (state t b) (v .0 .0) (v .0 .1 .0) (v .0 .1 .1 .0) (w .0 .0) (w .0 .1 .0) (c .larger .result) (n .before .before .before .nested .result)
           (sym (step-found t b) ∙ v .1) (n .before .before .before .nested .ensures) (w .1) (inner-small t n .0) (c .larger .ensures),
     )
 
@@ -281,7 +281,7 @@ nested-returns-4 t c =
     let b = d .before .before .before in
     let v = d .before .m .given in
     let w = c .before .k2 .given in
-    sym (opened t b ∙ nested-refusal (es t b) (messageFrom (es t b) (args t b .levels - 1)) (args t b .n) (args t b .at) (octets t b) (i t b) (b .before .before .loop .fields) (b .before .before .loop .depth) (state t b) (v .0 .0) (v .0 .1 .0) (v .0 .1 .1 .0) (w .0 .0) (w .0 .1 .0) (c .before .before .before .nested .result)
+    sym (opened t b ∙ nested-refusal (sc t b) (messageFrom (sc t b) (args t b .levels - 1)) (args t b .n) (args t b .at) (octets t b) (i t b) (b .before .before .loop .fields) (b .before .before .loop .depth) (state t b) (v .0 .0) (v .0 .1 .0) (v .0 .1 .1 .0) (w .0 .0) (w .0 .1 .0) (c .before .before .before .nested .result)
     (sym (step-found t b) ∙ v .1) (c .before .before .before .nested .ensures) (w .1))
 
 pub +nested-spec : {M : Type 1} → statement M

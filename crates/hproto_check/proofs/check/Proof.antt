@@ -1,9 +1,9 @@
 -- `check` refuses a table that no loader gives, and reads under the index of any other.
 use mathlib.Core.Path.{sym, _∙_}
 use borrow.Author.Tests.{not-true, not-false}
-use Rattle.hproto_index.proofs.Loaded.{table-same}
-use Rattle.hproto_check.proofs.Counts.{too-long, bad-table}
-use Rattle.hproto_check.proofs.SameFinds.{indexed-check}
+use Rattle.hproto_index.proofs.Loaded.{table-schema}
+use Rattle.hproto_index.specs.Slots.{indexed}
+use Rattle.hproto_check.proofs.Counts.{too-long, bad-table, under-valid}
 use borrow.Author.Needs.{needs}
 use Rattle.hproto_check.proofs.check.Statement.{statement}
 use Rattle.hproto_check.proofs.check.Tie as tie
@@ -46,8 +46,8 @@ returns-3 c =
     let f = c .before .before .before .before .first in
     let g = sym (v .ensures) ∙ not-false (v .result) (c .before .before .before .before .before .before .before .before .if2 .left) in
     c .check-under .ensures
-    ∙ indexed-check (a .t1) (a .number) (a .message .now) (x .last .1 .0) (f .result .now) (c .before .before .before .before .before .before .before .before .before .before .if1 .left) g
-    (table-same (a .t1) (x .last .1 .0) (f .result .now) g (f .ensures) (x .ensures))
+    ∙ under-valid (a .t1) (a .number) (a .message .now) (c .before .before .before .before .before .before .before .before .before .before .if1 .left) g
+    (indexed (x .last .1 .0) (f .result .now)) (table-schema (a .t1) (x .last .1 .0) (f .result .now) g (f .ensures) (x .ensures))
 
 pub check-spec : {M : Type 1} → statement M
 check-spec =

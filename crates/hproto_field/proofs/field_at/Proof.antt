@@ -3,6 +3,7 @@ use mathlib.Core.Path.{sym, _∙_}
 use lib.ListN.{take}
 use mathlib.Core.List.{map}
 use Rattle.hproto_table.specs.Entry.{entry}
+use Rattle.hproto_table.specs.Schema.{schemaOf}
 use Rattle.hproto_field.proofs.Fields.{front-none, front-found}
 use borrow.Author.Needs.{needs}
 use Rattle.hproto_field.proofs.field_at.Statement.{statement}
@@ -26,13 +27,14 @@ find-requires c κs = search needs
 returns : tie.Need-returns
 returns c =
     let a = c .before .before .before .before .before .before .args in
-    c .nothing .ensures ∙ front-none (map entry (take (a .count) (a .words .now))) (a .number) (a .s .now) (sym (c .before .enum-told .given .1) ∙ c .before .before .before .part .ensures)
+    c .nothing .ensures ∙ front-none (schemaOf (map entry (take (a .count) (a .words .now)))) (a .number) (a .s .now) (sym (c .before .enum-told .given .1) ∙ c .before .before .before .part .ensures)
 
 returns-2 : tie.Need-returns-2
+unfolding schemaOf
 returns-2 c =
     let a = c .before .before .before .before .before .before .before .args in
     let v = c .before .before .tag .given in
-    front-found (map entry (take (a .count) (a .words .now))) (a .number) (a .s .now) (v .0 .0) (v .0 .1 .0) (v .0 .1 .1 .0) (c .find .result) (sym (v .1) ∙ c .before .before .before .before .part .ensures) (c .find .ensures)
+    front-found (schemaOf (map entry (take (a .count) (a .words .now)))) (a .number) (a .s .now) (v .0 .0) (v .0 .1 .0) (v .0 .1 .1 .0) (c .find .result) (sym (v .1) ∙ c .before .before .before .before .part .ensures) (c .find .ensures)
 
 pub field-at-spec : {M : Type 1} → statement M
 field-at-spec =

@@ -1,9 +1,8 @@
 use borrow.Author.Needs.{needs}
 use native.Mathlib.Omega.{arith}
 use mathlib.Core.Path.{sym, _∙_}
-use mathlib.Core.List.{[]}
 use denote.Ref.{now}
-use Rattle.hproto_index.specs.Slots.{listed}
+use Rattle.hproto_index.specs.Slots.{indexed}
 use Rattle.hproto_field.proofs.Fields.{at-end, in-control, size-inside, past-end, whole-field}
 use Rattle.hproto_field.proofs.step.Statement.{statement}
 use Rattle.hproto_field.proofs.step.Tie as tie
@@ -23,14 +22,14 @@ enum-known-tag c = search needs
 sub-left : tie.Need-sub-left
 sub-left c =
     let v = c .before .tag .given in
-    size-inside [] 0 (now (c .before .before .before .before .before .before .args .s)) (v .0 .0) (v .0 .1 .0) (v .0 .1 .1 .0)
+    size-inside (now (c .before .before .before .before .before .before .args .s)) (v .0 .0) (v .0 .1 .0) (v .0 .1 .1 .0)
     (sym (c .before .before .before .control .ensures) ∙ v .1)
 
 returns : tie.Need-returns
 returns c =
     let a = c .before .before .before .before .before .before .before .args in
     let v = c .before .before .tag .given in
-    past-end (listed (now (a .slots)) (now (a .words))) (a .number) (now (a .s)) (v .0 .0) (v .0 .1 .0) (v .0 .1 .1 .0)
+    past-end (indexed (now (a .slots)) (now (a .words))) (a .number) (now (a .s)) (v .0 .0) (v .0 .1 .0) (v .0 .1 .1 .0)
     (sym (c .before .before .before .before .control .ensures) ∙ v .1) (c .if1 .taken)
 
 add-end : tie.Need-add-end
@@ -49,7 +48,7 @@ part-by-kind-end : tie.Need-part-by-kind-end
 part-by-kind-end c =
     let v = c .before .before .before .tag .given in
     let a = c .before .before .before .before .before .before .before .before .args in
-    let k = size-inside [] 0 (now (a .s)) (v .0 .0) (v .0 .1 .0) (v .0 .1 .1 .0) (sym (c .before .before .before .before .before .control .ensures) ∙ v .1) in
+    let k = size-inside (now (a .s)) (v .0 .0) (v .0 .1 .0) (v .0 .1 .1 .0) (sym (c .before .before .before .before .before .control .ensures) ∙ v .1) in
     omega arith
 
 by-kind-requires : tie.Need-by-kind-requires
@@ -58,19 +57,19 @@ by-kind-requires c κs = search needs
 returns-2 : tie.Need-returns-2
 returns-2 c =
     let a = c .before .before .before .before .before .args in
-    at-end (listed (now (a .slots)) (now (a .words))) (a .number) (now (a .s)) (sym (c .before .before .control .ensures) ∙ c .enum-told .given .1)
+    at-end (indexed (now (a .slots)) (now (a .words))) (a .number) (now (a .s)) (sym (c .before .before .control .ensures) ∙ c .enum-told .given .1)
 
 returns-3 : tie.Need-returns-3
 returns-3 c =
     let a = c .before .before .before .before .before .args in
-    in-control (listed (now (a .slots)) (now (a .words))) (a .number) (now (a .s)) (sym (c .before .before .control .ensures) ∙ c .enum-told2 .given .1)
+    in-control (indexed (now (a .slots)) (now (a .words))) (a .number) (now (a .s)) (sym (c .before .before .control .ensures) ∙ c .enum-told2 .given .1)
 
 returns-4 : tie.Need-returns-4
 returns-4 c =
     let a = c .before .before .before .before .before .before .before .before .before .before .args in
     let v = c .before .before .before .before .before .tag .given in
     c .by-kind .ensures ∙ rw (c .before .before .find .ensures)
-    (whole-field (listed (now (a .slots)) (now (a .words))) (a .number) (now (a .s)) (v .0 .0) (v .0 .1 .0) (v .0 .1 .1 .0)
+    (whole-field (indexed (now (a .slots)) (now (a .words))) (a .number) (now (a .s)) (v .0 .0) (v .0 .1 .0) (v .0 .1 .1 .0)
     (sym (c .before .before .before .before .before .before .before .control .ensures) ∙ v .1) (c .before .before .before .if1 .left))
 
 pub step-spec : {M : Type 1} → statement M

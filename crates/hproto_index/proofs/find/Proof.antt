@@ -4,8 +4,8 @@ use mathlib.Core.Path.{sym, ap, _∙_}
 use mathlib.Core.List.{map}
 use lib.Seq.{take-length}
 use Rattle.hproto_table.specs.Entry.{entry, find, meaning}
-use Rattle.hproto_index.proofs.Noting.{slot-numbers, slot-not}
-use Rattle.hproto_index.proofs.Finding.{listed-slot, listed-rest}
+use Rattle.hproto_index.proofs.Noting.{slot-numbers}
+use Rattle.hproto_index.proofs.Finding.{indexed-slot, indexed-rest}
 use borrow.Author.Needs.{needs}
 use Rattle.hproto_index.proofs.find.Statement.{statement}
 use Rattle.hproto_index.proofs.find.Tie as tie
@@ -46,10 +46,10 @@ meaning-requires c κs = search needs
 returns : tie.Need-returns
 returns c =
     let a = c .before .before .before .before .before .before .args in
-    let q = slot-numbers (a .number) (a .tag) (sym (c .before .before .before .before .has-slot .ensures) ∙ c .before .before .before .if1 .taken) in
+    let e = sym (c .before .before .before .before .has-slot .ensures) ∙ c .before .before .before .if1 .taken in
     c .meaning .ensures
     ∙ ap (λ w. meaning (entry w)) (c .before .wide .ensures)
-    ∙ sym (listed-slot (a .slots .now) (a .words .now) (a .number) (a .tag) (q .0) (q .1))
+    ∙ sym (indexed-slot (a .slots .now) (a .words .now) (a .number) (a .tag) e)
 
 find-requires : tie.Need-find-requires
 find-requires c κs = search needs
@@ -58,7 +58,9 @@ returns-2 : tie.Need-returns-2
 returns-2 c =
     let a = c .before .before .before .before .args in
     let e = sym (c .before .before .has-slot .ensures) ∙ c .before .if1 .left in
-    c .find .ensures ∙ ap (λ ws. find (map entry ws) (a .number) (a .tag)) (take-length (a .words .now)) ∙ sym (listed-rest (a .slots .now) (a .words .now) (a .number) (a .tag) (slot-not (a .number) (a .tag) e))
+    c .find .ensures
+    ∙ ap (λ ws. find (map entry ws) (a .number) (a .tag)) (take-length (a .words .now))
+    ∙ sym (indexed-rest (a .slots .now) (a .words .now) (a .number) (a .tag) e)
 
 pub find-spec : {M : Type 1} → statement M
 find-spec =

@@ -1,6 +1,5 @@
 -- `part` answers what the control part says, where the octets that it announces are there.
 use mathlib.Core.Path.{sym, _∙_}
-use mathlib.Core.List.{[]}
 use Rattle.hproto_field.proofs.Fields.{size-inside, no-part-at-end, no-part-in-control, no-part-past-end, part-whole}
 use borrow.Author.Needs.{needs}
 use Rattle.hproto_lookup.proofs.front.Statement.{statement}
@@ -21,7 +20,7 @@ enum-known-tag c = search needs
 sub-rest : tie.Need-sub-rest
 sub-rest c =
     let v = c .before .tag .given in
-    size-inside [] 0 (c .before .before .before .before .before .args .s .now) (v .0 .0) (v .0 .1 .0) (v .0 .1 .1 .0) (sym (c .before .before .before .control .ensures) ∙ v .1)
+    size-inside (c .before .before .before .before .before .args .s .now) (v .0 .0) (v .0 .1 .0) (v .0 .1 .1 .0) (sym (c .before .before .before .control .ensures) ∙ v .1)
 
 returns : tie.Need-returns
 returns c =

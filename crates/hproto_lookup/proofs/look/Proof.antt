@@ -4,6 +4,7 @@ use Prim.Native.Nat.{ℕ}
 use mathlib.Core.Path.{_≡_, sym, ap, _∙_}
 use denote.Ref.{now}
 use Rattle.hproto_table.specs.Entry.{entries}
+use Rattle.hproto_table.specs.Schema.{schemaOf, schema}
 use Rattle.hproto_check.specs.Check.{check}
 use Rattle.reading.specs.declared.Checked.{Checked}
 use Rattle.hproto_lookup.proofs.Answers.{refused-first, absent, Present, present}
@@ -84,7 +85,7 @@ returns-2 c =
     ∙ absent (a .t) (a .number) (now (a .message)) (a .tag) (a .which) (passed (k .before)) (k .pick .result) (k .pick .ensures) (c .before .enum-told .given .1)
 
 returns-3 : tie.Need-returns-3
-unfolding entries
+unfolding schema schemaOf entries
 returns-3 c =
     let k = c .before .before in
     c .contents .ensures ∙ rw (k .kind-number .ensures, k .before .find .ensures) (here (k .before .before .before .before .before) .answers)

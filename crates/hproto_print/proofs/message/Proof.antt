@@ -2,6 +2,7 @@
 use borrow.Author.Needs.{needs}
 use denote.Ref.{now}
 use Rattle.hproto_table.specs.Entry.{entries}
+use Rattle.hproto_table.specs.Schema.{schema}
 use Rattle.hproto_print.proofs.Windows.{same-window, whole-printed}
 use Rattle.hproto_print.proofs.Messages.{message-refused, message-accepts, message-shown}
 use Rattle.hproto_print.proofs.message.Statement.{statement}
@@ -26,7 +27,7 @@ slice-aggregate-page : tie.Need-slice-aggregate-page
 slice-aggregate-page c = search needs
 
 page-requires : tie.Need-page-requires
-unfolding entries
+unfolding schema entries
 page-requires c κs =
     let a = c .before .before .before .before .before .before .before .before .args in
     let k = c .before .before .before .before .before .check in
@@ -36,7 +37,7 @@ same-length-2 : tie.Need-same-length-2
 same-length-2 c = search needs
 
 returns-2 : tie.Need-returns-2
-unfolding entries
+unfolding schema entries
 returns-2 c =
     let a = c .before .before .before .before .before .before .before .before .before .before .before .args in
     let k = c .before .before .before .before .before .before .before .before .check in

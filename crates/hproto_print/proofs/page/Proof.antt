@@ -4,7 +4,8 @@ use native.Mathlib.Omega.{arith}
 use mathlib.Core.List.{List, [], _∷_, map}
 use lib.ListN.{length, take, length-append}
 use denote.Ref.{now}
-use Rattle.hproto_table.specs.Entry.{Entry, entry}
+use Rattle.hproto_table.specs.Entry.{entry}
+use Rattle.hproto_table.specs.Schema.{Schema, schemaOf}
 use Rattle.hproto_print.specs.Ascii.{ascii}
 use Rattle.hproto_print.specs.Digits.{decimal}
 use Rattle.hproto_print.specs.Text.{page}
@@ -14,8 +15,8 @@ use Rattle.hproto_print.proofs.Lengths.{page-fits}
 use Rattle.hproto_print.proofs.page.Statement.{statement}
 use Rattle.hproto_print.proofs.page.Tie as tie
 
-abbrev es : tie.Start → List Entry
-es b = map entry (take (b .args .count) (now (b .args .words)))
+abbrev sc : tie.Start → Schema
+sc b = schemaOf (map entry (take (b .args .count) (now (b .args .words))))
 
 slice-aggregate-octets : tie.Need-slice-aggregate-octets
 slice-aggregate-octets c = search needs
@@ -27,7 +28,7 @@ write-requires : tie.Need-write-requires
 unfolding page ascii
 write-requires c κs =
     let b = c .before .before .before .before .before .before .before .before .before in
-    (omega arith, (b .pre .1, fits-after (linesOf (es b) 8 0 (now (b .args .s))) (c .before .before .before .octets .ensures) (page-fits (es b) 0 (now (b .args .s)) (b .args .fields) (b .pre .0) (b .pre .1)) (simp length-append (omega arith))))
+    (omega arith, (b .pre .1, fits-after (linesOf (sc b) 8 0 (now (b .args .s))) (c .before .before .before .octets .ensures) (page-fits (sc b) 0 (now (b .args .s)) (b .args .fields) (b .pre .0) (b .pre .1)) (simp length-append (omega arith))))
 
 slice-aggregate-octets-2 : tie.Need-slice-aggregate-octets-2
 slice-aggregate-octets-2 c = search needs
@@ -36,13 +37,13 @@ octets-requires-2 : tie.Need-octets-requires-2
 unfolding page ascii
 octets-requires-2 c κs =
     let b = c .before .before .before .before .before .before .before .before .before .before .before .before .before .before in
-    fits-after (ascii "fields ") (then (c .before .before .before .before .before .before .before .before .octets .ensures) (c .before .before .before .before .write .ensures)) (page-fits (es b) 0 (now (b .args .s)) (b .args .fields) (b .pre .0) (b .pre .1)) (simp length-append (omega arith))
+    fits-after (ascii "fields ") (then (c .before .before .before .before .before .before .before .before .octets .ensures) (c .before .before .before .before .write .ensures)) (page-fits (sc b) 0 (now (b .args .s)) (b .args .fields) (b .pre .0) (b .pre .1)) (simp length-append (omega arith))
 
 decimal-requires : tie.Need-decimal-requires
 unfolding page ascii
 decimal-requires c κs =
     let b = c .before .before .before .before .before .before .before .before .before .before .before .before .before .before .before .before .before .before in
-    fits-after (decimal (b .args .fields)) (then (then (c .before .before .before .before .before .before .before .before .before .before .before .before .octets .ensures) (c .before .before .before .before .before .before .before .before .write .ensures)) (c .before .before .before .octets2 .ensures)) (page-fits (es b) 0 (now (b .args .s)) (b .args .fields) (b .pre .0) (b .pre .1)) (simp length-append (omega arith))
+    fits-after (decimal (b .args .fields)) (then (then (c .before .before .before .before .before .before .before .before .before .before .before .before .octets .ensures) (c .before .before .before .before .before .before .before .before .write .ensures)) (c .before .before .before .octets2 .ensures)) (page-fits (sc b) 0 (now (b .args .s)) (b .args .fields) (b .pre .0) (b .pre .1)) (simp length-append (omega arith))
 
 slice-aggregate-octets-3 : tie.Need-slice-aggregate-octets-3
 slice-aggregate-octets-3 c = search needs
@@ -51,19 +52,19 @@ octets-requires-3 : tie.Need-octets-requires-3
 unfolding page ascii
 octets-requires-3 c κs =
     let b = c .before .before .before .before .before .before .before .before .before .before .before .before .before .before .before .before .before .before .before .before .before .before .before in
-    fits-after (ascii " octets ") (then (then (then (c .before .before .before .before .before .before .before .before .before .before .before .before .before .before .before .before .before .octets .ensures) (c .before .before .before .before .before .before .before .before .before .before .before .before .before .write .ensures)) (c .before .before .before .before .before .before .before .before .octets2 .ensures)) (c .before .before .before .before .decimal .ensures)) (page-fits (es b) 0 (now (b .args .s)) (b .args .fields) (b .pre .0) (b .pre .1)) (simp length-append (omega arith))
+    fits-after (ascii " octets ") (then (then (then (c .before .before .before .before .before .before .before .before .before .before .before .before .before .before .before .before .before .octets .ensures) (c .before .before .before .before .before .before .before .before .before .before .before .before .before .write .ensures)) (c .before .before .before .before .before .before .before .before .octets2 .ensures)) (c .before .before .before .before .decimal .ensures)) (page-fits (sc b) 0 (now (b .args .s)) (b .args .fields) (b .pre .0) (b .pre .1)) (simp length-append (omega arith))
 
 decimal-requires-2 : tie.Need-decimal-requires-2
 unfolding page ascii
 decimal-requires-2 c κs =
     let b = c .before .before .before .before .before .before .before .before .before .before .before .before .before .before .before .before .before .before .before .before .before .before .before .before .before .before .before in
-    fits-after (decimal (length (now (b .args .s)))) (then (then (then (then (c .before .before .before .before .before .before .before .before .before .before .before .before .before .before .before .before .before .before .before .before .before .octets .ensures) (c .before .before .before .before .before .before .before .before .before .before .before .before .before .before .before .before .before .write .ensures)) (c .before .before .before .before .before .before .before .before .before .before .before .before .octets2 .ensures)) (c .before .before .before .before .before .before .before .before .decimal .ensures)) (c .before .before .before .octets3 .ensures)) (page-fits (es b) 0 (now (b .args .s)) (b .args .fields) (b .pre .0) (b .pre .1)) (simp length-append (omega arith))
+    fits-after (decimal (length (now (b .args .s)))) (then (then (then (then (c .before .before .before .before .before .before .before .before .before .before .before .before .before .before .before .before .before .before .before .before .before .octets .ensures) (c .before .before .before .before .before .before .before .before .before .before .before .before .before .before .before .before .before .write .ensures)) (c .before .before .before .before .before .before .before .before .before .before .before .before .octets2 .ensures)) (c .before .before .before .before .before .before .before .before .decimal .ensures)) (c .before .before .before .octets3 .ensures)) (page-fits (sc b) 0 (now (b .args .s)) (b .args .fields) (b .pre .0) (b .pre .1)) (simp length-append (omega arith))
 
 put-requires : tie.Need-put-requires
 unfolding page ascii
 put-requires c κs =
     let b = c .before .before .before .before .before .before .before .before .before .before .before .before .before .before .before .before .before .before .before .before .before .before .before .before .before .before .before .before .before .before .before in
-    fits-after (0x0a ∷ []) (then (then (then (then (then (c .before .before .before .before .before .before .before .before .before .before .before .before .before .before .before .before .before .before .before .before .before .before .before .before .before .octets .ensures) (c .before .before .before .before .before .before .before .before .before .before .before .before .before .before .before .before .before .before .before .before .before .write .ensures)) (c .before .before .before .before .before .before .before .before .before .before .before .before .before .before .before .before .octets2 .ensures)) (c .before .before .before .before .before .before .before .before .before .before .before .before .decimal .ensures)) (c .before .before .before .before .before .before .before .octets3 .ensures)) (c .before .before .before .decimal2 .ensures)) (page-fits (es b) 0 (now (b .args .s)) (b .args .fields) (b .pre .0) (b .pre .1)) (simp length-append (omega arith))
+    fits-after (0x0a ∷ []) (then (then (then (then (then (c .before .before .before .before .before .before .before .before .before .before .before .before .before .before .before .before .before .before .before .before .before .before .before .before .before .octets .ensures) (c .before .before .before .before .before .before .before .before .before .before .before .before .before .before .before .before .before .before .before .before .before .write .ensures)) (c .before .before .before .before .before .before .before .before .before .before .before .before .before .before .before .before .octets2 .ensures)) (c .before .before .before .before .before .before .before .before .before .before .before .before .decimal .ensures)) (c .before .before .before .before .before .before .before .octets3 .ensures)) (c .before .before .before .decimal2 .ensures)) (page-fits (sc b) 0 (now (b .args .s)) (b .args .fields) (b .pre .0) (b .pre .1)) (simp length-append (omega arith))
 
 same-length : tie.Need-same-length
 same-length c = search needs

@@ -6,7 +6,7 @@ use denote.Ref.{now}
 use lib.Bits.{bitAnd, mask-lt}
 use lib.ListN.{getD, length}
 use borrow.Author.Tests.{ltb-true}
-use Rattle.hproto_index.specs.Slots.{listed}
+use Rattle.hproto_index.specs.Slots.{indexed}
 use Rattle.hproto_shorten.proofs.Directs.{direct-front}
 use Rattle.hproto_shorten.proofs.next_field.Statement.{statement}
 use Rattle.hproto_shorten.proofs.next_field.Tie as tie
@@ -28,7 +28,7 @@ returns c =
     let a = c .before .before .before .before .before .before .before .before .args in
     let s = now (a .s) in
     let x = getD s 0 0 in
-    direct-front (listed (now (a .slots)) (now (a .words))) (a .number) s (x / 16) (bitAnd x 15) (c .find .result) refl refl
+    direct-front (indexed (now (a .slots)) (now (a .words))) (a .number) s (x / 16) (bitAnd x 15) (c .find .result) refl refl
     (c .before .before .before .if2 .taken) (ltb-true (bitAnd x 15) 12 (c .before .before .if3 .taken)) (ltb-true (bitAnd x 15) (length s) (c .before .if4 .taken)) (c .find .ensures)
 
 field-in-requires : tie.Need-field-in-requires

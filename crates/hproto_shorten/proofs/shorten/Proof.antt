@@ -3,14 +3,13 @@ use native.Mathlib.Omega.{arith}
 use mathlib.Core.Path.{sym, _∙_}
 use denote.Ref.{now}
 use borrow.Author.Tests.{not-true, not-false}
-use Rattle.hproto_index.specs.Slots.{listed}
-use Rattle.hproto_index.proofs.Loaded.{table-same}
+use Rattle.hproto_index.specs.Slots.{indexed}
+use Rattle.hproto_index.proofs.Loaded.{table-schema}
 use Rattle.reading.specs.Checks as answers
 use Rattle.hproto_check.specs.Check.{check}
 use Rattle.hproto_check.proofs.Counts.{too-long, bad-table}
 use Rattle.hproto_shorten.specs.Shorten.{refusal, shortForm, answer, buffer}
-use Rattle.hproto_shorten.proofs.Answers.{refused-first}
-use Rattle.hproto_shorten.proofs.SameFinds.{indexed-answer, indexed-buffer}
+use Rattle.hproto_shorten.proofs.Answers.{refused-first, answer-under, buffer-under}
 use borrow.Author.Needs.{needs}
 use Rattle.hproto_shorten.proofs.shorten.Statement.{statement}
 use Rattle.hproto_shorten.proofs.shorten.Tie as tie
@@ -63,10 +62,10 @@ returns-3 c =
     let h = c .before .before .before .before .before .before .before .before .before .before .before .before .before .if1 .left in
     let x = c .before .before .before .before .before .index-words in
     let f = c .before .before .before .before .before .before .before .first in
-    let es = listed (x .last .1 .0) (f .result .now) in
-    let e = table-same (a .t1) (x .last .1 .0) (f .result .now) g (f .ensures) (x .ensures) in
+    let sc = indexed (x .last .1 .0) (f .result .now) in
+    let e = table-schema (a .t1) (x .last .1 .0) (f .result .now) g (f .ensures) (x .ensures) in
     let s = c .before .before .shorten-under .ensures in
-    (s .0 ∙ indexed-answer (a .t1) es e (a .number) m (now (a .out)) h g, s .1 ∙ indexed-buffer (a .t1) es e (a .number) m (now (a .out)) h g)
+    (s .0 ∙ answer-under (a .t1) sc e (a .number) m (now (a .out)) h g, s .1 ∙ buffer-under (a .t1) sc e (a .number) m (now (a .out)) h g)
 
 pub shorten-spec : {M : Type 1} → statement M
 shorten-spec =

@@ -4,7 +4,7 @@ use mathlib.Core.Path.{sym, ap, _∙_}
 use denote.Ref.{now}
 use lib.ListN.{length}
 use borrow.Author.Tests.{leb-true, leb-false, not-true, not-false}
-use Rattle.hproto_index.specs.Slots.{listed}
+use Rattle.hproto_index.specs.Slots.{indexed}
 use Rattle.hproto_check.specs.Check.{checkUnder}
 use Rattle.reading.specs.declared.Checked.{Checked}
 use Rattle.hproto_shorten.specs.Written.{short}
@@ -24,7 +24,7 @@ returns : tie.Need-returns
 unfolding refusal answerUnder bufferUnder
 returns c =
     let a = c .before .before .before .before .before .before .before .args in
-    let es = listed (now (a .slots)) (now (a .words)) in
+    let es = indexed (now (a .slots)) (now (a .words)) in
     let m = now (a .message) in
     let k = c .before .before .before .check-under in
     let r = refused-first (checkUnder es (a .number) m) (shortUnder es (a .number) m) (now (a .out)) (k .result) (k .ensures) (c .before .if1 .taken) in
@@ -33,7 +33,7 @@ returns c =
 has-room-requires : tie.Need-has-room-requires
 has-room-requires c κs =
     let a = c .before .before .before .before .before .before .args in
-    let es = listed (now (a .slots)) (now (a .words)) in
+    let es = indexed (now (a .slots)) (now (a .words)) in
     let m = now (a .message) in
     let h = passed-accepts es (a .number) m (ap (λ (x : Checked). x .refusal) (sym (c .before .before .check-under .ensures)) ∙ c .if1 .left) in
     (h .0, (octets-of-slice m (λ i. c .before .before .before .before .shared-slice-known2 .given i .fits), h .1))
@@ -45,7 +45,7 @@ returns-2 : tie.Need-returns-2
 unfolding refusal answerUnder bufferUnder
 returns-2 c =
     let a = c .before .before .before .before .before .before .before .before .before .args in
-    let es = listed (now (a .slots)) (now (a .words)) in
+    let es = indexed (now (a .slots)) (now (a .words)) in
     let m = now (a .message) in
     let h = c .before .before .has-room in
     let k = leb-false (length (short es 8 (a .number) m)) (length (now (a .out))) (sym (h .ensures) ∙ not-true (h .result) (c .before .if2 .taken)) in
@@ -55,7 +55,7 @@ returns-2 c =
 write-requires : tie.Need-write-requires
 write-requires c κs =
     let a = c .before .before .before .before .before .before .before .before .before .args in
-    let es = listed (now (a .slots)) (now (a .words)) in
+    let es = indexed (now (a .slots)) (now (a .words)) in
     let m = now (a .message) in
     let h = c .before .before .has-room in
     let p = passed-accepts es (a .number) m (ap (λ (x : Checked). x .refusal) (sym (c .before .before .before .before .before .check-under .ensures)) ∙ c .before .before .before .if1 .left) in
@@ -69,7 +69,7 @@ returns-3 : tie.Need-returns-3
 unfolding answerUnder bufferUnder
 returns-3 c =
     let a = c .before .before .before .before .before .before .before .before .before .before .before .before .args in
-    let es = listed (now (a .slots)) (now (a .words)) in
+    let es = indexed (now (a .slots)) (now (a .words)) in
     let m = now (a .message) in
     let h = c .before .before .before .before .before .has-room in
     let w = c .before .before .write .ensures in

@@ -1,6 +1,7 @@
 -- `meaning` meets its contract: the number of the innermost message and the tag are looked up.
 use mathlib.Core.Path.{refl, _∙_}
-use Rattle.hproto_table.specs.Entry.{entries, find}
+use Rattle.hproto_table.specs.Entry.{entries}
+use Rattle.hproto_table.specs.Schema.{schemaOf, schema}
 use Rattle.hproto_state.specs.Calls.{meant}
 use borrow.Author.Needs.{needs}
 use Rattle.hproto_state.proofs.meaning.Statement.{statement}
@@ -13,7 +14,7 @@ find-requires : tie.Need-find-requires
 find-requires c κs = search needs
 
 returns : tie.Need-returns
-unfolding meant entries
+unfolding meant schema schemaOf entries
 returns c = c .find .ensures ∙ rw (c .before .level .ensures) refl
 
 pub meaning-spec : {M : Type 1} → statement M

@@ -7,7 +7,8 @@ use mathlib.Core.List.{List, map}
 use denote.Ref.{now}
 use lib.ListN.{length, take, drop}
 use Rattle.hproto_field.proofs.HeldKinds.{message-of, plain-of}
-use Rattle.hproto_table.specs.Entry.{Entry, entry}
+use Rattle.hproto_table.specs.Entry.{entry}
+use Rattle.hproto_table.specs.Schema.{Schema, schemaOf}
 use Rattle.hproto_field.specs.Fronts.{front}
 use Rattle.hproto_print.proofs.Counting.{left-octets}
 use Rattle.hproto_print.proofs.Writing.{Progress, begun, ended, same-length, next-ends, leaf-contents, leaf-fits, leaf-written, nested-accepts, message-fits, inner-fits, nested-written}
@@ -33,7 +34,7 @@ abbrev write-below : ℕ → In 3 write-kinds.ps
 write-below t = and 3 write-kinds.ps (falls 3 write-kinds.ps _<_ μ-write t) write.Pre
 
 abbrev write-Inv-loop : write-lts.InvT-loop
-write-Inv-loop words count number levels s out₀ from at i₀ end₀ out i end = Progress (map entry (take count words)) levels number s out₀ from at i end out
+write-Inv-loop words count number levels s out₀ from at i₀ end₀ out i end = Progress (schemaOf (map entry (take count words))) levels number s out₀ from at i end out
 
 abbrev write-μ-loop : write-lts.MeasureT-loop
 write-μ-loop words count number levels s out₀ from at i₀ end₀ out i end = length s - i
@@ -45,8 +46,8 @@ At-start t = write-lts.Start (field-at-reads.Asked, field-at-reads.Learnt, held-
 abbrev Found : ℕ → Type 0
 Found t = write-lts.After-field-at (field-at-reads.Asked, field-at-reads.Learnt, held-reads.Asked, held-reads.Learnt, leaf-line-reads.Asked, leaf-line-reads.Learnt, message-line-reads.Asked, message-line-reads.Learnt, write-below t, write.Post) (write-at t) write.Post write-Inv-loop write-μ-loop
 
-abbrev es : (t : ℕ) → At-start t → List Entry
-es t b = map entry (take (b .args .count) (now (b .args .words)))
+abbrev sc : (t : ℕ) → At-start t → Schema
+sc t b = schemaOf (map entry (take (b .args .count) (now (b .args .words))))
 
 module _ (t : ℕ) (c : Found t) where
   abbrev b : At-start t
@@ -55,23 +56,23 @@ module _ (t : ℕ) (c : Found t) where
   abbrev i : ℕ
   i = c .before .before .before .loop .i
 
-  abbrev state : Progress (es t b) (b .args .levels) (b .args .number) (now (b .args .s)) (now (b .args .out)) (b .args .from) (b .args .at) i (c .before .before .before .loop .end) (c .before .before .before .loop .out)
+  abbrev state : Progress (sc t b) (b .args .levels) (b .args .number) (now (b .args .s)) (now (b .args .out)) (b .args .from) (b .args .at) i (c .before .before .before .loop .end) (c .before .before .before .loop .out)
   state = c .before .before .before .loop .inv
 
   abbrev more : i < length (now (b .args .s))
   more = c .before .before .loop-test .taken
 
-  found : c .field-at .result ≡ front (es t b) (b .args .number) (drop i (now (b .args .s)))
+  found : c .field-at .result ≡ front (sc t b) (b .args .number) (drop i (now (b .args .s)))
   found = c .field-at .ensures ∙ rw (left-octets i (now (b .args .s)))
 
   -- Where the field ends.
   ends-of : (i < i + c .field-at .result .control + c .field-at .result .contents) × (i + c .field-at .result .control + c .field-at .result .contents ≤ length (now (b .args .s)))
-  ends-of = next-ends (es t b) (b .args .levels) (b .args .number) (now (b .args .s)) (now (b .args .out)) (b .args .from) (b .args .at) (b .pre .1 .1 .1) i (c .before .before .before .loop .end) (c .before .before .before .loop .out) state more (c .field-at .result) found
+  ends-of = next-ends (sc t b) (b .args .levels) (b .args .number) (now (b .args .s)) (now (b .args .out)) (b .args .from) (b .args .at) (b .pre .1 .1 .1) i (c .before .before .before .loop .end) (c .before .before .before .loop .out) state more (c .field-at .result) found
 
 write-loop-holds : (t : ℕ) → write-lts.Need-loop-holds (field-at-reads.Asked, field-at-reads.Learnt, held-reads.Asked, held-reads.Learnt, leaf-line-reads.Asked, leaf-line-reads.Learnt, message-line-reads.Asked, message-line-reads.Learnt, write-below t, write.Post) (write-at t) write.Post write-Inv-loop write-μ-loop
 write-loop-holds t c =
     let s = c .before .before .before in
-    begun (es t s) (s .args .levels) (s .args .number) (now (s .args .s)) (now (s .args .out)) (s .args .from) (s .args .at) (s .pre .1 .1 .0)
+    begun (sc t s) (s .args .levels) (s .args .number) (now (s .args .s)) (now (s .args .out)) (s .args .from) (s .args .at) (s .pre .1 .1 .0)
 
 write-sub-field-at : (t : ℕ) → write-lts.Need-sub-field-at (field-at-reads.Asked, field-at-reads.Learnt, held-reads.Asked, held-reads.Learnt, leaf-line-reads.Asked, leaf-line-reads.Learnt, message-line-reads.Asked, message-line-reads.Learnt, write-below t, write.Post) (write-at t) write.Post write-Inv-loop write-μ-loop
 write-sub-field-at t c = search needs
@@ -113,7 +114,7 @@ write-leaf-line-requires : (t : ℕ) → write-lts.Need-leaf-line-requires (fiel
 write-leaf-line-requires t c κs =
     let f = c .before .before .before .before .before .before .before in
     let q = plain-of (f .field-at .result .kind) (sym (c .before .before .before .before .held .ensures) ∙ c .before .before .enum-told .given .1) in
-    (leaf-contents (es t (b t f)) (b t f .args .levels) (b t f .args .number) (now (b t f .args .s)) (now (b t f .args .out)) (b t f .args .from) (b t f .args .at) (b t f .pre .1 .1 .1) (i t f) (f .before .before .before .loop .end) (f .before .before .before .loop .out) (state t f) (more t f) (f .field-at .result) (found t f) q, leaf-fits (es t (b t f)) (b t f .args .levels) (b t f .args .number) (now (b t f .args .s)) (now (b t f .args .out)) (b t f .args .from) (b t f .args .at) (b t f .pre .1 .1 .1) (i t f) (f .before .before .before .loop .end) (f .before .before .before .loop .out) (state t f) (more t f) (f .field-at .result) (found t f) q)
+    (leaf-contents (sc t (b t f)) (b t f .args .levels) (b t f .args .number) (now (b t f .args .s)) (now (b t f .args .out)) (b t f .args .from) (b t f .args .at) (b t f .pre .1 .1 .1) (i t f) (f .before .before .before .loop .end) (f .before .before .before .loop .out) (state t f) (more t f) (f .field-at .result) (found t f) q, leaf-fits (sc t (b t f)) (b t f .args .levels) (b t f .args .number) (now (b t f .args .s)) (now (b t f .args .out)) (b t f .args .from) (b t f .args .at) (b t f .pre .1 .1 .1) (i t f) (f .before .before .before .loop .end) (f .before .before .before .loop .out) (state t f) (more t f) (f .field-at .result) (found t f) q)
 
 write-loop-less : (t : ℕ) → write-lts.Need-loop-less (field-at-reads.Asked, field-at-reads.Learnt, held-reads.Asked, held-reads.Learnt, leaf-line-reads.Asked, leaf-line-reads.Learnt, message-line-reads.Asked, message-line-reads.Learnt, write-below t, write.Post) (write-at t) write.Post write-Inv-loop write-μ-loop
 write-loop-less t c = let f = c .before .before .before .before .before .before .before .before .before .before in let h = ends-of t f in let p = h .0 in let q = h .1 in omega arith
@@ -122,7 +123,7 @@ write-loop-again : (t : ℕ) → write-lts.Need-loop-again (field-at-reads.Asked
 write-loop-again t c =
     let f = c .before .before .before .before .before .before .before .before .before .before in
     let q = plain-of (f .field-at .result .kind) (sym (c .before .before .before .before .before .before .before .held .ensures) ∙ c .before .before .before .before .before .enum-told .given .1) in
-    leaf-written (es t (b t f)) (b t f .args .levels) (b t f .args .number) (now (b t f .args .s)) (now (b t f .args .out)) (b t f .args .from) (b t f .args .at) (b t f .pre .1 .1 .1) (i t f) (f .before .before .before .loop .end) (f .before .before .before .loop .out) (state t f) (more t f) (f .field-at .result) (found t f) q (c .before .before .leaf-line .result) (c .before .before .leaf-line .last .0) (c .before .before .leaf-line .ensures)
+    leaf-written (sc t (b t f)) (b t f .args .levels) (b t f .args .number) (now (b t f .args .s)) (now (b t f .args .out)) (b t f .args .from) (b t f .args .at) (b t f .pre .1 .1 .1) (i t f) (f .before .before .before .loop .end) (f .before .before .before .loop .out) (state t f) (more t f) (f .field-at .result) (found t f) q (c .before .before .leaf-line .result) (c .before .before .leaf-line .last .0) (c .before .before .leaf-line .ensures)
 
 write-enum-known-m : (t : ℕ) → write-lts.Need-enum-known-m (field-at-reads.Asked, field-at-reads.Learnt, held-reads.Asked, held-reads.Learnt, leaf-line-reads.Asked, leaf-line-reads.Learnt, message-line-reads.Asked, message-line-reads.Learnt, write-below t, write.Post) (write-at t) write.Post write-Inv-loop write-μ-loop
 write-enum-known-m t c = search needs
@@ -139,12 +140,12 @@ write-part-message-line-end t c = let f = c .before .before .before .before .bef
 write-message-line-requires : (t : ℕ) → write-lts.Need-message-line-requires (field-at-reads.Asked, field-at-reads.Learnt, held-reads.Asked, held-reads.Learnt, leaf-line-reads.Asked, leaf-line-reads.Learnt, message-line-reads.Asked, message-line-reads.Learnt, write-below t, write.Post) (write-at t) write.Post write-Inv-loop write-μ-loop
 write-message-line-requires t c κs =
     let f = c .before .before .before .before .before .before .before .before in
-    (nested-accepts (es t (b t f)) (b t f .args .levels) (b t f .args .number) (now (b t f .args .s)) (now (b t f .args .out)) (b t f .args .from) (b t f .args .at) (b t f .pre .1 .1 .1) (i t f) (f .before .before .before .loop .end) (f .before .before .before .loop .out) (state t f) (more t f) (f .field-at .result) (found t f) (b t f .pre .1 .0) (c .before .before .before .m .given .0 .0) (message-of (f .field-at .result .kind) (c .before .before .before .m .given .0 .0) (sym (c .before .before .before .before .before .held .ensures) ∙ c .before .before .before .m .given .1)) .2, message-fits (es t (b t f)) (b t f .args .levels) (b t f .args .number) (now (b t f .args .s)) (now (b t f .args .out)) (b t f .args .from) (b t f .args .at) (b t f .pre .1 .1 .1) (i t f) (f .before .before .before .loop .end) (f .before .before .before .loop .out) (state t f) (more t f) (f .field-at .result) (found t f) (b t f .pre .1 .0) (c .before .before .before .m .given .0 .0) (message-of (f .field-at .result .kind) (c .before .before .before .m .given .0 .0) (sym (c .before .before .before .before .before .held .ensures) ∙ c .before .before .before .m .given .1)))
+    (nested-accepts (sc t (b t f)) (b t f .args .levels) (b t f .args .number) (now (b t f .args .s)) (now (b t f .args .out)) (b t f .args .from) (b t f .args .at) (b t f .pre .1 .1 .1) (i t f) (f .before .before .before .loop .end) (f .before .before .before .loop .out) (state t f) (more t f) (f .field-at .result) (found t f) (b t f .pre .1 .0) (c .before .before .before .m .given .0 .0) (message-of (f .field-at .result .kind) (c .before .before .before .m .given .0 .0) (sym (c .before .before .before .before .before .held .ensures) ∙ c .before .before .before .m .given .1)) .2, message-fits (sc t (b t f)) (b t f .args .levels) (b t f .args .number) (now (b t f .args .s)) (now (b t f .args .out)) (b t f .args .from) (b t f .args .at) (b t f .pre .1 .1 .1) (i t f) (f .before .before .before .loop .end) (f .before .before .before .loop .out) (state t f) (more t f) (f .field-at .result) (found t f) (b t f .pre .1 .0) (c .before .before .before .m .given .0 .0) (message-of (f .field-at .result .kind) (c .before .before .before .m .given .0 .0) (sym (c .before .before .before .before .before .held .ensures) ∙ c .before .before .before .m .given .1)))
 
 write-sub-write : (t : ℕ) → write-lts.Need-sub-write (field-at-reads.Asked, field-at-reads.Learnt, held-reads.Asked, held-reads.Learnt, leaf-line-reads.Asked, leaf-line-reads.Learnt, message-line-reads.Asked, message-line-reads.Learnt, write-below t, write.Post) (write-at t) write.Post write-Inv-loop write-μ-loop
 write-sub-write t c =
     let f = c .before .before .before .before .before .before .before .before .before .before .before in
-    let h = nested-accepts (es t (b t f)) (b t f .args .levels) (b t f .args .number) (now (b t f .args .s)) (now (b t f .args .out)) (b t f .args .from) (b t f .args .at) (b t f .pre .1 .1 .1) (i t f) (f .before .before .before .loop .end) (f .before .before .before .loop .out) (state t f) (more t f) (f .field-at .result) (found t f) (b t f .pre .1 .0) (c .before .before .before .before .before .before .m .given .0 .0) (message-of (f .field-at .result .kind) (c .before .before .before .before .before .before .m .given .0 .0) (sym (c .before .before .before .before .before .before .before .before .held .ensures) ∙ c .before .before .before .before .before .before .m .given .1)) .0 in
+    let h = nested-accepts (sc t (b t f)) (b t f .args .levels) (b t f .args .number) (now (b t f .args .s)) (now (b t f .args .out)) (b t f .args .from) (b t f .args .at) (b t f .pre .1 .1 .1) (i t f) (f .before .before .before .loop .end) (f .before .before .before .loop .out) (state t f) (more t f) (f .field-at .result) (found t f) (b t f .pre .1 .0) (c .before .before .before .before .before .before .m .given .0 .0) (message-of (f .field-at .result .kind) (c .before .before .before .before .before .before .m .given .0 .0) (sym (c .before .before .before .before .before .before .before .before .held .ensures) ∙ c .before .before .before .before .before .before .m .given .1)) .0 in
     omega arith
 
 write-sub-write-2 : (t : ℕ) → write-lts.Need-sub-write-2 (field-at-reads.Asked, field-at-reads.Learnt, held-reads.Asked, held-reads.Learnt, leaf-line-reads.Asked, leaf-line-reads.Learnt, message-line-reads.Asked, message-line-reads.Learnt, write-below t, write.Post) (write-at t) write.Post write-Inv-loop write-μ-loop
@@ -159,11 +160,11 @@ write-part-write-end t c = let f = c .before .before .before .before .before .be
 write-write-requires : (t : ℕ) → write-lts.Need-write-requires (field-at-reads.Asked, field-at-reads.Learnt, held-reads.Asked, held-reads.Learnt, leaf-line-reads.Asked, leaf-line-reads.Learnt, message-line-reads.Asked, message-line-reads.Learnt, write-below t, write.Post) (write-at t) write.Post write-Inv-loop write-μ-loop
 write-write-requires t c κs =
     let f = c .before .before .before .before .before .before .before .before .before .before .before .before .before in
-    let h = nested-accepts (es t (b t f)) (b t f .args .levels) (b t f .args .number) (now (b t f .args .s)) (now (b t f .args .out)) (b t f .args .from) (b t f .args .at) (b t f .pre .1 .1 .1) (i t f) (f .before .before .before .loop .end) (f .before .before .before .loop .out) (state t f) (more t f) (f .field-at .result) (found t f) (b t f .pre .1 .0) (c .before .before .before .before .before .before .before .before .m .given .0 .0) (message-of (f .field-at .result .kind) (c .before .before .before .before .before .before .before .before .m .given .0 .0) (sym (c .before .before .before .before .before .before .before .before .before .before .held .ensures) ∙ c .before .before .before .before .before .before .before .before .m .given .1)) in
+    let h = nested-accepts (sc t (b t f)) (b t f .args .levels) (b t f .args .number) (now (b t f .args .s)) (now (b t f .args .out)) (b t f .args .from) (b t f .args .at) (b t f .pre .1 .1 .1) (i t f) (f .before .before .before .loop .end) (f .before .before .before .loop .out) (state t f) (more t f) (f .field-at .result) (found t f) (b t f .pre .1 .0) (c .before .before .before .before .before .before .before .before .m .given .0 .0) (message-of (f .field-at .result .kind) (c .before .before .before .before .before .before .before .before .m .given .0 .0) (sym (c .before .before .before .before .before .before .before .before .before .before .held .ensures) ∙ c .before .before .before .before .before .before .before .before .m .given .1)) in
     let k = h .0 in
     let p = b t f .pre .0 in
     let l = b t f .pre .1 .0 in
-    (omega arith, (omega arith, (h .1, inner-fits (es t (b t f)) (b t f .args .levels) (b t f .args .number) (now (b t f .args .s)) (now (b t f .args .out)) (b t f .args .from) (b t f .args .at) (b t f .pre .1 .1 .1) (i t f) (f .before .before .before .loop .end) (f .before .before .before .loop .out) (state t f) (more t f) (f .field-at .result) (found t f) (b t f .pre .1 .0) (c .before .before .before .before .before .before .before .before .m .given .0 .0) (message-of (f .field-at .result .kind) (c .before .before .before .before .before .before .before .before .m .given .0 .0) (sym (c .before .before .before .before .before .before .before .before .before .before .held .ensures) ∙ c .before .before .before .before .before .before .before .before .m .given .1)) (c .before .before .before .before .message-line .result) (c .before .before .before .before .message-line .last .1 .1 .1 .1 .0) (c .before .before .before .before .message-line .ensures))))
+    (omega arith, (omega arith, (h .1, inner-fits (sc t (b t f)) (b t f .args .levels) (b t f .args .number) (now (b t f .args .s)) (now (b t f .args .out)) (b t f .args .from) (b t f .args .at) (b t f .pre .1 .1 .1) (i t f) (f .before .before .before .loop .end) (f .before .before .before .loop .out) (state t f) (more t f) (f .field-at .result) (found t f) (b t f .pre .1 .0) (c .before .before .before .before .before .before .before .before .m .given .0 .0) (message-of (f .field-at .result .kind) (c .before .before .before .before .before .before .before .before .m .given .0 .0) (sym (c .before .before .before .before .before .before .before .before .before .before .held .ensures) ∙ c .before .before .before .before .before .before .before .before .m .given .1)) (c .before .before .before .before .message-line .result) (c .before .before .before .before .message-line .last .1 .1 .1 .1 .0) (c .before .before .before .before .message-line .ensures))))
 
 write-loop-less-2 : (t : ℕ) → write-lts.Need-loop-less-2 (field-at-reads.Asked, field-at-reads.Learnt, held-reads.Asked, held-reads.Learnt, leaf-line-reads.Asked, leaf-line-reads.Learnt, message-line-reads.Asked, message-line-reads.Learnt, write-below t, write.Post) (write-at t) write.Post write-Inv-loop write-μ-loop
 write-loop-less-2 t c = let f = c .before .before .before .before .before .before .before .before .before .before .before .before .before .before .before .before in let h = ends-of t f in let p = h .0 in let q = h .1 in omega arith
@@ -171,17 +172,17 @@ write-loop-less-2 t c = let f = c .before .before .before .before .before .befor
 write-loop-again-2 : (t : ℕ) → write-lts.Need-loop-again-2 (field-at-reads.Asked, field-at-reads.Learnt, held-reads.Asked, held-reads.Learnt, leaf-line-reads.Asked, leaf-line-reads.Learnt, message-line-reads.Asked, message-line-reads.Learnt, write-below t, write.Post) (write-at t) write.Post write-Inv-loop write-μ-loop
 write-loop-again-2 t c =
     let f = c .before .before .before .before .before .before .before .before .before .before .before .before .before .before .before .before in
-    nested-written (es t (b t f)) (b t f .args .levels) (b t f .args .number) (now (b t f .args .s)) (now (b t f .args .out)) (b t f .args .from) (b t f .args .at) (b t f .pre .1 .1 .1) (i t f) (f .before .before .before .loop .end) (f .before .before .before .loop .out) (state t f) (more t f) (f .field-at .result) (found t f) (b t f .pre .1 .0) (c .before .before .before .before .before .before .before .before .before .before .before .m .given .0 .0) (message-of (f .field-at .result .kind) (c .before .before .before .before .before .before .before .before .before .before .before .m .given .0 .0) (sym (c .before .before .before .before .before .before .before .before .before .before .before .before .before .held .ensures) ∙ c .before .before .before .before .before .before .before .before .before .before .before .m .given .1)) (c .before .before .before .before .before .before .before .message-line .result) (c .before .before .before .before .before .before .before .message-line .last .1 .1 .1 .1 .0) (c .before .before .before .before .before .before .before .message-line .ensures) (c .before .before .write .result) (c .before .before .write .last .1 .1 .1 .1 .1 .0) (c .before .before .write .ensures)
+    nested-written (sc t (b t f)) (b t f .args .levels) (b t f .args .number) (now (b t f .args .s)) (now (b t f .args .out)) (b t f .args .from) (b t f .args .at) (b t f .pre .1 .1 .1) (i t f) (f .before .before .before .loop .end) (f .before .before .before .loop .out) (state t f) (more t f) (f .field-at .result) (found t f) (b t f .pre .1 .0) (c .before .before .before .before .before .before .before .before .before .before .before .m .given .0 .0) (message-of (f .field-at .result .kind) (c .before .before .before .before .before .before .before .before .before .before .before .m .given .0 .0) (sym (c .before .before .before .before .before .before .before .before .before .before .before .before .before .held .ensures) ∙ c .before .before .before .before .before .before .before .before .before .before .before .m .given .1)) (c .before .before .before .before .before .before .before .message-line .result) (c .before .before .before .before .before .before .before .message-line .last .1 .1 .1 .1 .0) (c .before .before .before .before .before .before .before .message-line .ensures) (c .before .before .write .result) (c .before .before .write .last .1 .1 .1 .1 .1 .0) (c .before .before .write .ensures)
 
 write-same-length : (t : ℕ) → write-lts.Need-same-length (field-at-reads.Asked, field-at-reads.Learnt, held-reads.Asked, held-reads.Learnt, leaf-line-reads.Asked, leaf-line-reads.Learnt, message-line-reads.Asked, message-line-reads.Learnt, write-below t, write.Post) (write-at t) write.Post write-Inv-loop write-μ-loop
 write-same-length t c =
     let s = c .before .before .before .before .before in
-    same-length (es t s) (s .args .levels) (s .args .number) (now (s .args .s)) (now (s .args .out)) (s .args .from) (s .args .at) (c .before .loop .i) (c .before .loop .end) (c .before .loop .out) (c .before .loop .inv)
+    same-length (sc t s) (s .args .levels) (s .args .number) (now (s .args .s)) (now (s .args .out)) (s .args .from) (s .args .at) (c .before .loop .i) (c .before .loop .end) (c .before .loop .out) (c .before .loop .inv)
 
 write-returns : (t : ℕ) → write-lts.Need-returns (field-at-reads.Asked, field-at-reads.Learnt, held-reads.Asked, held-reads.Learnt, leaf-line-reads.Asked, leaf-line-reads.Learnt, message-line-reads.Asked, message-line-reads.Learnt, write-below t, write.Post) (write-at t) write.Post write-Inv-loop write-μ-loop
 write-returns t c =
     let s = c .before .before .before .before .before in
-    ended (es t s) (s .args .levels) (s .args .number) (now (s .args .s)) (now (s .args .out)) (s .args .from) (s .args .at) (c .before .loop .i) (c .before .loop .end) (c .before .loop .out) (c .before .loop .inv) (c .loop-test .left)
+    ended (sc t s) (s .args .levels) (s .args .number) (now (s .args .s)) (now (s .args .out)) (s .args .from) (s .args .at) (c .before .loop .i) (c .before .loop .end) (c .before .loop .out) (c .before .loop .inv) (c .loop-test .left)
 
 pub +write-spec : {M : Type 1} → statement M
 +write-spec = close μ-write λ t. write-lts.spec (field-at-reads.Asked, field-at-reads.Learnt, held-reads.Asked, held-reads.Learnt, leaf-line-reads.Asked, leaf-line-reads.Learnt, message-line-reads.Asked, message-line-reads.Learnt, write-below t, write.Post)

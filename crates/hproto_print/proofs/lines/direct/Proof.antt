@@ -6,24 +6,25 @@ use Prim.Native.Nat.{_+_, _-_, _<_, _≤_}
 use lib.ListN.{length, take, drop}
 use denote.Ref.{now}
 use borrow.Author.Needs.{needs}
-use Rattle.hproto_table.specs.Entry.{Entry, entry}
+use Rattle.hproto_table.specs.Entry.{entry}
+use Rattle.hproto_table.specs.Schema.{Schema, schemaOf}
 use Rattle.hproto_field.specs.Fronts.{front}
 use Rattle.hproto_print.proofs.Counting.{left-octets, Counted, none-counted, all-counted, count-ends, counted-turn}
 use Rattle.hproto_print.proofs.lines.direct.Statement.{statement}
 use Rattle.hproto_print.proofs.lines.direct.Tie as tie
 
 abbrev Inv-loop : tie.InvT-loop
-Inv-loop words count number s i₀ n₀ i n = Counted (map entry (take count words)) number s i n
+Inv-loop words count number s i₀ n₀ i n = Counted (schemaOf (map entry (take count words))) number s i n
 
 abbrev μ-loop : tie.MeasureT-loop
 μ-loop words count number s i₀ n₀ i n = length s - i
 
-abbrev es : tie.Start Inv-loop μ-loop → List Entry
-es b = map entry (take (b .args .count) (now (b .args .words)))
+abbrev sc : tie.Start Inv-loop μ-loop → Schema
+sc b = schemaOf (map entry (take (b .args .count) (now (b .args .words))))
 
 -- The field at the front of the octets that are left, and where it ends.
 module _ (c : tie.After-field-at Inv-loop μ-loop) where
-  found : c .field-at .result ≡ front (es (c .before .before .before .before .before .before)) (c .before .before .before .before .before .before .args .number) (drop (c .before .before .before .loop .i) (now (c .before .before .before .before .before .before .args .s)))
+  found : c .field-at .result ≡ front (sc (c .before .before .before .before .before .before)) (c .before .before .before .before .before .before .args .number) (drop (c .before .before .before .loop .i) (now (c .before .before .before .before .before .before .args .s)))
   found = c .field-at .ensures ∙ rw (left-octets (c .before .before .before .loop .i) (now (c .before .before .before .before .before .before .args .s)))
 
   at-end : let i = c .before .before .before .loop .i in let f = c .field-at .result in
@@ -31,12 +32,12 @@ module _ (c : tie.After-field-at Inv-loop μ-loop) where
   at-end =
       let b = c .before .before .before .before .before .before in
       let l = c .before .before .before .loop in
-      count-ends (es b) (b .args .number) (now (b .args .s)) (l .i) (l .n) (l .inv) (c .before .before .loop-test .taken) (c .field-at .result) found
+      count-ends (sc b) (b .args .number) (now (b .args .s)) (l .i) (l .n) (l .inv) (c .before .before .loop-test .taken) (c .field-at .result) found
 
 loop-holds : tie.Need-loop-holds Inv-loop μ-loop
 loop-holds c =
     let b = c .before .before in
-    none-counted (es b) (b .args .number) (now (b .args .s)) (b .pre)
+    none-counted (sc b) (b .args .number) (now (b .args .s)) (b .pre)
 
 sub-field-at : tie.Need-sub-field-at Inv-loop μ-loop
 sub-field-at c = search needs
@@ -74,13 +75,13 @@ loop-again c =
     let d = c .before .before in
     let b = c .before .before .before .before .before .before .before .before in
     let l = c .before .before .before .before .before .loop in
-    counted-turn (es b) (b .args .number) (now (b .args .s)) (l .i) (l .n) (l .inv) (d .before .before .loop-test .taken) (d .field-at .result) (found d)
+    counted-turn (sc b) (b .args .number) (now (b .args .s)) (l .i) (l .n) (l .inv) (d .before .before .loop-test .taken) (d .field-at .result) (found d)
 
 returns : tie.Need-returns Inv-loop μ-loop
 returns c =
     let b = c .before .before .before .before in
     let l = c .before .loop in
-    all-counted (es b) (b .args .number) (now (b .args .s)) (l .i) (l .n) (l .inv) (c .loop-test .left)
+    all-counted (sc b) (b .args .number) (now (b .args .s)) (l .i) (l .n) (l .inv) (c .loop-test .left)
 
 pub direct-spec : {M : Type 1} → statement M
 direct-spec =

@@ -7,6 +7,7 @@ use Prim.Native.Nat.{ℕ}
 use lib.ListN.{take, length-append}
 use denote.Ref.{now}
 use Rattle.hproto_table.specs.Entry.{entry}
+use Rattle.hproto_table.specs.Schema.{schemaOf}
 use Rattle.hproto_print.specs.Ascii.{ascii}
 use Rattle.hproto_print.specs.Digits.{decimal}
 use Rattle.hproto_print.specs.Text.{front, line}
@@ -17,7 +18,7 @@ use Rattle.hproto_print.proofs.lines.message_line.Tie as tie
 
 -- The count that stands in the line.
 abbrev count : tie.Start → ℕ
-count b = directOf (map entry (take (b .args .count) (now (b .args .words)))) (b .args .number) (now (b .args .s))
+count b = directOf (schemaOf (map entry (take (b .args .count) (now (b .args .words))))) (b .args .number) (now (b .args .s))
 
 direct-requires : tie.Need-direct-requires
 direct-requires c κs = search needs
