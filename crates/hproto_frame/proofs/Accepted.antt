@@ -13,7 +13,8 @@ use Rattle.reading.specs.Reading.{messageLimit}
 use Rattle.octets.specs.Number.{Octets}
 use Rattle.octets.specs.Control.{following, coded}
 use Rattle.octets.proofs.Number.{octets-before}
-use Rattle.octets.proofs.Codes.{Form, form-following, form-coded, form-of, leastCode-least}
+use Rattle.octets.specs.ControlPart.{Form}
+use Rattle.octets.proofs.Codes.{form-following, form-coded, form-of, leastCode-least}
 use Rattle.octets.proofs.Shorter.{NoShorter}
 use Rattle.hproto_frame.specs.declared.FrameRead.{FrameRead}
 use Rattle.hproto_frame.specs.Frame.{frameCode, bufferLimit, readRefused, readAccepted, announced, prefixed, frontRead, frameRead, shortestPrefix}

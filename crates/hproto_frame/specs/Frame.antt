@@ -4,7 +4,8 @@ use mathlib.Core.Bool.{cond}
 use mathlib.Core.List.{List, [], _∷_, _++_}
 use lib.ListN.{length, take, drop}
 use lib.Dec.{ltb}
-use Rattle.octets.specs.Control.{Code, following, coded, leastCode}
+use Rattle.octets.specs.ControlPart.{Code}
+use Rattle.octets.specs.Control.{following, coded, leastCode}
 use Rattle.reading.specs.Reading.{messageLimit}
 use Rattle.hproto_store.specs.Store.{stored}
 use Rattle.hproto_frame.specs.declared.FrameRead.{FrameRead}

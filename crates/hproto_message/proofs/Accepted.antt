@@ -5,39 +5,39 @@ use mathlib.Core.Path.{_≡_, refl, sym, ap, ap₂, _∙_, subst}
 use mathlib.Core.List.{List, [], _++_}
 use mathlib.Core.Logic.{_↔_}
 use lib.ListN.{length, take, drop, length-append}
-use Rattle.octets.proofs.ControlPart.{control-size}
+use Rattle.octets.proofs.ControlPart.{part-size}
 use Rattle.hproto_table.specs.Schema.{Schema}
 use Rattle.hproto_message.specs.declared.Step.{Step}
 use Rattle.hproto_message.specs.declared.Step.the-variants.{Done, Fault, Over, Into}
-use Rattle.hproto_message.specs.Cut.{Cut, end, leaf, nested, joined, depth, WholeField, LeafField, NestedField, Allowed, Good}
-use Rattle.reading.specs.Reading.{Reading, accepted, refused, onAccepted, inOrder, IsAccepted}
-use Rattle.hproto_message.specs.Reading.{step, Inner, afterStep, fieldsFrom, messageFrom, reading, Accepts}
-use Rattle.hproto_message.proofs.Steps.{StepMeans, step-means, step-of-leaf, step-of-nested, step-of-end, split-in-three, in-three}
+use Rattle.hproto_message.specs.Cut.{Cut, end, leaf, nested, joined, depth, LeafField, NestedField, Allowed, Good}
+use Rattle.reading.specs.Reading.{Reading, accepted, refused, onAccepted, inOrder, IsAccepted, depthLimit}
+use Rattle.hproto_message.specs.Reading.{step, tagAt, Inner, afterStep, fieldsFrom, messageFrom, reading, Accepts}
+use Rattle.hproto_message.proofs.Steps.{StepMeans, step-means, step-of-leaf, step-of-nested, step-of-end, field-tag, split-in-three, in-three}
 
 module _ (sc : Schema) (levels n : ℕ) (s : List ℕ) where
   good-end : s ≡ [] → Good sc (suc levels) n s end
   unfolding joined Allowed depth
   good-end e = record { divides = sym e; allowed = tt; shallow = omega arith }
 
-  good-leaf : (c b rest : List ℕ) (cut : Cut) → LeafField sc n c b → s ≡ c ++ b ++ rest → Good sc (suc levels) n rest cut
-      → Good sc (suc levels) n s (leaf c b cut)
+  good-leaf : (tag : ℕ) (c b rest : List ℕ) (cut : Cut) → LeafField sc n tag c b → s ≡ c ++ b ++ rest → Good sc (suc levels) n rest cut
+      → Good sc (suc levels) n s (leaf tag c b cut)
   unfolding joined Allowed depth
-  good-leaf c b rest cut f e g =
+  good-leaf tag c b rest cut f e g =
       record {
         divides = ap (λ (r : List ℕ). c ++ b ++ r) (g .divides) ∙ sym e;
         allowed = (f, g .allowed);
         shallow = g .shallow;
       }
 
-  good-nested : (m : ℕ) (c b rest : List ℕ) (inside cut : Cut) → NestedField sc n m c b → s ≡ c ++ b ++ rest → Good sc levels m b inside
-      → Good sc (suc levels) n rest cut → Good sc (suc levels) n s (nested c inside cut)
+  good-nested : (m tag : ℕ) (c b rest : List ℕ) (inside cut : Cut) → NestedField sc n m tag c b → s ≡ c ++ b ++ rest → Good sc levels m b inside
+      → Good sc (suc levels) n rest cut → Good sc (suc levels) n s (nested tag c inside cut)
   unfolding joined Allowed depth
-  good-nested m c b rest inside cut f e i g =
+  good-nested m tag c b rest inside cut f e i g =
       let p = i .shallow in
       let q = g .shallow in
       record {
         divides = ap₂ (λ (x y : List ℕ). c ++ x ++ y) (i .divides) (g .divides) ∙ sym e;
-        allowed = ((m, subst (λ (x : List ℕ). NestedField sc n m c x) (sym (i .divides)) f, i .allowed), g .allowed);
+        allowed = ((m, subst (λ (x : List ℕ). NestedField sc n m tag c x) (sym (i .divides)) f, i .allowed), g .allowed);
         shallow = omega arith;
       }
 
@@ -53,21 +53,21 @@ module _ (sc : Schema) (levels : ℕ) (inner : Inner)
   after-good n next later at s cut (Fault number) h e = let z : _≡_ {A = ℕ} 0 1 = cc in absurd (omega arith)
   after-good n next later at s cut (Over k l) h e = go (next (at + k + l) (drop (k + l) s)) refl e
     where
-      go : (r : Reading Cut) → next (at + k + l) (drop (k + l) s) ≡ r → onAccepted (leaf (take k s) (take l (drop k s))) r ≡ accepted cut
+      go : (r : Reading Cut) → next (at + k + l) (drop (k + l) s) ≡ r → onAccepted (leaf (tagAt s) (take k s) (take l (drop k s))) r ≡ accepted cut
           → Good sc (suc levels) n s cut
       go (accepted rest) f g =
           subst (Good sc (suc levels) n s) (cc)
-          (good-leaf sc levels n s (take k s) (take l (drop k s)) (drop (k + l) s) rest (h .0) (sym (split-in-three k l s))
+          (good-leaf sc levels n s (tagAt s) (take k s) (take l (drop k s)) (drop (k + l) s) rest (h .0) (sym (split-in-three k l s))
           (later (at + k + l) (drop (k + l) s) rest f))
       go (refused number place) f g = let z : _≡_ {A = ℕ} 0 1 = cc in absurd (omega arith)
   after-good n next later at s cut (Into m k l) h e =
       go (inner m at (at + k) (take l (drop k s))) refl (next (at + k + l) (drop (k + l) s)) refl e
     where
       go : (q : Reading Cut) → inner m at (at + k) (take l (drop k s)) ≡ q → (r : Reading Cut) → next (at + k + l) (drop (k + l) s) ≡ r
-          → inOrder (nested (take k s)) q r ≡ accepted cut → Good sc (suc levels) n s cut
+          → inOrder (nested (tagAt s) (take k s)) q r ≡ accepted cut → Good sc (suc levels) n s cut
       go (accepted i) d (accepted rest) f g =
           subst (Good sc (suc levels) n s) (cc)
-          (good-nested sc levels n s m (take k s) (take l (drop k s)) (drop (k + l) s) i rest (h .0) (sym (split-in-three k l s))
+          (good-nested sc levels n s m (tagAt s) (take k s) (take l (drop k s)) (drop (k + l) s) i rest (h .0) (sym (split-in-three k l s))
           (below m at (at + k) (take l (drop k s)) i d) (later (at + k + l) (drop (k + l) s) rest f))
       go (accepted i) d (refused number place) f g = let z : _≡_ {A = ℕ} 0 1 = cc in absurd (omega arith)
       go (refused number place) d r f g = let z : _≡_ {A = ℕ} 0 1 = cc in absurd (omega arith)
@@ -85,10 +85,6 @@ accepted-good sc zero n field at s cut e = let z : _≡_ {A = ℕ} 0 1 = cc in a
 accepted-good sc (suc levels) n field at s cut e =
     fields-good sc levels (messageFrom sc levels) (accepted-good sc levels) n (suc (length s)) at s cut e
 
--- A whole field takes an octet or more.
-pub field-size : (tag : ℕ) (c b : List ℕ) → WholeField tag c b → 1 ≤ length c
-field-size tag c b w = control-size c tag (length b) (length c) (w .control-part) .0
-
 -- Where nested messages with a good cut are accepted, so is a message of good fields.
 module _ (sc : Schema) (levels : ℕ) (inner : Inner)
     (below : (m field at : ℕ) (b : List ℕ) (cut : Cut) → Good sc levels m b cut → inner m field at b ≡ accepted cut) where
@@ -97,29 +93,29 @@ module _ (sc : Schema) (levels : ℕ) (inner : Inner)
   unfolding fieldsFrom afterStep onAccepted inOrder joined Allowed depth
   fields-accepted end n zero at a d h = absurd (omega arith)
   fields-accepted end n (suc left) at a d h = rw (step-of-end sc n)
-  fields-accepted (leaf c b cut) n zero at a d h = absurd (omega arith)
-  fields-accepted (leaf c b cut) n (suc left) at a d h =
-      let k = field-size (a .0 .tag) c b (a .0 .whole) in
+  fields-accepted (leaf tag c b cut) n zero at a d h = absurd (omega arith)
+  fields-accepted (leaf tag c b cut) n (suc left) at a d h =
+      let k = part-size tag (length b) c (a .0 .whole) in
       let l : length (c ++ b ++ joined cut) ≡ length c + length b + length (joined cut) = simp length-append (omega arith) in
       let r = fields-accepted cut n left (at + length c + length b) (a .1) d (omega arith) in
       let p = in-three c b (joined cut) in
-      rw (step-of-leaf sc n c b (joined cut) (a .0), p .first, p .second, p .third, r)
-  fields-accepted (nested c inside cut) n zero at a d h = absurd (omega arith)
-  fields-accepted (nested c inside cut) n (suc left) at a d h =
+      rw (step-of-leaf sc n tag c b (joined cut) (a .0), field-tag tag c b (joined cut) (a .0 .whole), p .first, p .second, p .third, r)
+  fields-accepted (nested tag c inside cut) n zero at a d h = absurd (omega arith)
+  fields-accepted (nested tag c inside cut) n (suc left) at a d h =
       let m = a .0 .0 in
       let b = joined inside in
-      let k = field-size (a .0 .1 .tag) c b (a .0 .1 .whole) in
+      let k = part-size tag (length b) c (a .0 .1 .whole) in
       let l : length (c ++ b ++ joined cut) ≡ length c + length b + length (joined cut) = simp length-append (omega arith) in
       let q = below m at (at + length c) b inside (record { divides = refl; allowed = a .0 .2; shallow = omega arith }) in
       let r = fields-accepted cut n left (at + length c + length b) (a .1) (omega arith) (omega arith) in
       let p = in-three c b (joined cut) in
-      rw (step-of-nested sc n m c b (joined cut) (a .0 .1), p .first, p .second, p .third, q, r)
+      rw (step-of-nested sc n m tag c b (joined cut) (a .0 .1), field-tag tag c b (joined cut) (a .0 .1 .whole), p .first, p .second, p .third, q, r)
 
 pub depth-positive : (cut : Cut) → 1 ≤ depth cut
 unfolding depth
 depth-positive end = omega arith
-depth-positive (leaf c b cut) = depth-positive cut
-depth-positive (nested c inside cut) = omega arith
+depth-positive (leaf tag c b cut) = depth-positive cut
+depth-positive (nested tag c inside cut) = omega arith
 
 pub good-accepted : (sc : Schema) (levels n field at : ℕ) (s : List ℕ) (cut : Cut)
     → Good sc levels n s cut → messageFrom sc levels n field at s ≡ accepted cut
@@ -130,9 +126,9 @@ good-accepted sc (suc levels) n field at s cut g =
     (fields-accepted sc levels (messageFrom sc levels) (good-accepted sc levels) cut n (suc (length (joined cut))) at (g .allowed) (g .shallow) (omega arith))
 
 -- The reading accepts a message with a cut exactly where that cut is good.
-pub accepted-exactly : (sc : Schema) (n : ℕ) (s : List ℕ) (cut : Cut) → (reading sc n s ≡ accepted cut) ↔ Good sc 8 n s cut
+pub accepted-exactly : (sc : Schema) (n : ℕ) (s : List ℕ) (cut : Cut) → (reading sc n s ≡ accepted cut) ↔ Good sc depthLimit n s cut
 unfolding reading
-accepted-exactly sc n s cut = (accepted-good sc 8 n 0 0 s cut, good-accepted sc 8 n 0 0 s cut)
+accepted-exactly sc n s cut = (accepted-good sc depthLimit n 0 0 s cut, good-accepted sc depthLimit n 0 0 s cut)
 
 -- Octets have at most one good cut.
 pub good-cut-unique : (sc : Schema) (levels n : ℕ) (s : List ℕ) (cut other : Cut) → Good sc levels n s cut → Good sc levels n s other → cut ≡ other

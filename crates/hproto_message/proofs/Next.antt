@@ -2,20 +2,20 @@
 use Prim.Native.Nat.{ℕ, suc, _+_, _≤_}
 use native.Mathlib.Omega.{arith}
 use mathlib.Core.Path.{_≡_, refl, sym, ap, _∙_, subst, subst₃}
-use mathlib.Core.List.{List, _++_, append-assoc}
+use mathlib.Core.List.{List, _++_}
 use lib.ListN.{length, take, drop, length-append}
 use Rattle.octets.specs.Control.{control}
 use Rattle.octets.specs.declared.Control.{Control}
 use Rattle.octets.specs.declared.Control.the-variants.{Absent, Partial, Whole}
-use Rattle.octets.proofs.ControlPart.{control-append, control-nil, control-size}
+use Rattle.octets.proofs.ControlPart.{control-nil, part-size}
 use Rattle.hproto_table.specs.Entry.{innerOf}
 use Rattle.hproto_table.specs.Schema.{Schema}
 use Rattle.hproto_table.specs.declared.Meaning.{Meaning}
 use Rattle.hproto_table.specs.declared.Meaning.the-variants.{Raw, Uint, Int, String, Text, Message}
 use Rattle.hproto_message.specs.Cut as cuts
-use Rattle.hproto_message.specs.Cut.{Cut, joined, WholeField, Contents, LeafField, NestedField, Allowed, Good}
-use Rattle.hproto_message.specs.Tree.{Tree, tagOf, value, tree}
-use Rattle.hproto_message.proofs.Steps.{in-three}
+use Rattle.hproto_message.specs.Cut.{Cut, joined, Contents, LeafField, NestedField, Allowed, Good}
+use Rattle.hproto_message.specs.Tree.{Tree, value, tree}
+use Rattle.hproto_message.proofs.Steps.{field-control, in-three}
 
 -- The first field is no message.
 pub record NextLeaf (sc : Schema) (levels n : ℕ) (s : List ℕ) (cut : Cut) (tag len size : ℕ) : Type 0 where
@@ -45,40 +45,34 @@ Plain String = Unit {0}
 Plain Text = Unit {0}
 Plain (Message m) = ⊥
 
--- The control part at the front of a field is the field's own.
-field-control : (tag : ℕ) (c b r : List ℕ) → WholeField tag c b → control (c ++ b ++ r) ≡ Whole tag (length b) (length c)
-field-control tag c b r w = rw (append-assoc c b r) (control-append c (b ++ r) tag (length b) (length c) (w .control-part))
-
 module _ (sc : Schema) (levels n : ℕ) where
-  leaf-at : (c b : List ℕ) (rest : Cut) (f : LeafField sc n c b) → Allowed sc n rest → cuts.depth rest ≤ suc levels
-      → NextLeaf sc levels n (c ++ b ++ joined rest) (Cut.leaf c b rest) (f .tag) (length b) (length c)
-  unfolding tree tagOf
-  leaf-at c b rest f a d =
+  leaf-at : (tag : ℕ) (c b : List ℕ) (rest : Cut) → LeafField sc n tag c b → Allowed sc n rest → cuts.depth rest ≤ suc levels
+      → NextLeaf sc levels n (c ++ b ++ joined rest) (Cut.leaf tag c b rest) tag (length b) (length c)
+  unfolding tree
+  leaf-at tag c b rest f a d =
       let p = in-three c b (joined rest) in
-      let k = control-size c (f .tag) (length b) (length c) (f .whole .control-part) in
       record {
         rest = rest;
         good = record { divides = sym (p .third); allowed = a; shallow = d };
-        tree-is = rw (f .whole .control-part, p .second);
+        tree-is = rw (p .second);
         contents = rw (p .second) (f .allowed);
-        positive = k .0;
+        positive = part-size tag (length b) c (f .whole);
         inside = simp length-append (omega arith);
       }
 
-  nested-at : (m : ℕ) (c : List ℕ) (inner rest : Cut) (f : NestedField sc n m c (joined inner)) → Allowed sc m inner → Allowed sc n rest
+  nested-at : (m tag : ℕ) (c : List ℕ) (inner rest : Cut) → NestedField sc n m tag c (joined inner) → Allowed sc m inner → Allowed sc n rest
       → cuts.depth inner ≤ levels → cuts.depth rest ≤ suc levels
-      → NextNested sc levels n m (c ++ joined inner ++ joined rest) (Cut.nested c inner rest) (f .tag) (length (joined inner)) (length c)
-  unfolding tree tagOf innerOf
-  nested-at m c inner rest f i a e d =
+      → NextNested sc levels n m (c ++ joined inner ++ joined rest) (Cut.nested tag c inner rest) tag (length (joined inner)) (length c)
+  unfolding tree innerOf
+  nested-at m tag c inner rest f i a e d =
       let p = in-three c (joined inner) (joined rest) in
-      let k = control-size c (f .tag) (length (joined inner)) (length c) (f .whole .control-part) in
       record {
         inner = inner;
         rest = rest;
         good-inner = record { divides = sym (p .second); allowed = i; shallow = e };
         good = record { divides = sym (p .third); allowed = a; shallow = d };
-        tree-is = rw (f .whole .control-part, f .allowed);
-        positive = k .0;
+        tree-is = rw (f .allowed);
+        positive = part-size tag (length (joined inner)) c (f .whole);
         inside = simp length-append (omega arith);
       }
 
@@ -87,34 +81,34 @@ module _ (sc : Schema) (levels n : ℕ) where
         → NextLeaf sc levels n (joined cut) cut tag len size
     unfolding joined Allowed cuts.depth Plain
     leaf-of Cut.end a d q e = let h = control-nil in let z : _≡_ {A = ℕ} 0 1 = cc in absurd (omega arith)
-    leaf-of (Cut.leaf c b rest) a d q e =
-        let h = field-control (a .0 .tag) c b (joined rest) (a .0 .whole) in
-        subst₃ (λ (x y z : ℕ). NextLeaf sc levels n (c ++ b ++ joined rest) (Cut.leaf c b rest) x y z) (cc) (cc) (cc)
-        (leaf-at c b rest (a .0) (a .1) d)
-    leaf-of (Cut.nested c inner rest) a d q e =
+    leaf-of (Cut.leaf t c b rest) a d q e =
+        let h = field-control t c b (joined rest) (a .0 .whole) in
+        subst₃ (λ (x y z : ℕ). NextLeaf sc levels n (c ++ b ++ joined rest) (Cut.leaf t c b rest) x y z) (cc) (cc) (cc)
+        (leaf-at t c b rest (a .0) (a .1) d)
+    leaf-of (Cut.nested t c inner rest) a d q e =
         let f = a .0 .1 in
-        let h = field-control (f .tag) c (joined inner) (joined rest) (f .whole) in
-        let t : tag ≡ f .tag = cc in
-        absurd (subst Plain (ap (sc .means n) t ∙ f .allowed) q)
+        let h = field-control t c (joined inner) (joined rest) (f .whole) in
+        let same : tag ≡ t = cc in
+        absurd (subst Plain (ap (sc .means n) same ∙ f .allowed) q)
 
     nested-of : (m : ℕ) (cut : Cut) → Allowed sc n cut → cuts.depth cut ≤ suc levels → sc .means n tag ≡ Message m
         → control (joined cut) ≡ Whole tag len size → NextNested sc levels n m (joined cut) cut tag len size
     unfolding joined Allowed cuts.depth Contents
     nested-of m Cut.end a d q e = let h = control-nil in let z : _≡_ {A = ℕ} 0 1 = cc in absurd (omega arith)
-    nested-of m (Cut.leaf c b rest) a d q e =
+    nested-of m (Cut.leaf t c b rest) a d q e =
         let f = a .0 in
-        let h = field-control (f .tag) c b (joined rest) (f .whole) in
-        let t : f .tag ≡ tag = cc in
-        absurd (subst (λ (k : Meaning). Contents k b) (ap (sc .means n) t ∙ q) (f .allowed))
-    nested-of m (Cut.nested c inner rest) a d q e =
+        let h = field-control t c b (joined rest) (f .whole) in
+        let same : t ≡ tag = cc in
+        absurd (subst (λ (k : Meaning). Contents k b) (ap (sc .means n) same ∙ q) (f .allowed))
+    nested-of m (Cut.nested t c inner rest) a d q e =
         let f = a .0 .1 in
-        let h = field-control (f .tag) c (joined inner) (joined rest) (f .whole) in
-        let t : f .tag ≡ tag = cc in
-        let x : Message (a .0 .0) ≡ Message m = sym (f .allowed) ∙ ap (sc .means n) t ∙ q in
+        let h = field-control t c (joined inner) (joined rest) (f .whole) in
+        let same : t ≡ tag = cc in
+        let x : Message (a .0 .0) ≡ Message m = sym (f .allowed) ∙ ap (sc .means n) same ∙ q in
         let y : a .0 .0 ≡ m = cc in
-        subst (λ (k : ℕ). NextNested sc levels n k (c ++ joined inner ++ joined rest) (Cut.nested c inner rest) tag len size) y
-        (subst₃ (λ (x y z : ℕ). NextNested sc levels n (a .0 .0) (c ++ joined inner ++ joined rest) (Cut.nested c inner rest) x y z) (cc) (cc) (cc)
-        (nested-at (a .0 .0) c inner rest f (a .0 .2) (a .1) (omega arith) (omega arith)))
+        subst (λ (k : ℕ). NextNested sc levels n k (c ++ joined inner ++ joined rest) (Cut.nested t c inner rest) tag len size) y
+        (subst₃ (λ (x y z : ℕ). NextNested sc levels n (a .0 .0) (c ++ joined inner ++ joined rest) (Cut.nested t c inner rest) x y z) (cc) (cc) (cc)
+        (nested-at (a .0 .0) t c inner rest f (a .0 .2) (a .1) (omega arith) (omega arith)))
 
     module _ (s : List ℕ) (cut : Cut) (g : Good sc (suc levels) n s cut) (e : control s ≡ Whole tag len size) where
       pub next-leaf : Plain (sc .means n tag) → NextLeaf sc levels n s cut tag len size
@@ -138,20 +132,20 @@ pub record Fronted (s : List ℕ) : Type 0 where
 fronted-of : (sc : Schema) (n : ℕ) (cut : Cut) → Allowed sc n cut → 1 ≤ length (joined cut) → Fronted (joined cut)
 unfolding joined Allowed
 fronted-of sc n Cut.end a h = absurd (omega arith)
-fronted-of sc n (Cut.leaf c b rest) a h =
+fronted-of sc n (Cut.leaf tag c b rest) a h =
     record {
-      tag = a .0 .tag;
+      tag = tag;
       len = length b;
       size = length c;
-      control-part = field-control (a .0 .tag) c b (joined rest) (a .0 .whole);
+      control-part = field-control tag c b (joined rest) (a .0 .whole);
       inside = simp length-append (omega arith);
     }
-fronted-of sc n (Cut.nested c inner rest) a h =
+fronted-of sc n (Cut.nested tag c inner rest) a h =
     record {
-      tag = a .0 .1 .tag;
+      tag = tag;
       len = length (joined inner);
       size = length c;
-      control-part = field-control (a .0 .1 .tag) c (joined inner) (joined rest) (a .0 .1 .whole);
+      control-part = field-control tag c (joined inner) (joined rest) (a .0 .1 .whole);
       inside = simp length-append (omega arith);
     }
 
@@ -166,12 +160,12 @@ nothing-left sc levels n s cut g h = go cut (g .allowed) (ap length (g .divides)
   where
     go : (cut : Cut) → Allowed sc n cut → length (joined cut) ≡ 0 → cut ≡ Cut.end
     go Cut.end a e = refl
-    go (Cut.leaf c b rest) a e =
-        let k = control-size c (a .0 .tag) (length b) (length c) (a .0 .whole .control-part) .0 in
+    go (Cut.leaf tag c b rest) a e =
+        let k = part-size tag (length b) c (a .0 .whole) in
         let l : length (c ++ b ++ joined rest) ≡ length c + length b + length (joined rest) = simp length-append (omega arith) in
         absurd (omega arith)
-    go (Cut.nested c inner rest) a e =
-        let k = control-size c (a .0 .1 .tag) (length (joined inner)) (length c) (a .0 .1 .whole .control-part) .0 in
+    go (Cut.nested tag c inner rest) a e =
+        let k = part-size tag (length (joined inner)) c (a .0 .1 .whole) in
         let l : length (c ++ joined inner ++ joined rest) ≡ length c + length (joined inner) + length (joined rest) =
         simp length-append (omega arith) in
         absurd (omega arith)

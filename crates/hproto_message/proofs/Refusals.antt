@@ -17,7 +17,7 @@ use Rattle.hproto_message.specs.Cut.{Cut}
 use Rattle.hproto_message.specs.declared.Step.{Step}
 use Rattle.hproto_message.specs.declared.Step.the-variants.{Done, Fault, Over, Into}
 use Rattle.reading.specs.Reading.{Reading, accepted, refused, onAccepted, inOrder}
-use Rattle.hproto_message.specs.Reading.{stepByKind, stepFrom, step, Inner, afterStep, fieldsFrom, messageFrom}
+use Rattle.hproto_message.specs.Reading.{stepByKind, stepFrom, step, tagAt, Inner, afterStep, fieldsFrom, messageFrom}
 
 -- A step that is refused has a number above 0.
 Numbered : Step → Type 0
@@ -71,9 +71,9 @@ module _ (sc : Schema) (inner : Inner) (below : (m field at : ℕ) (b : List ℕ
   unfolding Told Numbered afterStep
   after-told next later at s Done h = tt
   after-told next later at s (Fault number) h = h
-  after-told next later at s (Over k l) h = onAccepted-told (Cut.leaf (take k s) (take l (drop k s))) (next (at + k + l) (drop (k + l) s)) (later (at + k + l) (drop (k + l) s))
+  after-told next later at s (Over k l) h = onAccepted-told (Cut.leaf (tagAt s) (take k s) (take l (drop k s))) (next (at + k + l) (drop (k + l) s)) (later (at + k + l) (drop (k + l) s))
   after-told next later at s (Into m k l) h =
-      inOrder-told (Cut.nested (take k s)) (inner m at (at + k) (take l (drop k s))) (next (at + k + l) (drop (k + l) s))
+      inOrder-told (Cut.nested (tagAt s) (take k s)) (inner m at (at + k) (take l (drop k s))) (next (at + k + l) (drop (k + l) s))
       (below m at (at + k) (take l (drop k s))) (later (at + k + l) (drop (k + l) s))
 
   fields-told : (n left at : ℕ) (s : List ℕ) → Told (fieldsFrom sc inner n left at s)

@@ -5,7 +5,7 @@ use Rattle.octets.specs.Signed as signs
 use Rattle.octets.specs.Control as controls
 use Rattle.hproto_table.specs.Entry.{find, meaning, innerOf}
 use Rattle.hproto_table.specs.Schema.{schemaOf}
-use Rattle.hproto_message.specs.Tree.{tree, tagOf, value}
+use Rattle.hproto_message.specs.Tree.{tree, value}
 use Rattle.reading.specs.Reading.{onAccepted, inOrder}
 use Rattle.hproto_message.specs.Reading as readings
 use Rattle.hproto_message.specs.Shortest.{shortest, field, leastContents}
@@ -14,7 +14,7 @@ use Rattle.hproto_message.specs.Samples as samples
 pub samples-hold : samples.Hold samples.samples
 unfolding samples.Hold samples.samples samples.outcome samples.outcomeOf samples.uintOf samples.intOf samples.refusedAs samples.only samples.nestedTable
     readings.reading readings.messageFrom readings.fieldsFrom readings.afterStep onAccepted inOrder readings.step readings.stepFrom
-    readings.stepByKind schemaOf find meaning tree tagOf innerOf value shortest field leastContents
+    readings.stepByKind schemaOf find meaning tree readings.tagAt readings.tagOf innerOf value shortest field leastContents
     octets.number octets.octetsOf octets.width octets.widthWithin octets.leastUint
     signs.integer signs.withSign signs.lowest signs.leastInt signs.signedWidth signs.signedBits
     controls.control controls.controlOf controls.following controls.coded controls.leastControl controls.leastCode controls.firstFit

@@ -7,13 +7,11 @@ use mathlib.Core.List.{List, [], _++_}
 use lib.ListN.{length, length-append}
 use Rattle.octets.specs.Number.{Octets, number}
 use Rattle.octets.specs.Signed.{integer}
-use Rattle.octets.specs.Control.{control, leastControl}
-use Rattle.octets.specs.declared.Control.{Control}
-use Rattle.octets.specs.declared.Control.the-variants.{Absent, Partial, Whole}
+use Rattle.octets.specs.Control.{leastControl}
 use Rattle.octets.proofs.Number.{octets-append, octets-before, octets-after, number-leastUint, number-below-most, octets-leastUint}
 use Rattle.octets.proofs.Integer.{integer-leastInt, integer-in-range, octets-leastInt, leastInt-no-shorter}
 use Rattle.octets.proofs.Shorter.{NoShorter, no-shorter-self, no-shorter-append, no-shorter-other, leastUint-no-shorter}
-use Rattle.octets.proofs.ControlPart.{control-bounds, control-leastControl, octets-leastControl, leastControl-least}
+use Rattle.octets.proofs.ControlPart.{part-bounds, least-part, octets-leastControl, leastControl-least}
 use Rattle.hproto_table.specs.Entry.{innerOf}
 use Rattle.hproto_table.specs.Schema.{Schema}
 use Rattle.hproto_table.specs.declared.Meaning.{Meaning}
@@ -21,13 +19,8 @@ use Rattle.hproto_table.specs.declared.Meaning.the-variants.{Raw, Uint, Int, St
 use Rattle.hproto_message.specs.Cut as cuts
 use Rattle.hproto_message.specs.Cut.{Cut, joined, WholeField, Contents, LeafField, NestedField, Allowed, Good}
 use Rattle.hproto_message.specs.Tree as trees
-use Rattle.hproto_message.specs.Tree.{Tree, Value, tagOf, value, tree}
+use Rattle.hproto_message.specs.Tree.{Tree, Value, value, tree}
 use Rattle.hproto_message.specs.Shortest.{leastContents, field, shortest}
-
--- The tag of a whole field is that of its control part.
-tag-of-whole : (tag : ℕ) (c b : List ℕ) → WholeField tag c b → tagOf (control c) ≡ tag
-unfolding tagOf
-tag-of-whole tag c b w = ap tagOf (w .control-part)
 
 -- The least contents of a value are no longer than contents that mean it, mean the same, and are as allowed.
 record Lessened (k : Meaning) (b : List ℕ) : Type 0 where
@@ -70,13 +63,12 @@ record Refitted (tag : ℕ) (c b r : List ℕ) : Type 0 where
 refitted : (tag : ℕ) (c b r : List ℕ) → Octets c → Octets r → WholeField tag c b → NoShorter r b → Refitted tag c b r
 unfolding field
 refitted tag c b r o p w n =
-    let e = w .control-part in
-    let k = control-bounds c tag (length b) o e in
+    let k = part-bounds c tag (length b) o w in
     let h = n .long in
-    let least = leastControl-least c tag (length b) (length r) o e h in
+    let least = leastControl-least c tag (length b) (length r) o w h in
     let l = least .0 in
     record {
-      whole = record { control-part = control-leastControl tag (length r) (k .0) (omega arith) };
+      whole = least-part tag (length r) (k .0) (omega arith);
       no-shorter =
           record {
             long = simp length-append (omega arith);
@@ -90,8 +82,8 @@ refitted tag c b r o p w n =
 -- The cut of a tree's shortest form.
 cutOf : Tree → Cut
 cutOf Tree.end = Cut.end
-cutOf (Tree.leaf tag v rest) = Cut.leaf (leastControl tag (length (leastContents v))) (leastContents v) (cutOf rest)
-cutOf (Tree.nested tag inside rest) = Cut.nested (leastControl tag (length (shortest inside))) (cutOf inside) (cutOf rest)
+cutOf (Tree.leaf tag v rest) = Cut.leaf tag (leastControl tag (length (leastContents v))) (leastContents v) (cutOf rest)
+cutOf (Tree.nested tag inside rest) = Cut.nested tag (leastControl tag (length (shortest inside))) (cutOf inside) (cutOf rest)
 
 joined-cutOf : (t : Tree) → joined (cutOf t) ≡ shortest t
 unfolding joined cutOf shortest field
@@ -113,38 +105,36 @@ module _ (sc : Schema) (n : ℕ) where
   unfolding tree Allowed cutOf cuts.depth shortest joined Octets
   short-end = record { is = refl; allowed = tt; same-tree = refl; same-depth = refl; no-shorter = no-shorter-self []; octets = tt }
 
-  short-leaf : (c b : List ℕ) (rest : Cut) (t : Tree) (f : LeafField sc n c b) → Octets c → Octets b → Short sc n rest t
-      → Short sc n (Cut.leaf c b rest) (Tree.leaf (f .tag) (value (sc .means n (f .tag)) b) t)
+  short-leaf : (tag : ℕ) (c b : List ℕ) (rest : Cut) (t : Tree) → LeafField sc n tag c b → Octets c → Octets b → Short sc n rest t
+      → Short sc n (Cut.leaf tag c b rest) (Tree.leaf tag (value (sc .means n tag) b) t)
   unfolding tree Allowed cutOf cuts.depth shortest joined
-  short-leaf c b rest t f oc ob later =
-      let tag = f .tag in
+  short-leaf tag c b rest t f oc ob later =
       let k = sc .means n tag in
       let less = lessened k b ob (f .allowed) in
       let fit = refitted tag c b (leastContents (value k b)) oc (less .octets) (f .whole) (less .no-shorter) in
       let r = leastContents (value k b) in
       record {
-        is = rw (tag-of-whole tag c b (f .whole), later .is);
-        allowed = (record { tag = tag; whole = fit .whole; allowed = less .contents }, later .allowed);
-        same-tree = rw (tag-of-whole tag (leastControl tag (length r)) r (fit .whole), less .same-value, later .same-tree);
+        is = rw (later .is);
+        allowed = (record { whole = fit .whole; allowed = less .contents }, later .allowed);
+        same-tree = rw (less .same-value, later .same-tree);
         same-depth = later .same-depth;
         no-shorter = no-shorter-append (field tag r) (c ++ b) (shortest t) (joined rest) (fit .no-shorter) (later .no-shorter);
         octets = octets-append (field tag r) (shortest t) (fit .octets) (later .octets);
       }
 
-  short-nested : (m : ℕ) (c : List ℕ) (inside rest : Cut) (u t : Tree) (f : NestedField sc n m c (joined inside)) → Octets c → Short sc m inside u
-      → Short sc n rest t → Short sc n (Cut.nested c inside rest) (Tree.nested (f .tag) u t)
+  short-nested : (m tag : ℕ) (c : List ℕ) (inside rest : Cut) (u t : Tree) → NestedField sc n m tag c (joined inside) → Octets c → Short sc m inside u
+      → Short sc n rest t → Short sc n (Cut.nested tag c inside rest) (Tree.nested tag u t)
   unfolding tree Allowed cutOf cuts.depth shortest joined innerOf
-  short-nested m c inside rest u t f oc inner later =
-      let tag = f .tag in
+  short-nested m tag c inside rest u t f oc inner later =
       let r = shortest u in
       let b = joined inside in
       let fit = refitted tag c b r oc (inner .octets) (f .whole) (inner .no-shorter) in
       let w : WholeField tag (leastControl tag (length r)) (joined (cutOf u)) =
       subst (λ (x : List ℕ). WholeField tag (leastControl tag (length r)) x) (sym (joined-cutOf u)) (fit .whole) in
       record {
-        is = rw (tag-of-whole tag c b (f .whole), f .allowed, inner .is, later .is);
-        allowed = ((m, record { tag = tag; whole = w; allowed = f .allowed }, inner .allowed), later .allowed);
-        same-tree = rw (tag-of-whole tag (leastControl tag (length r)) r (fit .whole), f .allowed, inner .same-tree, later .same-tree);
+        is = rw (f .allowed, inner .is, later .is);
+        allowed = ((m, record { whole = w; allowed = f .allowed }, inner .allowed), later .allowed);
+        same-tree = rw (f .allowed, inner .same-tree, later .same-tree);
         same-depth = rw (inner .same-depth, later .same-depth);
         no-shorter = no-shorter-append (field tag r) (c ++ b) (shortest t) (joined rest) (fit .no-shorter) (later .no-shorter);
         octets = octets-append (field tag r) (shortest t) (fit .octets) (later .octets);
@@ -154,18 +144,18 @@ module _ (sc : Schema) (n : ℕ) where
 short : (sc : Schema) (cut : Cut) (n : ℕ) → Allowed sc n cut → Octets (joined cut) → Short sc n cut (tree sc n cut)
 unfolding Allowed joined
 short sc Cut.end n a o = unfold tree in short-end sc n
-short sc (Cut.leaf c b rest) n a o =
+short sc (Cut.leaf tag c b rest) n a o =
     let h = octets-before (c ++ b) (joined rest) o in
-    let s = short-leaf sc n c b rest (tree sc n rest) (a .0) (octets-before c b h) (octets-after c b h)
+    let s = short-leaf sc n tag c b rest (tree sc n rest) (a .0) (octets-before c b h) (octets-after c b h)
     (short sc rest n (a .1) (octets-after (c ++ b) (joined rest) o)) in
-    subst (Short sc n (Cut.leaf c b rest)) (sym (s .is)) s
-short sc (Cut.nested c inside rest) n a o =
+    subst (Short sc n (Cut.leaf tag c b rest)) (sym (s .is)) s
+short sc (Cut.nested tag c inside rest) n a o =
     let h = octets-before (c ++ joined inside) (joined rest) o in
     let m = a .0 .0 in
-    let s = short-nested sc n m c inside rest (tree sc m inside) (tree sc n rest) (a .0 .1) (octets-before c (joined inside) h)
+    let s = short-nested sc n m tag c inside rest (tree sc m inside) (tree sc n rest) (a .0 .1) (octets-before c (joined inside) h)
     (short sc inside m (a .0 .2) (octets-after c (joined inside) h))
     (short sc rest n (a .1) (octets-after (c ++ joined inside) (joined rest) o)) in
-    subst (Short sc n (Cut.nested c inside rest)) (sym (s .is)) s
+    subst (Short sc n (Cut.nested tag c inside rest)) (sym (s .is)) s
 
 -- A message accepted with a cut, and its tree.
 module _ (sc : Schema) (levels n : ℕ) (s : List ℕ) (cut : Cut) (o : Octets s) (g : Good sc levels n s cut) where
@@ -199,5 +189,5 @@ module _ (sc : Schema) (levels n : ℕ) (s : List ℕ) (cut : Cut) (o : Octets s
 pub tree-depth : (sc : Schema) (cut : Cut) (n : ℕ) → trees.depth (tree sc n cut) ≡ cuts.depth cut
 unfolding tree trees.depth cuts.depth
 tree-depth sc Cut.end n = refl
-tree-depth sc (Cut.leaf c b rest) n = tree-depth sc rest n
-tree-depth sc (Cut.nested c inside rest) n = rw (tree-depth sc inside (innerOf (sc .means n (tagOf (control c)))), tree-depth sc rest n)
+tree-depth sc (Cut.leaf tag c b rest) n = tree-depth sc rest n
+tree-depth sc (Cut.nested tag c inside rest) n = rw (tree-depth sc inside (innerOf (sc .means n tag)), tree-depth sc rest n)

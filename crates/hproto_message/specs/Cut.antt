@@ -3,37 +3,34 @@ use Prim.Native.Nat.{ℕ, suc, _≤_, max}
 use mathlib.Core.Path.{_≡_}
 use mathlib.Core.List.{List, [], _++_}
 use lib.ListN.{length}
-use lib.Dec.{T}
-use Rattle.octets.specs.Text.{text}
-use Rattle.octets.specs.Control.{control}
-use Rattle.octets.specs.declared.Control.{Control}
-use Rattle.octets.specs.declared.Control.the-variants.{Whole}
+use Rattle.octets.specs.ControlPart.{ControlPart}
+use Rattle.octets.specs.Groups.{IsText}
 use Rattle.hproto_table.specs.Schema.{Schema}
 use Rattle.hproto_table.specs.declared.Meaning.{Meaning}
 use Rattle.hproto_table.specs.declared.Meaning.the-variants.{Raw, Uint, Int, String, Text, Message}
 
--- Document 01's cut: the fields of a message from the left, each with its control part. A field of kind message has a cut of its
--- contents, any other its contents.
+-- A list of fields from the left, each with its tag and its control part. A field of kind message has a list of the fields in its contents,
+-- any other its contents. Which of these lists are cuts of a message is said by `Good` below.
 pub data Cut : Type 0 where
   end : Cut
-  leaf : List ℕ → List ℕ → Cut → Cut
-  nested : List ℕ → Cut → Cut → Cut
+  leaf : (tag : ℕ) (part contents : List ℕ) (rest : Cut) → Cut
+  nested : (tag : ℕ) (part : List ℕ) (inside rest : Cut) → Cut
 
--- The octets that a cut divides.
+-- The octets of the fields, joined.
 unfoldable pub joined : Cut → List ℕ
 joined end = []
-joined (leaf part contents rest) = part ++ contents ++ joined rest
-joined (nested part inside rest) = part ++ joined inside ++ joined rest
+joined (leaf tag part contents rest) = part ++ contents ++ joined rest
+joined (nested tag part inside rest) = part ++ joined inside ++ joined rest
 
 -- The depth of the deepest message; a message with no nested ones has depth 1.
 unfoldable pub depth : Cut → ℕ
 depth end = 1
-depth (leaf part contents rest) = depth rest
-depth (nested part inside rest) = max (suc (depth inside)) (depth rest)
+depth (leaf tag part contents rest) = depth rest
+depth (nested tag part inside rest) = max (suc (depth inside)) (depth rest)
 
--- Document 01's whole field: a control part with this tag and no octet more, and contents of just the length that it says.
-pub record WholeField (tag : ℕ) (part contents : List ℕ) : Type 0 where
-  pub control-part : control part ≡ Whole tag (length contents) (length part)
+-- Document 01's whole field: a control part in any form, and then just as many octets as its length says.
+abbrev pub WholeField : ℕ → List ℕ → List ℕ → Type 0
+WholeField tag part contents = ControlPart tag (length contents) part
 
 -- The contents that a field of each kind may have, other than a message's.
 unfoldable pub Contents : Meaning → List ℕ → Type 0
@@ -41,29 +38,28 @@ Contents Raw s = Unit {0}
 Contents Uint s = length s ≤ 8
 Contents Int s = length s ≤ 8
 Contents String s = Unit {0}
-Contents Text s = T (text s)
+Contents Text s = IsText s
 Contents (Message m) s = ⊥
 
--- A field that the table allows (document 01's term) in messages of a number, and that is no message.
-pub record LeafField (sc : Schema) (number : ℕ) (part contents : List ℕ) : Type 0 where
-  pub tag : ℕ
+-- A field that the schema allows (document 01's term) in messages of a number, and that is no message.
+pub record LeafField (sc : Schema) (number tag : ℕ) (part contents : List ℕ) : Type 0 where
   pub whole : WholeField tag part contents
   pub allowed : Contents (sc .means number tag) contents
 
--- A field that the table makes a message of the number `inner`.
-pub record NestedField (sc : Schema) (number inner : ℕ) (part contents : List ℕ) : Type 0 where
-  pub tag : ℕ
+-- A field that the schema makes a message of the number `inner`.
+pub record NestedField (sc : Schema) (number inner tag : ℕ) (part contents : List ℕ) : Type 0 where
   pub whole : WholeField tag part contents
   pub allowed : sc .means number tag ≡ Message inner
 
--- Every field of a cut, at all depths, is whole and allowed.
+-- Every field of a list, at all depths, is whole and allowed.
 unfoldable pub Allowed : Schema → ℕ → Cut → Type 0
 Allowed sc n end = Unit {0}
-Allowed sc n (leaf part contents rest) = LeafField sc n part contents × Allowed sc n rest
-Allowed sc n (nested part inside rest) =
-    ((m : ℕ) × NestedField sc n m part (joined inside) × Allowed sc m inside) × Allowed sc n rest
+Allowed sc n (leaf tag part contents rest) = LeafField sc n tag part contents × Allowed sc n rest
+Allowed sc n (nested tag part inside rest) =
+    ((m : ℕ) × NestedField sc n m tag part (joined inside) × Allowed sc m inside) × Allowed sc n rest
 
--- A good cut of octets, under a table and a message number, at most `levels` messages deep.
+-- Document 01's cut of octets, under a schema and a message number: allowed whole fields that joined are the octets, at most `levels`
+-- messages deep.
 pub record Good (sc : Schema) (levels number : ℕ) (octets : List ℕ) (cut : Cut) : Type 0 where
   pub divides : joined cut ≡ octets
   pub allowed : Allowed sc number cut

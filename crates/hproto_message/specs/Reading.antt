@@ -11,7 +11,7 @@ use Rattle.octets.specs.declared.Control.the-variants.{Absent, Partial, Whole}
 use Rattle.hproto_table.specs.Schema.{Schema}
 use Rattle.hproto_table.specs.declared.Meaning.{Meaning}
 use Rattle.hproto_table.specs.declared.Meaning.the-variants.{Raw, Uint, Int, String, Text, Message}
-use Rattle.reading.specs.Reading.{Reading, accepted, refused, onAccepted, inOrder, IsAccepted}
+use Rattle.reading.specs.Reading.{Reading, accepted, refused, onAccepted, inOrder, IsAccepted, depthLimit}
 use Rattle.hproto_message.specs.declared.Step.{Step}
 use Rattle.hproto_message.specs.declared.Step.the-variants.{Done, Fault, Over, Into}
 use Rattle.hproto_message.specs.Cut.{Cut, end, leaf, nested}
@@ -35,6 +35,15 @@ stepFrom sc n s (Whole tag len size) = cond (leb len (length s - size)) (stepByK
 unfoldable pub step : Schema → ℕ → List ℕ → Step
 step sc n s = stepFrom sc n s (control s)
 
+-- The tag of the field at the front of octets, 0 where no whole control part stands there. A step over a field or into a message finds one.
+unfoldable pub tagOf : Control → ℕ
+tagOf Absent = 0
+tagOf Partial = 0
+tagOf (Whole tag length size) = tag
+
+unfoldable pub tagAt : List ℕ → ℕ
+tagAt s = tagOf (control s)
+
 -- How a nested message is read: its number, the place of its field, the place of its contents, and its contents.
 abbrev pub Inner : Type 0
 Inner = ℕ → ℕ → ℕ → List ℕ → Reading Cut
@@ -43,9 +52,9 @@ Inner = ℕ → ℕ → ℕ → List ℕ → Reading Cut
 unfoldable pub afterStep : Inner → (ℕ → List ℕ → Reading Cut) → ℕ → List ℕ → Step → Reading Cut
 afterStep inner next at s Done = accepted end
 afterStep inner next at s (Fault number) = refused number at
-afterStep inner next at s (Over k l) = onAccepted (leaf (take k s) (take l (drop k s))) (next (at + k + l) (drop (k + l) s))
+afterStep inner next at s (Over k l) = onAccepted (leaf (tagAt s) (take k s) (take l (drop k s))) (next (at + k + l) (drop (k + l) s))
 afterStep inner next at s (Into m k l) =
-    inOrder (nested (take k s)) (inner m at (at + k) (take l (drop k s))) (next (at + k + l) (drop (k + l) s))
+    inOrder (nested (tagAt s) (take k s)) (inner m at (at + k) (take l (drop k s))) (next (at + k + l) (drop (k + l) s))
 
 -- The fields of one message, from a place on. `left` bounds the fields that are still looked at.
 unfoldable pub fieldsFrom : Schema → Inner → ℕ → ℕ → ℕ → List ℕ → Reading Cut
@@ -60,7 +69,7 @@ messageFrom sc (suc levels) n field at s = fieldsFrom sc (messageFrom sc levels)
 
 -- The outermost message: its cut, or the first refusal.
 unfoldable pub reading : Schema → ℕ → List ℕ → Reading Cut
-reading sc n s = messageFrom sc 8 n 0 0 s
+reading sc n s = messageFrom sc depthLimit n 0 0 s
 
 -- A message of a number, at most `levels` messages deep, is accepted.
 unfoldable pub Accepts : Schema → ℕ → ℕ → List ℕ → Type 0

@@ -4,9 +4,6 @@ use mathlib.Core.List.{List}
 use lib.IntN.{ℤ}
 use Rattle.octets.specs.Number as octets
 use Rattle.octets.specs.Signed.{integer}
-use Rattle.octets.specs.Control.{control}
-use Rattle.octets.specs.declared.Control.{Control}
-use Rattle.octets.specs.declared.Control.the-variants.{Absent, Partial, Whole}
 use Rattle.hproto_table.specs.Entry.{innerOf}
 use Rattle.hproto_table.specs.Schema.{Schema}
 use Rattle.hproto_table.specs.declared.Meaning.{Meaning}
@@ -39,12 +36,6 @@ depth end = 1
 depth (leaf tag value rest) = depth rest
 depth (nested tag inside rest) = max (suc (depth inside)) (depth rest)
 
--- The tag of a control part. The control part of a field of a good cut is whole.
-unfoldable pub tagOf : Control → ℕ
-tagOf Absent = 0
-tagOf Partial = 0
-tagOf (Whole tag length size) = tag
-
 -- What contents mean as a field of each kind that is no message. No good cut has a message as such a field.
 unfoldable pub value : Meaning → List ℕ → Value
 value Raw s = raw s
@@ -54,9 +45,8 @@ value String s = string s
 value Text s = text s
 value (Message m) s = raw s
 
--- The tree that a cut gives under a table and a message number.
+-- The tree that a cut gives under a schema and a message number.
 unfoldable pub tree : Schema → ℕ → Cut → Tree
 tree sc n Cut.end = Tree.end
-tree sc n (Cut.leaf c s rest) = Tree.leaf (tagOf (control c)) (value (sc .means n (tagOf (control c))) s) (tree sc n rest)
-tree sc n (Cut.nested c inside rest) =
-    Tree.nested (tagOf (control c)) (tree sc (innerOf (sc .means n (tagOf (control c)))) inside) (tree sc n rest)
+tree sc n (Cut.leaf tag part contents rest) = Tree.leaf tag (value (sc .means n tag) contents) (tree sc n rest)
+tree sc n (Cut.nested tag part inside rest) = Tree.nested tag (tree sc (innerOf (sc .means n tag)) inside) (tree sc n rest)

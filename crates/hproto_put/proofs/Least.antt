@@ -7,7 +7,8 @@ use mathlib.Core.List.{List, [], _∷_, _++_}
 use lib.ListN.{length, set, length-append}
 use lib.Dec.{ltb}
 use Rattle.octets.specs.Number.{octetsOf}
-use Rattle.octets.specs.Control.{Code, tagCode, lengthCode, firstFit, leastCode, leastControl, controlWidths}
+use Rattle.octets.specs.ControlPart.{Code, tagCode, lengthCode}
+use Rattle.octets.specs.Control.{firstFit, leastCode, leastControl, controlWidths}
 use Rattle.octets.specs.declared.LeastControl.{LeastControl}
 use Rattle.octets.proofs.Number.{length-octetsOf}
 use Rattle.hproto_store.specs.Store.{stored}

@@ -8,14 +8,9 @@ use lib.ListN.{length, getD}
 use lib.Dec.{ltb}
 use borrow.Author.Tests.{ltb-true, ltb-false, lt-ltb, le-ltb}
 use Rattle.octets.specs.Number.{Octets, number, octetsOf}
-use Rattle.octets.specs.Control.{Code, following, coded, firstFit, leastCode}
+use Rattle.octets.specs.ControlPart.{Code, Form, direct, follows}
+use Rattle.octets.specs.Control.{following, coded, firstFit, leastCode}
 use Rattle.octets.proofs.Number.{number-below, number-octetsOf, octets-octetsOf, length-octetsOf, number-injective}
-
--- A lead and the octets after it that stand for a number.
-pub data Form (code : Code) (v : ℕ) : ℕ → List ℕ → Type 0 where
-  direct : v < code .direct → Form code v v []
-  follows : (i : ℕ) (s : List ℕ) → i < length (code .widths) → length s ≡ getD (code .widths) i 0 → number s ≡ v
-      → Form code v (code .direct + i) s
 
 pub form-following : (code : Code) (v x : ℕ) (s : List ℕ) → Form code v x s → following code x ≡ length s
 unfolding following

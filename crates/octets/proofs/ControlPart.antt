@@ -1,47 +1,50 @@
--- Laws of the control part: what stands at the front of octets, and its least form.
+-- Just the control parts are read as such, and laws of the least one.
 use Prim.Native.Nat.{ℕ, zero, suc, _+_, _*_, _-_, _/_, _%_, _^_, _≤_, _<_}
 use native.Mathlib.Nat.{lt-of-lt-of-le}
 use native.Mathlib.Omega.{arith}
 use mathlib.Core.Path.{_≡_, refl, sym, ap, _∙_, subst}
 use mathlib.Core.Bool.{Bool, true, false, cond}
 use mathlib.Core.List.{List, [], _∷_, _++_, append-assoc, append-nil}
+use mathlib.Core.Logic.{_↔_}
 use lib.ListN.{length, getD, take, drop, length-append, length-drop, take-append-drop}
-use lib.Seq.{take-at, drop-at, length-take-le}
+use lib.Seq.{take-at, take-all, drop-at, length-take-le}
 use lib.Arith.{digits-div, digits-mod}
 use lib.Dec.{ltb}
-use borrow.Author.Tests.{ltb-false, le-ltb}
+use borrow.Author.Tests.{ltb-true, ltb-false, lt-ltb, le-ltb}
 use Rattle.octets.specs.Number.{Octets}
-use Rattle.octets.specs.Control.{Code, tagCode, lengthCode, following, coded, controlOf, control, leastCode, leastControl}
+use Rattle.octets.specs.ControlPart.{Code, tagCode, lengthCode, Form, direct, follows, ControlPart}
+use Rattle.octets.specs.Control.{following, coded, controlOf, control, leastCode, leastControl}
 use Rattle.octets.specs.declared.Control.{Control}
 use Rattle.octets.specs.declared.Control.the-variants.{Absent, Partial, Whole}
 use Rattle.octets.proofs.Number.{octets-append, octets-before, octets-after, number-below-most}
-use Rattle.octets.proofs.Codes.{Form, direct, follows, form-following, form-coded, form-lead, form-of, Rising, Holds, leastCode-form, leastCode-octets, leastCode-least}
+use Rattle.octets.proofs.Codes.{form-following, form-coded, form-lead, form-of, Rising, Holds, leastCode-form, leastCode-octets, leastCode-least}
 
 -- Octets at whose front a whole control part stands, taken apart.
-pub record Front (s : List ℕ) (tag len size : ℕ) : Type 0 where
-  pub octet : ℕ
-  pub tagged : List ℕ
-  pub sized : List ℕ
-  pub rest : List ℕ
-  pub is : s ≡ octet ∷ tagged ++ (sized ++ rest)
-  pub tag-wide : length tagged ≡ following tagCode (octet / 16)
-  pub length-wide : length sized ≡ following lengthCode (octet % 16)
-  pub tag-is : coded tagCode (octet / 16) tagged ≡ tag
-  pub length-is : coded lengthCode (octet % 16) sized ≡ len
-  pub size-is : 1 + length tagged + length sized ≡ size
+record Front (s : List ℕ) (tag len size : ℕ) : Type 0 where
+  octet : ℕ
+  tagged : List ℕ
+  sized : List ℕ
+  rest : List ℕ
+  is : s ≡ octet ∷ tagged ++ (sized ++ rest)
+  small : octet < 256
+  tag-wide : length tagged ≡ following tagCode (octet / 16)
+  length-wide : length sized ≡ following lengthCode (octet % 16)
+  tag-is : coded tagCode (octet / 16) tagged ≡ tag
+  length-is : coded lengthCode (octet % 16) sized ≡ len
+  size-is : 1 + length tagged + length sized ≡ size
 
 -- A whole control part is read whatever follows it.
-pub control-of-front : (x : ℕ) (a b r : List ℕ) → length a ≡ following tagCode (x / 16) → length b ≡ following lengthCode (x % 16)
+control-of-front : (x : ℕ) (a b r : List ℕ) → x < 256 → length a ≡ following tagCode (x / 16) → length b ≡ following lengthCode (x % 16)
     → control (x ∷ a ++ (b ++ r)) ≡ Whole (coded tagCode (x / 16) a) (coded lengthCode (x % 16) b) (1 + length a + length b)
 unfolding control controlOf
-control-of-front x a b r p q =
+control-of-front x a b r h p q =
     let k : length a + length b ≤ length (a ++ (b ++ r)) = simp length-append (omega arith) in
-    rw (← p, ← q, le-ltb (length (a ++ (b ++ r))) (length a + length b) k, take-at a (b ++ r) (length a) refl, drop-at a (b ++ r) (length a) refl, take-at b r (length b) refl)
+    rw (lt-ltb x 256 h, ← p, ← q, le-ltb (length (a ++ (b ++ r))) (length a + length b) k, take-at a (b ++ r) (length a) refl, drop-at a (b ++ r) (length a) refl, take-at b r (length b) refl)
 
-pub front-of-control : (s : List ℕ) (tag len size : ℕ) → control s ≡ Whole tag len size → Front s tag len size
+front-of-control : (s : List ℕ) (tag len size : ℕ) → control s ≡ Whole tag len size → Front s tag len size
 unfolding control controlOf
 front-of-control [] tag len size e = let z : _≡_ {A = ℕ} 0 1 = cc in absurd (omega arith)
-front-of-control (x ∷ s) tag len size e = go (ltb (length s) (n + m)) refl e
+front-of-control (x ∷ s) tag len size e = octet (ltb x 256) refl e
   where
     n : ℕ
     n = following tagCode (x / 16)
@@ -49,11 +52,12 @@ front-of-control (x ∷ s) tag len size e = go (ltb (length s) (n + m)) refl e
     m : ℕ
     m = following lengthCode (x % 16)
 
-    go : (t : Bool) → ltb (length s) (n + m) ≡ t
-        → cond t Partial (Whole (coded tagCode (x / 16) (take n s)) (coded lengthCode (x % 16) (take m (drop n s))) (1 + n + m)) ≡ Whole tag len size
-        → Front (x ∷ s) tag len size
-    go true t f = let z : _≡_ {A = ℕ} 0 1 = cc in absurd (omega arith)
-    go false t f =
+    read : Control
+    read = Whole (coded tagCode (x / 16) (take n s)) (coded lengthCode (x % 16) (take m (drop n s))) (1 + n + m)
+
+    go : x < 256 → (t : Bool) → ltb (length s) (n + m) ≡ t → cond t Partial read ≡ Whole tag len size → Front (x ∷ s) tag len size
+    go small true t f = let z : _≡_ {A = ℕ} 0 1 = cc in absurd (omega arith)
+    go small false t f =
         let h = ltb-false (length s) (n + m) t in
         let d = length-drop n s in
         let a = length-take-le n s (omega arith) in
@@ -64,6 +68,7 @@ front-of-control (x ∷ s) tag len size e = go (ltb (length s) (n + m)) refl e
           sized = take m (drop n s);
           rest = drop m (drop n s);
           is = rw (take-append-drop m (drop n s), take-append-drop n s);
+          small = small;
           tag-wide = a;
           length-wide = b;
           tag-is = cc;
@@ -71,23 +76,9 @@ front-of-control (x ∷ s) tag len size e = go (ltb (length s) (n + m)) refl e
           size-is = rw (a, b) (cc);
         }
 
--- The control part of a front is read with any octets after it.
-front-control : (s : List ℕ) (tag len size : ℕ) (f : Front s tag len size) (r : List ℕ)
-    → control (f .octet ∷ f .tagged ++ (f .sized ++ r)) ≡ Whole tag len size
-front-control s tag len size f r =
-    control-of-front (f .octet) (f .tagged) (f .sized) r (f .tag-wide) (f .length-wide)
-    ∙ rw (f .tag-is, f .length-is, f .size-is)
-
--- What follows a whole control part does not change it.
-pub control-append : (s r : List ℕ) (tag len size : ℕ) → control s ≡ Whole tag len size → control (s ++ r) ≡ Whole tag len size
-control-append s r tag len size e = go (front-of-control s tag len size e)
-  where
-    go : Front s tag len size → control (s ++ r) ≡ Whole tag len size
-    go f =
-        let k : s ++ r ≡ f .octet ∷ f .tagged ++ (f .sized ++ (f .rest ++ r)) =
-        ap (λ (l : List ℕ). l ++ r) (f .is)
-        ∙ rw (append-assoc (f .octet ∷ f .tagged) (f .sized ++ f .rest) r, append-assoc (f .sized) (f .rest) r) in
-        rw k (front-control s tag len size f (f .rest ++ r))
+    octet : (t : Bool) → ltb x 256 ≡ t → cond t (cond (ltb (length s) (n + m)) Partial read) Partial ≡ Whole tag len size → Front (x ∷ s) tag len size
+    octet true t f = go (ltb-true x 256 t) (ltb (length s) (n + m)) refl f
+    octet false t f = let z : _≡_ {A = ℕ} 0 1 = cc in absurd (omega arith)
 
 -- A whole control part takes an octet or more, and no more than there are.
 pub control-size : (s : List ℕ) (tag len size : ℕ) → control s ≡ Whole tag len size → (1 ≤ size) × (size ≤ length s)
@@ -100,51 +91,26 @@ control-size s tag len size e = go (front-of-control s tag len size e)
         ap length (f .is) ∙ simp length-append (omega arith) in
         (omega arith, omega arith)
 
--- The octets of a whole control part by themselves.
-pub control-take : (s : List ℕ) (tag len size : ℕ) → control s ≡ Whole tag len size → control (take size s) ≡ Whole tag len size
-control-take s tag len size e = go (front-of-control s tag len size e)
+-- ---- what is read is a control part, and every control part is read
+
+-- The octets that a control part takes at the front of others are a control part.
+pub part-of-control : (s : List ℕ) (tag len size : ℕ) → control s ≡ Whole tag len size → ControlPart tag len (take size s)
+part-of-control s tag len size e = go (front-of-control s tag len size e)
   where
-    go : Front s tag len size → control (take size s) ≡ Whole tag len size
+    go : Front s tag len size → ControlPart tag len (take size s)
     go f =
+        let x = f .small in
         let g : s ≡ f .octet ∷ f .tagged ++ f .sized ++ f .rest = f .is ∙ sym (append-assoc (f .octet ∷ f .tagged) (f .sized) (f .rest)) in
         let i = f .size-is in
         let l : length (f .octet ∷ f .tagged ++ f .sized) ≡ size = simp length-append (omega arith) in
-        let k : take size s ≡ f .octet ∷ f .tagged ++ (f .sized ++ []) =
-        ap (take size) g ∙ take-at (f .octet ∷ f .tagged ++ f .sized) (f .rest) size l ∙ rw (append-nil (f .sized)) in
-        rw k (front-control s tag len size f [])
-
--- A control part that is all of the octets, as two forms.
-record Alone (c : List ℕ) (tag len : ℕ) : Type 0 where
-  octet : ℕ
-  tagged : List ℕ
-  sized : List ℕ
-  is : c ≡ octet ∷ tagged ++ sized
-  tag-form : Form tagCode tag (octet / 16) tagged
-  length-form : Form lengthCode len (octet % 16) sized
-
-alone : (c : List ℕ) (tag len : ℕ) → Octets c → control c ≡ Whole tag len (length c) → Alone c tag len
-unfolding Octets
-alone c tag len o e = go (front-of-control c tag len (length c) e)
-  where
-    none : (r : List ℕ) → length r ≡ 0 → r ≡ []
-    none [] h = refl
-    none (x ∷ r) h = absurd (omega arith)
-
-    go : Front c tag len (length c) → Alone c tag len
-    go f =
-        let k = f .size-is in
-        let l : length c ≡ 1 + length (f .tagged) + length (f .sized) + length (f .rest) =
-        ap length (f .is) ∙ simp length-append (omega arith) in
-        let n : f .rest ≡ [] = none (f .rest) (omega arith) in
-        let g : c ≡ f .octet ∷ f .tagged ++ f .sized =
-        f .is ∙ ap (λ (r : List ℕ). f .octet ∷ f .tagged ++ (f .sized ++ r)) n ∙ rw (append-nil (f .sized)) in
-        let b : Octets (f .octet ∷ f .tagged ++ f .sized) = subst Octets g o in
-        let x = b .0 in
+        let k : take size s ≡ f .octet ∷ f .tagged ++ f .sized = ap (take size) g ∙ take-at (f .octet ∷ f .tagged ++ f .sized) (f .rest) size l in
+        let o : f .octet / 16 * 16 + f .octet % 16 ≡ f .octet = omega arith in
         record {
-          octet = f .octet;
-          tagged = f .tagged;
-          sized = f .sized;
-          is = g;
+          left = f .octet / 16;
+          right = f .octet % 16;
+          tag-octets = f .tagged;
+          length-octets = f .sized;
+          is = k ∙ rw o refl;
           tag-form =
               subst (λ (v : ℕ). Form tagCode v (f .octet / 16) (f .tagged)) (f .tag-is)
               (form-of tagCode (f .octet / 16) (f .tagged) (omega arith) (f .tag-wide));
@@ -152,6 +118,43 @@ alone c tag len o e = go (front-of-control c tag len (length c) e)
               subst (λ (v : ℕ). Form lengthCode v (f .octet % 16) (f .sized)) (f .length-is)
               (form-of lengthCode (f .octet % 16) (f .sized) (omega arith) (f .length-wide));
         }
+
+module _ (tag len : ℕ) (c : List ℕ) (p : ControlPart tag len c) where
+  left-small : p .left < 16
+  left-small = form-lead tagCode tag (p .left) (p .tag-octets) (p .tag-form)
+
+  right-small : p .right < 16
+  right-small = form-lead lengthCode len (p .right) (p .length-octets) (p .length-form)
+
+  length-part : 1 + length (p .tag-octets) + length (p .length-octets) ≡ length c
+  length-part = sym (ap length (p .is) ∙ simp length-append (omega arith))
+
+  pub part-size : 1 ≤ length c
+  part-size = let k = length-part in omega arith
+
+  -- A control part is read whatever follows it.
+  pub part-read : (r : List ℕ) → control (c ++ r) ≡ Whole tag len (length c)
+  part-read r =
+      let x = left-small in
+      let y = right-small in
+      let t = p .left in
+      let l = p .right in
+      let a = p .tag-octets in
+      let b = p .length-octets in
+      let d : (t * 16 + l) / 16 ≡ t = digits-div t y in
+      let q : (t * 16 + l) % 16 ≡ l = digits-mod t y in
+      let m : length a ≡ following tagCode ((t * 16 + l) / 16) = sym (ap (following tagCode) d ∙ form-following tagCode tag t a (p .tag-form)) in
+      let n : length b ≡ following lengthCode ((t * 16 + l) % 16) = sym (ap (following lengthCode) q ∙ form-following lengthCode len l b (p .length-form)) in
+      let k : c ++ r ≡ (t * 16 + l) ∷ a ++ (b ++ r) = ap (λ (z : List ℕ). z ++ r) (p .is) ∙ append-assoc ((t * 16 + l) ∷ a) b r in
+      ap control k ∙ control-of-front (t * 16 + l) a b r (omega arith) m n
+      ∙ rw (d, q, form-coded tagCode tag t a (p .tag-form), form-coded lengthCode len l b (p .length-form), length-part)
+
+-- Octets are a control part exactly where they are read as one, to their end.
+pub control-exactly : (c : List ℕ) (tag len : ℕ) → (control c ≡ Whole tag len (length c)) ↔ ControlPart tag len c
+control-exactly c tag len = (
+  λ e. subst (ControlPart tag len) (take-all (length c) c (omega arith)) (part-of-control c tag len (length c) e),
+  λ p. ap control (sym (append-nil c)) ∙ part-read tag len c p [],
+)
 
 tag-rising : Rising 0 (tagCode .widths)
 unfolding Rising
@@ -187,38 +190,27 @@ length-widths (suc (suc (suc zero))) h = omega arith
 length-widths (suc (suc (suc (suc i)))) h = absurd (omega arith)
 
 -- A tag has at most two octets, a length at most eight.
-pub control-bounds : (c : List ℕ) (tag len : ℕ) → Octets c → control c ≡ Whole tag len (length c) → (tag < 256 ^ 2) × (len < 256 ^ 8)
+pub part-bounds : (c : List ℕ) (tag len : ℕ) → Octets c → ControlPart tag len c → (tag < 256 ^ 2) × (len < 256 ^ 8)
 unfolding Octets
-control-bounds c tag len o e = go (alone c tag len o e)
-  where
-    go : Alone c tag len → (tag < 256 ^ 2) × (len < 256 ^ 8)
-    go a =
-        let b : Octets (a .octet ∷ a .tagged ++ a .sized) = subst Octets (a .is) o in (
-          form-below tagCode 2 tag (a .octet / 16) (a .tagged) tag-widths (omega arith) (octets-before (a .tagged) (a .sized) (b .1)) (a .tag-form),
-          form-below lengthCode 8 len (a .octet % 16) (a .sized) length-widths (omega arith) (octets-after (a .tagged) (a .sized) (b .1)) (a .length-form),
-        )
+part-bounds c tag len o p =
+    let b : Octets ((p .left * 16 + p .right) ∷ p .tag-octets ++ p .length-octets) = subst Octets (p .is) o in (
+      form-below tagCode 2 tag (p .left) (p .tag-octets) tag-widths (omega arith) (octets-before (p .tag-octets) (p .length-octets) (b .1)) (p .tag-form),
+      form-below lengthCode 8 len (p .right) (p .length-octets) length-widths (omega arith) (octets-after (p .tag-octets) (p .length-octets) (b .1)) (p .length-form),
+    )
 
--- The least control part is read as the tag and the length that it was made of.
-pub control-leastControl : (tag len : ℕ) → tag < 256 ^ 2 → len < 256 ^ 8
-    → control (leastControl tag len) ≡ Whole tag len (length (leastControl tag len))
+-- The least control part is a control part of the tag and the length that it was made of.
+pub least-part : (tag len : ℕ) → tag < 256 ^ 2 → len < 256 ^ 8 → ControlPart tag len (leastControl tag len)
 unfolding leastControl
-control-leastControl tag len h k =
-    go (leastCode tagCode tag .0) (leastCode tagCode tag .1) (leastCode lengthCode len .0) (leastCode lengthCode len .1)
-    (leastCode-form tagCode tag (tag-holds tag h)) (leastCode-form lengthCode len (length-holds len k))
-  where
-    go : (t : ℕ) (a : List ℕ) (l : ℕ) (b : List ℕ) → Form tagCode tag t a → Form lengthCode len l b
-        → control ((t * 16 + l) ∷ a ++ b) ≡ Whole tag len (length ((t * 16 + l) ∷ a ++ b))
-    go t a l b f g =
-        let x = form-lead tagCode tag t a f in
-        let y : l < 16 = form-lead lengthCode len l b g in
-        let p : (t * 16 + l) / 16 ≡ t = digits-div t y in
-        let q : (t * 16 + l) % 16 ≡ l = digits-mod t y in
-        let m : length a ≡ following tagCode ((t * 16 + l) / 16) = sym (ap (following tagCode) p ∙ form-following tagCode tag t a f) in
-        let n : length b ≡ following lengthCode ((t * 16 + l) % 16) = sym (ap (following lengthCode) q ∙ form-following lengthCode len l b g) in
-        let z : 1 + length a + length b ≡ length ((t * 16 + l) ∷ a ++ b) = simp length-append (omega arith) in
-        let c = control-of-front (t * 16 + l) a b [] m n in
-        ap (λ (r : List ℕ). control ((t * 16 + l) ∷ a ++ r)) (sym (append-nil b)) ∙ c
-        ∙ rw (p, q, form-coded tagCode tag t a f, form-coded lengthCode len l b g, z)
+least-part tag len h k =
+    record {
+      left = leastCode tagCode tag .0;
+      right = leastCode lengthCode len .0;
+      tag-octets = leastCode tagCode tag .1;
+      length-octets = leastCode lengthCode len .1;
+      is = refl;
+      tag-form = leastCode-form tagCode tag (tag-holds tag h);
+      length-form = leastCode-form lengthCode len (length-holds len k);
+    }
 
 pub octets-leastControl : (tag len : ℕ) → tag < 256 ^ 2 → len < 256 ^ 8 → Octets (leastControl tag len)
 unfolding leastControl Octets
@@ -231,34 +223,30 @@ octets-leastControl tag len h k =
     )
 
 -- A control part of the same tag and as large a length is no shorter than the least one, and is the least one where it is as long and has the same length.
-pub leastControl-least : (c : List ℕ) (tag len k : ℕ) → Octets c → control c ≡ Whole tag len (length c) → k ≤ len
+pub leastControl-least : (c : List ℕ) (tag len k : ℕ) → Octets c → ControlPart tag len c → k ≤ len
     → (length (leastControl tag k) ≤ length c) × (length (leastControl tag k) ≡ length c → k ≡ len → leastControl tag k ≡ c)
 unfolding leastControl Octets
-leastControl-least c tag len k o e h = go (alone c tag len o e)
-  where
-    go : Alone c tag len → (length (leastControl tag k) ≤ length c) × (length (leastControl tag k) ≡ length c → k ≡ len → leastControl tag k ≡ c)
-    go a =
-        let b : Octets (a .octet ∷ a .tagged ++ a .sized) = subst Octets (a .is) o in
-        let p = leastCode-least tagCode tag tag (a .octet / 16) (a .tagged) tag-rising (omega arith) (octets-before (a .tagged) (a .sized) (b .1)) (a .tag-form) in
-        let q = leastCode-least lengthCode k len (a .octet % 16) (a .sized) length-rising h (octets-after (a .tagged) (a .sized) (b .1)) (a .length-form) in
-        let pl = p .long in
-        let ql = q .long in
-        let m : length c ≡ 1 + length (a .tagged) + length (a .sized) = ap length (a .is) ∙ simp length-append (omega arith) in
-        let n : length (leastControl tag k) ≡ 1 + length (leastCode tagCode tag .1) + length (leastCode lengthCode k .1) = simp length-append (omega arith) in (
-          omega arith,
-          λ f g.
-              let u = p .same (omega arith) refl in
-              let v = q .same (omega arith) g in
-              let x : leastCode tagCode tag .0 * 16 + leastCode lengthCode k .0 ≡ a .octet = rw (u .0, v .0) (omega arith) in
-              rw (x, u .1, v .1) (sym (a .is)),
-        )
+leastControl-least c tag len k o a h =
+    let b : Octets ((a .left * 16 + a .right) ∷ a .tag-octets ++ a .length-octets) = subst Octets (a .is) o in
+    let p = leastCode-least tagCode tag tag (a .left) (a .tag-octets) tag-rising (omega arith) (octets-before (a .tag-octets) (a .length-octets) (b .1)) (a .tag-form) in
+    let q = leastCode-least lengthCode k len (a .right) (a .length-octets) length-rising h (octets-after (a .tag-octets) (a .length-octets) (b .1)) (a .length-form) in
+    let pl = p .long in
+    let ql = q .long in
+    let m = length-part tag len c a in
+    let n : length (leastControl tag k) ≡ 1 + length (leastCode tagCode tag .1) + length (leastCode lengthCode k .1) = simp length-append (omega arith) in (
+      omega arith,
+      λ f g.
+          let u = p .same (omega arith) refl in
+          let v = q .same (omega arith) g in
+          rw (u .0, v .0, u .1, v .1) (sym (a .is)),
+    )
 
 -- No control part at all is the end of the octets.
 pub control-absent : (s : List ℕ) → control s ≡ Absent → s ≡ []
 unfolding control controlOf
 control-absent [] e = refl
 control-absent (x ∷ s) e =
-    go (ltb (length s) (n + m)) (coded tagCode (x / 16) (take n s)) (coded lengthCode (x % 16) (take m (drop n s))) (1 + n + m) e
+    go (ltb x 256) (ltb (length s) (n + m)) (coded tagCode (x / 16) (take n s)) (coded lengthCode (x % 16) (take m (drop n s))) (1 + n + m) e
   where
     n : ℕ
     n = following tagCode (x / 16)
@@ -266,9 +254,10 @@ control-absent (x ∷ s) e =
     m : ℕ
     m = following lengthCode (x % 16)
 
-    go : (t : Bool) (tag len size : ℕ) → cond t Partial (Whole tag len size) ≡ Absent → x ∷ s ≡ []
-    go true tag len size e = let z : _≡_ {A = ℕ} 0 1 = cc in absurd (omega arith)
-    go false tag len size e = let z : _≡_ {A = ℕ} 0 1 = cc in absurd (omega arith)
+    go : (b t : Bool) (tag len size : ℕ) → cond b (cond t Partial (Whole tag len size)) Partial ≡ Absent → x ∷ s ≡ []
+    go true true tag len size e = let z : _≡_ {A = ℕ} 0 1 = cc in absurd (omega arith)
+    go true false tag len size e = let z : _≡_ {A = ℕ} 0 1 = cc in absurd (omega arith)
+    go false t tag len size e = let z : _≡_ {A = ℕ} 0 1 = cc in absurd (omega arith)
 
 pub control-nil : control [] ≡ Absent
 unfolding control

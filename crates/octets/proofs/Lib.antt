@@ -3,3 +3,4 @@ pub mod Shorter
 pub mod Integer
 pub mod Codes
 pub mod ControlPart
+pub mod Text

@@ -1,25 +1,15 @@
--- Numbers of a chosen width, and the control part made of two of them.
+-- Reading a control part from the front of octets, and its least form. proofs/ControlPart.antt shows that just the control parts of
+-- ControlPart.antt are read.
 use Prim.Native.Nat.{ℕ, suc, _+_, _*_, _-_, _/_, _%_, _^_}
 use mathlib.Core.Bool.{cond}
 use mathlib.Core.List.{List, [], _∷_, _++_}
 use lib.ListN.{length, getD, take, drop}
 use lib.Dec.{ltb}
 use Rattle.octets.specs.Number.{number, octetsOf}
+use Rattle.octets.specs.ControlPart.{Code, tagCode, lengthCode}
 use Rattle.octets.specs.declared.LeastControl.{LeastControl}
 use Rattle.octets.specs.declared.Control.{Control}
 use Rattle.octets.specs.declared.Control.the-variants.{Absent, Partial, Whole}
-
--- A lead below `direct` is the number itself. The lead `direct + i` says that the number follows in as many octets as widths has at i.
-pub record Code : Type 0 where
-  pub direct : ℕ
-  pub widths : List ℕ
-
--- The left nybble of a control octet is a tag's lead, the right nybble a length's.
-abbrev pub tagCode : Code
-tagCode = record { direct = 14; widths = 1 ∷ 2 ∷ [] }
-
-abbrev pub lengthCode : Code
-lengthCode = record { direct = 12; widths = 1 ∷ 2 ∷ 4 ∷ 8 ∷ [] }
 
 -- How many octets follow a lead.
 unfoldable pub following : Code → ℕ → ℕ
@@ -36,10 +26,10 @@ controlOf t l s =
     let m = following lengthCode l in
     cond (ltb (length s) (n + m)) Partial (Whole (coded tagCode t (take n s)) (coded lengthCode l (take m (drop n s))) (1 + n + m))
 
--- The control part at the front of octets.
+-- The control part at the front of octets. No octet is 256 or more: nothing whole begins with such a number.
 unfoldable pub control : List ℕ → Control
 control [] = Absent
-control (c ∷ s) = controlOf (c / 16) (c % 16) s
+control (c ∷ s) = cond (ltb c 256) (controlOf (c / 16) (c % 16) s) Partial
 
 -- The lead and the octets that follow it, for the first width that holds v, where the first width has the lead d. Where none does, a
 -- lead with no octets.

@@ -1,4 +1,6 @@
 pub mod Number
 pub mod Signed
+pub mod ControlPart
+pub mod Groups
 pub mod Text
 pub mod Control

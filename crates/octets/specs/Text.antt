@@ -1,4 +1,4 @@
--- Text: groups one after the other, each a lead octet and as many more as the lead says.
+-- Testing octets for text, from the left. proofs/Text.antt shows that just the text of Groups.antt passes.
 use Prim.Native.Nat.{ℕ, zero, suc}
 use mathlib.Core.Bool.{Bool, true, false, cond, _&&_}
 use mathlib.Core.List.{List, [], _∷_}

@@ -5,7 +5,8 @@ use native.Mathlib.Omega.{arith}
 use mathlib.Core.Path.{_≡_}
 use borrow.Author.Tests.{lt-ltb, le-ltb}
 use Rattle.octets.specs.Number.{octetsOf}
-use Rattle.octets.specs.Control.{Code, tagCode, lengthCode, firstFit, leastCode, controlWidths}
+use Rattle.octets.specs.ControlPart.{Code, tagCode, lengthCode}
+use Rattle.octets.specs.Control.{firstFit, leastCode, controlWidths}
 use Rattle.octets.specs.declared.LeastControl.{LeastControl}
 use Rattle.octets.proofs.Number.{length-octetsOf}
 use Rattle.octets_least.specs.Lead.{LeastLead}

@@ -2,7 +2,8 @@
 use Prim.Native.Nat.{ℕ, _<_}
 use mathlib.Core.Path.{_≡_}
 use lib.ListN.{length}
-use Rattle.octets.specs.Control.{Code, leastCode}
+use Rattle.octets.specs.ControlPart.{Code}
+use Rattle.octets.specs.Control.{leastCode}
 
 -- The least form of a number in a code: its lead, and how many octets follow.
 pub record LeastLead (code : Code) (v lead width : ℕ) : Type 0 where

@@ -6,7 +6,8 @@ ghost use Prim.Native.Nat.{_<_, _≤_, _^_};
 ghost use lib.IntN.{negsuc};
 ghost use Rattle.octets.specs.Number.{uintWidthBits, width as width-of};
 ghost use Rattle.octets.specs.Signed.{intWidthBits, lowest};
-ghost use Rattle.octets.specs.Control.{controlWidths, tagCode, lengthCode};
+ghost use Rattle.octets.specs.ControlPart.{tagCode, lengthCode};
+ghost use Rattle.octets.specs.Control.{controlWidths};
 ghost use Rattle.octets_least.specs.Lead.{LeastLead};
 
 // How many octets a number needs.

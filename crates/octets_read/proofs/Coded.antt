@@ -6,7 +6,8 @@ use mathlib.Core.List.{List}
 use lib.ListN.{length, take}
 use borrow.Author.Tests.{lt-ltb, le-ltb}
 use Rattle.octets.specs.Number.{number}
-use Rattle.octets.specs.Control.{Code, tagCode, lengthCode, following, coded}
+use Rattle.octets.specs.ControlPart.{Code, tagCode, lengthCode}
+use Rattle.octets.specs.Control.{following, coded}
 use Rattle.octets_read.proofs.Numbers.{all-held}
 
 -- What holds at each lead that octets follow.

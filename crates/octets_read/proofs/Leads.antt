@@ -8,7 +8,8 @@ use lib.Bits.{bitAnd, and-mask, mask-lt}
 use lib.ListN.{length, getD, take, drop, length-drop}
 use lib.Seq.{take-all}
 use borrow.Author.Tests.{lt-ltb, le-ltb}
-use Rattle.octets.specs.Control.{Code, tagCode, lengthCode, following, coded, controlOf, control}
+use Rattle.octets.specs.ControlPart.{Code, tagCode, lengthCode}
+use Rattle.octets.specs.Control.{following, coded, controlOf, control}
 use Rattle.octets.specs.declared.Control.the-variants.{Absent, Partial, Whole}
 
 -- No octets follow a lead that is the number itself.

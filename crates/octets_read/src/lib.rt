@@ -7,7 +7,8 @@ ghost use lib.ListN.{length, take};
 ghost use lib.IntN.{pos, negℤ};
 ghost use Rattle.octets.specs.Number.{number, unsigned};
 ghost use Rattle.octets.specs.Signed.{signed, lowest};
-ghost use Rattle.octets.specs.Control.{control as control-of, controlOf, following, coded, tagCode, lengthCode};
+ghost use Rattle.octets.specs.ControlPart.{tagCode, lengthCode};
+ghost use Rattle.octets.specs.Control.{control as control-of, controlOf, following, coded};
 
 // The number that the octet at i and those before it hold, where v is what those before it hold. More than eight octets could hold one
 // too large for the result.

@@ -2,9 +2,12 @@
 use Prim.Native.Nat.{ℕ}
 use mathlib.Core.Path.{_≡_}
 
--- The limit of a message, in octets (document 01, Limits).
+-- The limits of a message (document 01, Limits): its octets, and its depth, the outermost message being at depth 1.
 abbrev pub messageLimit : ℕ
 messageLimit = 65536
+
+abbrev pub depthLimit : ℕ
+depthLimit = 8
 
 -- A message that is accepted is divided into its fields; A is what the format's divisions are. Any other has a refusal's number and place.
 pub data Reading (A : Type 0) : Type 0 where

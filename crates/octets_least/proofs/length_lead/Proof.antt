@@ -1,6 +1,6 @@
 -- `octets_least::length_lead` meets its contract.
 use native.Mathlib.Omega.{arith}
-use Rattle.octets.specs.Control.{lengthCode}
+use Rattle.octets.specs.ControlPart.{lengthCode}
 use Rattle.octets_least.proofs.Forms.{direct, length-one, length-two, length-four, length-eight}
 use borrow.Author.Needs.{needs}
 use Rattle.octets_least.proofs.length_lead.Statement.{statement}

@@ -1,6 +1,6 @@
 -- `octets_least::tag_lead` meets its contract.
 use native.Mathlib.Omega.{arith}
-use Rattle.octets.specs.Control.{tagCode}
+use Rattle.octets.specs.ControlPart.{tagCode}
 use Rattle.octets_least.proofs.Forms.{direct, tag-one, tag-two}
 use borrow.Author.Needs.{needs}
 use Rattle.octets_least.proofs.tag_lead.Statement.{statement}

@@ -2,7 +2,7 @@
 use Prim.Native.Nat.{_≤_, _<_}
 use native.Mathlib.Omega.{arith}
 use lib.ListN.{length}
-use Rattle.octets.specs.Control.{lengthCode}
+use Rattle.octets.specs.ControlPart.{lengthCode}
 use Rattle.octets_read.proofs.Numbers.{none-held}
 use Rattle.octets_read.proofs.Coded.{coded-direct, coded-after, length-one, length-two, length-four, length-eight, length-of-one, length-of-two, length-of-four}
 use Rattle.octets_read.proofs.length_value.Statement.{statement}

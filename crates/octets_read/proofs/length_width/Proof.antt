@@ -1,7 +1,7 @@
 -- `octets_read::length_width` meets its contract.
 use native.Mathlib.Omega.{arith}
 use borrow.Author.Needs.{needs}
-use Rattle.octets.specs.Control.{lengthCode}
+use Rattle.octets.specs.ControlPart.{lengthCode}
 use Rattle.octets_read.proofs.Leads.{direct}
 use Rattle.octets_read.proofs.Coded.{length-follow, length-most}
 use Rattle.octets_read.proofs.length_width.Statement.{statement}

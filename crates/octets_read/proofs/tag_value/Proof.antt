@@ -1,5 +1,5 @@
 -- `octets_read::tag_value` meets its contract.
-use Rattle.octets.specs.Control.{tagCode}
+use Rattle.octets.specs.ControlPart.{tagCode}
 use Rattle.octets_read.proofs.Numbers.{none-held}
 use Rattle.octets_read.proofs.Coded.{coded-direct, tag-one, tag-two, tag-of-one, tag-of-two}
 use Rattle.octets_read.proofs.tag_value.Statement.{statement}

@@ -1,7 +1,7 @@
 -- `octets_read::tag_width` meets its contract.
 use native.Mathlib.Omega.{arith}
 use borrow.Author.Needs.{needs}
-use Rattle.octets.specs.Control.{tagCode}
+use Rattle.octets.specs.ControlPart.{tagCode}
 use Rattle.octets_read.proofs.Leads.{direct}
 use Rattle.octets_read.proofs.Coded.{tag-follow}
 use Rattle.octets_read.proofs.tag_width.Statement.{statement}
