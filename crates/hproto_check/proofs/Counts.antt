@@ -5,14 +5,13 @@ use mathlib.Core.Bool.{true, false}
 use mathlib.Core.List.{List}
 use lib.ListN.{length}
 use borrow.Author.Tests.{le-ltb, lt-ltb}
-use Rattle.octets.specs.Control.{control}
 use Rattle.hproto_table.specs.Entry.{innerOf}
 use Rattle.hproto_table.specs.Schema.{Schema, schema}
 use Rattle.hproto_table.specs.Valid.{valid}
 use Rattle.hproto_table.specs.declared.Table.{Table}
 use Rattle.hproto_message.specs.Cut.{Cut}
 use Rattle.hproto_message.specs.Tree as trees
-use Rattle.hproto_message.specs.Tree.{tree, tagOf}
+use Rattle.hproto_message.specs.Tree.{tree}
 use Rattle.reading.specs.Reading.{Reading, accepted, refused, messageLimit}
 use Rattle.reading.specs.Checks.{refusal, counts, walkOf, answerBy}
 use Rattle.reading.specs.declared.Walk.{Walk}
@@ -24,8 +23,8 @@ use Rattle.hproto_check.specs.Check.{treeCounts, check, checkUnder}
 tree-fields : (sc : Schema) (cut : Cut) (n : ℕ) → trees.fields (tree sc n cut) ≡ fields cut
 unfolding tree trees.fields fields
 tree-fields sc Cut.end n = refl
-tree-fields sc (Cut.leaf c b rest) n = rw (tree-fields sc rest n)
-tree-fields sc (Cut.nested c inside rest) n = rw (tree-fields sc inside (innerOf (sc .means n (tagOf (control c)))), tree-fields sc rest n)
+tree-fields sc (Cut.leaf tag c b rest) n = rw (tree-fields sc rest n)
+tree-fields sc (Cut.nested tag c inside rest) n = rw (tree-fields sc inside (innerOf (sc .means n tag)), tree-fields sc rest n)
 
 -- The answer by the walk through a message is that by its tree.
 walked : (sc : Schema) (n : ℕ) (r : Reading Cut) → answerBy (walk r) ≡ treeCounts sc n r

@@ -11,9 +11,10 @@ use Rattle.hproto_message.specs.Cut.{Cut, end, leaf, nested, depth, joined, All
 use Rattle.hproto_message.specs.declared.Step.{Step}
 use Rattle.hproto_message.specs.declared.Step.the-variants.{Done, Fault, Over, Into}
 use Rattle.reading.specs.Reading.{Reading, accepted, refused}
-use Rattle.hproto_message.specs.Reading.{Inner, step, afterStep, fieldsFrom, messageFrom}
+use Rattle.hproto_message.specs.Reading.{Inner, step, tagAt, afterStep, fieldsFrom, messageFrom}
 use Rattle.hproto_message.proofs.Steps.{StepMeans, step-means}
-use Rattle.hproto_message.proofs.Accepted.{accepted-good, depth-positive, field-size}
+use Rattle.octets.proofs.ControlPart.{part-size}
+use Rattle.hproto_message.proofs.Accepted.{accepted-good, depth-positive}
 use Rattle.hproto_check.specs.Walks.{fields, walk}
 use Rattle.reading.specs.declared.Walk.{Walk}
 use Rattle.reading.specs.declared.Walk.the-variants.{Accepted, Refused}
@@ -112,7 +113,7 @@ module _ (sc : Schema) (inner : Inner) (n at : ℕ) (s : List ℕ) where
         let b = take l (drop k (drop i s)) in
         let r = fieldsFrom sc inner n (now .left - 1) (at + i + k + l) (drop (k + l) (drop i s)) in
         subst (State (i + k + l) (f + 1)) m
-        (stepped k l 1 0 p (h .1) (omega arith) (looks ∙ rw (e, walk-leaf c b r)))
+        (stepped k l 1 0 p (h .1) (omega arith) (looks ∙ rw (e, walk-leaf (tagAt (drop i s)) c b r)))
 
     over-nested : (m k l g e : ℕ) → step sc n (drop i s) ≡ Into m k l
         → walk (inner m (at + i) (at + i + k) (take l (drop k (drop i s)))) ≡ Accepted g e → g ≤ l
@@ -124,7 +125,7 @@ module _ (sc : Schema) (inner : Inner) (n at : ℕ) (s : List ℕ) where
         let c = take k (drop i s) in
         let q = inner m (at + i) (at + i + k) (take l (drop k (drop i s))) in
         let r = fieldsFrom sc inner n (now .left - 1) (at + i + k + l) (drop (k + l) (drop i s)) in
-        stepped k l (1 + g) (suc e) p (j .1) (omega arith) (looks ∙ rw (h, walk-nested c q g e r w))
+        stepped k l (1 + g) (suc e) p (j .1) (omega arith) (looks ∙ rw (h, walk-nested (tagAt (drop i s)) c q g e r w))
 
     refused-nested : (m k l number place : ℕ) → step sc n (drop i s) ≡ Into m k l
         → walk (inner m (at + i) (at + i + k) (take l (drop k (drop i s)))) ≡ Refused number place → whole ≡ Refused number place
@@ -133,7 +134,7 @@ module _ (sc : Schema) (inner : Inner) (n at : ℕ) (s : List ℕ) where
         let c = take k (drop i s) in
         let q = inner m (at + i) (at + i + k) (take l (drop k (drop i s))) in
         let r = fieldsFrom sc inner n (now .left - 1) (at + i + k + l) (drop (k + l) (drop i s)) in
-        looks ∙ rw (h, walk-refused c q number place r w)
+        looks ∙ rw (h, walk-refused (tagAt (drop i s)) c q number place r w)
 
     -- The end of the field that a step finds lies within the octets, and beyond its start.
     pub leaf-ends : (k l : ℕ) → step sc n (drop i s) ≡ Over k l → (i < i + k + l) × (i + k + l ≤ length s)
@@ -180,12 +181,12 @@ module _ (sc : Schema) (inner : Inner) (n at : ℕ) (s : List ℕ) where
 fields-few : (sc : Schema) (cut : Cut) (n : ℕ) → Allowed sc n cut → fields cut ≤ length (joined cut)
 unfolding fields joined Allowed
 fields-few sc end n a = omega arith
-fields-few sc (leaf c b rest) n a =
-    let k = field-size (a .0 .tag) c b (a .0 .whole) in
+fields-few sc (leaf tag c b rest) n a =
+    let k = part-size tag (length b) c (a .0 .whole) in
     let h = fields-few sc rest n (a .1) in
     simp length-append (omega arith)
-fields-few sc (nested c inside rest) n a =
-    let k = field-size (a .0 .1 .tag) c (joined inside) (a .0 .1 .whole) in
+fields-few sc (nested tag c inside rest) n a =
+    let k = part-size tag (length (joined inside)) c (a .0 .1 .whole) in
     let p = fields-few sc inside (a .0 .0) (a .0 .2) in
     let q = fields-few sc rest n (a .1) in
     simp length-append (omega arith)

@@ -8,8 +8,8 @@ use Rattle.hproto_message.specs.Cut.{Cut, end, leaf, nested, depth}
 -- The count of fields of a cut, at all depths.
 unfoldable pub fields : Cut → ℕ
 fields end = 0
-fields (leaf control contents rest) = 1 + fields rest
-fields (nested control inside rest) = 1 + fields inside + fields rest
+fields (leaf tag part contents rest) = 1 + fields rest
+fields (nested tag part inside rest) = 1 + fields inside + fields rest
 
 abbrev pub walk : Reading Cut → Walk
 walk r = walkOf fields depth r

@@ -8,7 +8,8 @@ use borrow.Author.Tests.{lt-ltb, le-ltb}
 use Rattle.octets.specs.Number.{octetsOf}
 use Rattle.octets.specs.Control.{firstFit, leastCode}
 use Rattle.octets.proofs.Number.{length-octetsOf}
-use Rattle.octets.proofs.Codes.{Rising, Form, leastCode-form}
+use Rattle.octets.specs.ControlPart.{Form}
+use Rattle.octets.proofs.Codes.{Rising, leastCode-form}
 use Rattle.hproto_put.proofs.Least.{leastCode-octetsOf}
 use Rattle.hproto_frame.specs.Frame.{frameCode, shortestPrefix, framed}
 use Rattle.hproto_frame.specs.Lead.{LeastPrefix}

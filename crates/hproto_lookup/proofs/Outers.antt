@@ -4,23 +4,21 @@ use Prim.Native.Nat.{ℕ, zero, suc, _+_, _-_, _^_, _≤_, _<_}
 use native.Mathlib.Omega.{arith}
 use mathlib.Core.Path.{_≡_, refl, sym, ap, _∙_, subst}
 use mathlib.Core.Bool.{cond}
-use mathlib.Core.List.{List, _∷_, _++_, map, append-assoc}
+use mathlib.Core.List.{List, _∷_, _++_, map}
 use lib.ListN.{length, take, drop, length-append, length-drop}
 use lib.Seq.{drop-drop}
 use lib.Dec.{eqb}
 use borrow.Author.Tests.{le-leb}
-use Rattle.octets.specs.Control.{control}
-use Rattle.octets.specs.declared.Control.the-variants.{Whole}
 use Rattle.octets.specs.Number.{Octets}
 use Rattle.octets.proofs.Number.{octets-before, octets-after}
-use Rattle.octets.proofs.ControlPart.{control-append, control-nil, control-size, control-bounds}
+use Rattle.octets.proofs.ControlPart.{control-nil, part-size, part-bounds}
 use Rattle.hproto_table.specs.Entry.{innerOf}
 use Rattle.hproto_table.specs.Schema.{Schema}
 use Rattle.hproto_table.specs.declared.Meaning.the-variants.{Message}
 use Rattle.hproto_message.specs.Cut as cuts
 use Rattle.hproto_message.specs.Cut.{Cut, joined, WholeField, Contents, Allowed, Good}
-use Rattle.hproto_message.specs.Tree.{tagOf, value, tree}
-use Rattle.hproto_message.proofs.Steps.{in-three}
+use Rattle.hproto_message.specs.Tree.{value, tree}
+use Rattle.hproto_message.proofs.Steps.{field-control, in-three}
 use Rattle.hproto_lookup.specs.Lookup.{Item, items, Outer, outermost, itemTag, withTag}
 use Rattle.hproto_lookup.specs.Spots.{Span, afterPart, placesFrom, places}
 use Rattle.hproto_field.specs.Fronts.{partFrom, part}
@@ -35,11 +33,11 @@ itemOf o = o .item
 pub items-are : (sc : Schema) (n at : ℕ) (cut : Cut) → map itemOf (outermost sc n at cut) ≡ items (tree sc n cut)
 unfolding outermost tree items
 items-are sc n at Cut.end = refl
-items-are sc n at (Cut.leaf c s rest) =
-    ap (λ (l : List Item). Item.leaf (tagOf (control c)) (value (sc .means n (tagOf (control c))) s) ∷ l)
+items-are sc n at (Cut.leaf tag c s rest) =
+    ap (λ (l : List Item). Item.leaf tag (value (sc .means n tag) s) ∷ l)
     (items-are sc n (at + length c + length s) rest)
-items-are sc n at (Cut.nested c inside rest) =
-    ap (λ (l : List Item). Item.nested (tagOf (control c)) (tree sc (innerOf (sc .means n (tagOf (control c)))) inside) ∷ l)
+items-are sc n at (Cut.nested tag c inside rest) =
+    ap (λ (l : List Item). Item.nested tag (tree sc (innerOf (sc .means n tag)) inside) ∷ l)
     (items-are sc n (at + length c + length (joined inside)) rest)
 
 -- What octets say of a field of the tree whose contents they are. A field that is no message has the value that they have by the kind of
@@ -56,11 +54,7 @@ pub record Held (sc : Schema) (levels n : ℕ) (s : List ℕ) (o : Outer) : Type
 
 module _ (c b r : List ℕ) (t : ℕ) (w : WholeField t c b) where
   positive : 1 ≤ length c
-  positive = control-size c t (length b) (length c) (w .control-part) .0
-
-  tag-is : tagOf (control c) ≡ t
-  unfolding tagOf
-  tag-is = rw (w .control-part)
+  positive = part-size t (length b) c w
 
   -- The contents of a field at a place, and the octets that follow it.
   record Parts (s : List ℕ) (at : ℕ) : Type 0 where
@@ -85,8 +79,7 @@ module _ (c b r : List ℕ) (t : ℕ) (w : WholeField t c b) where
   part-is : part (c ++ b ++ r) ≡ Found t (length c) (length b)
   unfolding part partFrom
   part-is =
-      let e : control (c ++ b ++ r) ≡ Whole t (length b) (length c) =
-      rw (append-assoc c b r) (control-append c (b ++ r) t (length b) (length c) (w .control-part)) in
+      let e = field-control t c b r w in
       let l : length (c ++ b ++ r) ≡ length c + length b + length r = simp length-append (omega arith) in
       let h : length b ≤ length (c ++ b ++ r) - length c = omega arith in
       rw (e, le-leb (length b) (length (c ++ b ++ r) - length c) h)
@@ -104,18 +97,18 @@ module _ (sc : Schema) (levels n : ℕ) (s : List ℕ) where
       → Each (Held sc levels n s) (outermost sc n at cut)
   unfolding Each outermost joined Allowed cuts.depth Shows innerOf
   each-held Cut.end at e a d = tt
-  each-held (Cut.leaf c b rest) at e a d =
+  each-held (Cut.leaf tag c b rest) at e a d =
       let f = a .0 in
-      let p = parts c b (joined rest) (f .tag) (f .whole) s at e in (
-        record { inside = p .inside; shows = rw (p .contents, tag-is c b (joined rest) (f .tag) (f .whole)) (refl, f .allowed) },
+      let p = parts c b (joined rest) tag (f .whole) s at e in (
+        record { inside = p .inside; shows = rw (p .contents) (refl, f .allowed) },
         each-held rest (at + length c + length b) (p .rest) (a .1) d,
       )
-  each-held (Cut.nested c inner rest) at e a d =
+  each-held (Cut.nested tag c inner rest) at e a d =
       let f = a .0 .1 in
       let m = a .0 .0 in
-      let p = parts c (joined inner) (joined rest) (f .tag) (f .whole) s at e in
+      let p = parts c (joined inner) (joined rest) tag (f .whole) s at e in
       let g : Good sc levels m (joined inner) inner = record { divides = refl; allowed = a .0 .2; shallow = omega arith } in (
-        record { inside = p .inside; shows = rw (p .contents, tag-is c (joined inner) (joined rest) (f .tag) (f .whole), f .allowed) (m, inner, refl, g, refl) },
+        record { inside = p .inside; shows = rw (p .contents, f .allowed) (m, inner, refl, g, refl) },
         each-held rest (at + length c + length (joined inner)) (p .rest) (a .1) (omega arith),
       )
 
@@ -130,25 +123,25 @@ module _ (sc : Schema) (n t : ℕ) where
   unfolding placesFrom afterPart part partFrom outermost withTag joined Allowed itemTag
   found-at Cut.end zero at a h = absurd (omega arith)
   found-at Cut.end (suc fuel) at a h = rw control-nil
-  found-at (Cut.leaf c b rest) zero at a h = absurd (omega arith)
-  found-at (Cut.leaf c b rest) (suc fuel) at a h =
+  found-at (Cut.leaf tag c b rest) zero at a h = absurd (omega arith)
+  found-at (Cut.leaf tag c b rest) (suc fuel) at a h =
       let f = a .0 in
-      let k = positive c b (joined rest) (f .tag) (f .whole) in
+      let k = positive c b (joined rest) tag (f .whole) in
       let l : length (c ++ b ++ joined rest) ≡ length c + length b + length (joined rest) = simp length-append (omega arith) in
       let i = found-at rest fuel (at + length c + length b) (a .1) (omega arith) in
-      walked c b (joined rest) (f .tag) (f .whole) t fuel at ∙ rw (i, ← tag-is c b (joined rest) (f .tag) (f .whole))
-      (sym (map-withTag placeOf itemOf t (record { item = Item.leaf (tagOf (control c)) (value (sc .means n (tagOf (control c))) b); start = at + length c; length = length b })
+      walked c b (joined rest) tag (f .whole) t fuel at ∙ rw i
+      (sym (map-withTag placeOf itemOf t (record { item = Item.leaf tag (value (sc .means n tag) b); start = at + length c; length = length b })
       (outermost sc n (at + length c + length b) rest)))
-  found-at (Cut.nested c inner rest) zero at a h = absurd (omega arith)
-  found-at (Cut.nested c inner rest) (suc fuel) at a h =
+  found-at (Cut.nested tag c inner rest) zero at a h = absurd (omega arith)
+  found-at (Cut.nested tag c inner rest) (suc fuel) at a h =
       let f = a .0 .1 in
       let b = joined inner in
-      let k = positive c b (joined rest) (f .tag) (f .whole) in
+      let k = positive c b (joined rest) tag (f .whole) in
       let l : length (c ++ b ++ joined rest) ≡ length c + length b + length (joined rest) = simp length-append (omega arith) in
       let i = found-at rest fuel (at + length c + length b) (a .1) (omega arith) in
-      walked c b (joined rest) (f .tag) (f .whole) t fuel at ∙ rw (i, ← tag-is c b (joined rest) (f .tag) (f .whole))
+      walked c b (joined rest) tag (f .whole) t fuel at ∙ rw i
       (sym (map-withTag placeOf itemOf t
-      (record { item = Item.nested (tagOf (control c)) (tree sc (innerOf (sc .means n (tagOf (control c)))) inner); start = at + length c; length = length b })
+      (record { item = Item.nested tag (tree sc (innerOf (sc .means n tag)) inner); start = at + length c; length = length b })
       (outermost sc n (at + length c + length b) rest)))
 
   pub places-are : (levels : ℕ) (s : List ℕ) (cut : Cut) → Good sc levels n s cut → places t s ≡ map placeOf (withTag itemOf t (outermost sc n 0 cut))
@@ -162,18 +155,18 @@ pub small-tags : (sc : Schema) (n : ℕ) (cut : Cut) (at : ℕ) → Allowed sc n
     → Each (λ (o : Outer). itemTag (o .item) < 256 ^ 2) (outermost sc n at cut)
 unfolding Each outermost joined Allowed itemTag
 small-tags sc n Cut.end at a o = tt
-small-tags sc n (Cut.leaf c b rest) at a o =
+small-tags sc n (Cut.leaf tag c b rest) at a o =
     let f = a .0 in
     let q : Octets (c ++ b) = octets-before (c ++ b) (joined rest) o in
-    let k = control-bounds c (f .tag) (length b) (octets-before c b q) (f .whole .control-part) .0 in (
-      rw (tag-is c b (joined rest) (f .tag) (f .whole)) k,
+    let k = part-bounds c tag (length b) (octets-before c b q) (f .whole) .0 in (
+      k,
       small-tags sc n rest (at + length c + length b) (a .1) (octets-after (c ++ b) (joined rest) o),
     )
-small-tags sc n (Cut.nested c inner rest) at a o =
+small-tags sc n (Cut.nested tag c inner rest) at a o =
     let f = a .0 .1 in
     let b = joined inner in
     let q : Octets (c ++ b) = octets-before (c ++ b) (joined rest) o in
-    let k = control-bounds c (f .tag) (length b) (octets-before c b q) (f .whole .control-part) .0 in (
-      rw (tag-is c b (joined rest) (f .tag) (f .whole)) k,
+    let k = part-bounds c tag (length b) (octets-before c b q) (f .whole) .0 in (
+      k,
       small-tags sc n rest (at + length c + length b) (a .1) (octets-after (c ++ b) (joined rest) o),
     )

@@ -6,12 +6,11 @@ use mathlib.Core.Option.{Option, none, some}
 use lib.ListN as lists
 use lib.IntN.{ℤ, pos}
 use lib.Dec.{eqb}
-use Rattle.octets.specs.Control.{control}
 use Rattle.hproto_table.specs.Entry.{innerOf}
 use Rattle.hproto_table.specs.Schema.{Schema, schema}
 use Rattle.hproto_table.specs.declared.Table.{Table}
 use Rattle.hproto_message.specs.Cut.{Cut, joined}
-use Rattle.hproto_message.specs.Tree.{Value, raw, uint, int, string, text, Tree, tagOf, value, tree}
+use Rattle.hproto_message.specs.Tree.{Value, raw, uint, int, string, text, Tree, value, tree}
 use Rattle.reading.specs.Reading.{Reading, accepted, refused}
 use Rattle.hproto_message.specs.Reading.{reading}
 use Rattle.hproto_check.specs.Check.{check}
@@ -41,14 +40,12 @@ pub record Outer : Type 0 where
 -- a nested message is the octets at its place.
 unfoldable pub outermost : Schema → ℕ → ℕ → Cut → List Outer
 outermost sc n at Cut.end = []
-outermost sc n at (Cut.leaf c s rest) =
-    let tag = tagOf (control c) in
-    let k = lists.length c in
+outermost sc n at (Cut.leaf tag part s rest) =
+    let k = lists.length part in
     let l = lists.length s in
     record { item = leaf tag (value (sc .means n tag) s); start = at + k; length = l } ∷ outermost sc n (at + k + l) rest
-outermost sc n at (Cut.nested c inside rest) =
-    let tag = tagOf (control c) in
-    let k = lists.length c in
+outermost sc n at (Cut.nested tag part inside rest) =
+    let k = lists.length part in
     let l = lists.length (joined inside) in
     record { item = nested tag (tree sc (innerOf (sc .means n tag)) inside); start = at + k; length = l } ∷ outermost sc n (at + k + l) rest
 

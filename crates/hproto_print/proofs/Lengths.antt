@@ -8,14 +8,13 @@ use Rattle.hproto_message.specs.Reading.{Accepts}
 use Rattle.hproto_message.proofs.Accepted.{accepts-good}
 use Rattle.octets.specs.Number.{number}
 use Rattle.octets.specs.Signed.{integer}
-use Rattle.octets.specs.Control.{control}
 use Rattle.hproto_table.specs.Entry.{innerOf}
 use Rattle.hproto_table.specs.Schema.{Schema}
 use Rattle.hproto_message.specs.Cut.{Cut, end, leaf, nested, joined, Allowed}
-use Rattle.hproto_message.specs.Tree.{Value, raw, uint, int, string, text, tree, value, tagOf}
+use Rattle.hproto_message.specs.Tree.{Value, raw, uint, int, string, text, tree, value}
 use Rattle.hproto_table.specs.declared.Meaning.{Meaning}
 use Rattle.hproto_table.specs.declared.Meaning.the-variants.{Raw, Uint, Int, String, Text, Message}
-use Rattle.hproto_message.proofs.Accepted.{field-size}
+use Rattle.octets.proofs.ControlPart.{part-size}
 use Rattle.hproto_print.specs.Ascii.{ascii}
 use Rattle.hproto_print.specs.Digits.{decimal, fourDigits, hex, hexOrDash}
 use Rattle.hproto_print.specs.Window.{FitsU64}
@@ -63,18 +62,18 @@ line-length depth tag kind v h = let d = decimal-length depth in simp length-app
 lines-length : (sc : Schema) (cut : Cut) (n k depth : ℕ) → Allowed sc k cut → length (lines depth (tree sc n cut)) ≤ 60 * length (joined cut)
 unfolding lines tree joined Allowed
 lines-length sc end n k depth a = omega arith
-lines-length sc (leaf c b rest) n k depth a =
-    let z = field-size (a .0 .tag) c b (a .0 .whole) in
-    let m = sc .means n (tagOf (control c)) in
+lines-length sc (leaf tag c b rest) n k depth a =
+    let z = part-size tag (length b) c (a .0 .whole) in
+    let m = sc .means n tag in
     let v = value-length m b in
-    let l = line-length depth (tagOf (control c)) (kindName (value m b)) (valueText (value m b)) (name-length (value m b)) in
+    let l = line-length depth tag (kindName (value m b)) (valueText (value m b)) (name-length (value m b)) in
     let h = lines-length sc rest n k depth (a .1) in
     simp length-append (omega arith)
-lines-length sc (nested c inside rest) n k depth a =
-    let z = field-size (a .0 .1 .tag) c (joined inside) (a .0 .1 .whole) in
-    let m = innerOf (sc .means n (tagOf (control c))) in
+lines-length sc (nested tag c inside rest) n k depth a =
+    let z = part-size tag (length (joined inside)) c (a .0 .1 .whole) in
+    let m = innerOf (sc .means n tag) in
     let v = decimal-length (direct (tree sc m inside)) in
-    let l = line-length depth (tagOf (control c)) (ascii "message") (decimal (direct (tree sc m inside))) message-length in
+    let l = line-length depth tag (ascii "message") (decimal (direct (tree sc m inside))) message-length in
     let g = lines-length sc inside m (a .0 .0) (suc depth) (a .0 .2) in
     let h = lines-length sc rest n k depth (a .1) in
     simp length-append (omega arith)

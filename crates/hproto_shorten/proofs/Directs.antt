@@ -19,5 +19,5 @@ pub direct-front : (sc : Schema) (number : ℕ) (s : List ℕ) (tag n : ℕ) (ki
     → record { tag = tag; kind = kind; control = 1; contents = n } ≡ front sc number s
 direct-front sc number s tag n kind a b t l h k =
     let e : control s ≡ Whole tag n 1 =
-    sym (whole-direct tag n (take (length s - 1) (drop 1 s)) t l ∙ control-split s tag n (omega arith) a b) in
+    sym (whole-direct tag n (take (length s - 1) (drop 1 s)) t l ∙ control-split s tag n (omega arith) (omega arith) a b) in
     rw k (sym (front-whole sc number s tag n 1 e (omega arith)))

@@ -5,10 +5,9 @@ use native.Mathlib.Omega.{arith}
 use mathlib.Core.Path.{_≡_, sym, ap, _∙_}
 use mathlib.Core.List.{List, [], _++_, append-assoc, append-nil}
 use lib.ListN.{length, take, drop, length-append}
-use lib.Seq.{length-take-le}
 use Rattle.octets.specs.Number.{Octets}
 use Rattle.octets.proofs.Number.{octets-part}
-use Rattle.octets.proofs.ControlPart.{control-size, control-take, control-bounds}
+use Rattle.octets.proofs.ControlPart.{part-of-control, part-bounds}
 use Rattle.hproto_table.specs.Schema.{Schema}
 use Rattle.hproto_table.specs.declared.Meaning.the-variants.{Message}
 use Rattle.hproto_message.specs.Cut.{Cut, Contents, Good}
@@ -59,10 +58,8 @@ module _ (sc : Schema) (levels n : ℕ) (s : List ℕ) where
     ends o =
         let e = front-is sc levels n s i (p .left) more f found .0 in
         let w = fields.ends sc levels n s i (p .left) more f found in
-        let y = control-size (drop i s) (f .tag) (f .contents) (f .control) e .1 in
-        let m = length-take-le (f .control) (drop i s) y in
-        let b = control-bounds (take (f .control) (drop i s)) (f .tag) (f .contents) (octets-part (f .control) i s o)
-        (control-take (drop i s) (f .tag) (f .contents) (f .control) e ∙ rw m) .0 in
+        let b = part-bounds (take (f .control) (drop i s)) (f .tag) (f .contents) (octets-part (f .control) i s o)
+        (part-of-control (drop i s) (f .tag) (f .contents) (f .control) e) .0 in
         record { onward = w .0; inside = w .1; tag-small = mod-eq-of-lt b }
 
     -- A field that is no message: its least form is the next part of the shortest form.

@@ -56,7 +56,7 @@ unfolding input output shows.firstText shows.tableText shows.secondText prints.m
     prints.line prints.front prints.valueText prints.kindName digits.glyph digits.decimalWithin digits.decimal digits.signedDecimal digits.fourDigits digits.hex
     digits.hexOrDash ascii frames.frameRead frames.frontRead frames.prefixed frames.announced frames.messagePart
     checks.check checks.checkUnder checks.treeCounts answers.counts answers.refusal readings.reading readings.messageFrom readings.fieldsFrom readings.afterStep onAccepted inOrder
-    readings.step readings.stepFrom readings.stepByKind trees.tree trees.tagOf entries.innerOf trees.value trees.fields trees.depth
+    readings.step readings.stepFrom readings.stepByKind trees.tree readings.tagAt readings.tagOf entries.innerOf trees.value trees.fields trees.depth
     schemas.schema schemas.schemaOf entries.find entries.meaning entries.entries entries.entry loads.load loads.loadFrom loads.accepted loads.refused loads.tableOf loads.faulty
     loads.seen loads.pair loads.wordsBefore loads.wellFormed loads.wordAt loads.recordAt loads.inRange valids.valid valids.allInRange valids.allZero
     repeats.distinct texts.text texts.textAfter texts.follower texts.followers octets.number signs.integer signs.withSign signs.lowest

@@ -4,14 +4,14 @@ use native.Mathlib.Omega.{arith}
 use mathlib.Core.Path.{_≡_, refl, sym, ap, ap₂, subst}
 use mathlib.Core.List.{List, _++_}
 use lib.ListN.{length}
-use Rattle.octets.specs.Control.{control, leastControl}
-use Rattle.octets.proofs.ControlPart.{control-leastControl}
+use Rattle.octets.specs.Control.{leastControl}
+use Rattle.octets.proofs.ControlPart.{least-part}
 use Rattle.hproto_table.specs.Entry.{innerOf}
 use Rattle.hproto_table.specs.Schema.{Schema}
 use Rattle.hproto_table.specs.declared.Meaning.the-variants.{Message}
 use Rattle.hproto_message.specs.Cut as cuts
 use Rattle.hproto_message.specs.Cut.{Cut, joined, WholeField, Contents, NestedField, Allowed, Good}
-use Rattle.hproto_message.specs.Tree.{Tree, Value, tagOf, value, tree}
+use Rattle.hproto_message.specs.Tree.{Tree, Value, value, tree}
 use Rattle.hproto_message.specs.Shortest.{leastContents, field, shortest}
 
 -- The shortest form of a tree, as a message of a number and at most so many levels deep, reads back as the tree.
@@ -26,11 +26,7 @@ reads-end sc levels n h = record { cut = Cut.end; good = record { divides = refl
 
 module _ (tag : ℕ) (r : List ℕ) (h : tag < 65536) (k : length r ≤ 65536) where
   whole : WholeField tag (leastControl tag (length r)) r
-  whole = record { control-part = control-leastControl tag (length r) (omega arith) (omega arith) }
-
-  tag-is : tagOf (control (leastControl tag (length r))) ≡ tag
-  unfolding tagOf
-  tag-is = ap tagOf (whole .control-part)
+  whole = least-part tag (length r) (omega arith) (omega arith)
 
 module _ (sc : Schema) (n tag : ℕ) (h : tag < 65536) (w : Tree) where
   pub reads-leaf : (levels : ℕ) (v : Value) → length (leastContents v) ≤ 65536 → Contents (sc .means n tag) (leastContents v)
@@ -40,14 +36,14 @@ module _ (sc : Schema) (n tag : ℕ) (h : tag < 65536) (w : Tree) where
       let r = leastContents v in
       let c = leastControl tag (length r) in
       record {
-        cut = Cut.leaf c r (later .cut);
+        cut = Cut.leaf tag c r (later .cut);
         good =
             record {
               divides = ap (λ (x : List ℕ). c ++ r ++ x) (later .good .divides);
-              allowed = (record { tag = tag; whole = whole tag r h k; allowed = a }, later .good .allowed);
+              allowed = (record { whole = whole tag r h k; allowed = a }, later .good .allowed);
               shallow = later .good .shallow;
             };
-        is = rw (tag-is tag r h k, e, later .is);
+        is = rw (e, later .is);
       }
 
   pub reads-nested : (levels m : ℕ) (inside : Tree) → length (shortest inside) ≤ 65536 → sc .means n tag ≡ Message m
@@ -58,14 +54,14 @@ module _ (sc : Schema) (n tag : ℕ) (h : tag < 65536) (w : Tree) where
       let c = leastControl tag (length r) in
       let p = inner .good .shallow in
       let q = later .good .shallow in
-      let f : NestedField sc n m c r = record { tag = tag; whole = whole tag r h k; allowed = e } in
+      let f : NestedField sc n m tag c r = record { whole = whole tag r h k; allowed = e } in
       record {
-        cut = Cut.nested c (inner .cut) (later .cut);
+        cut = Cut.nested tag c (inner .cut) (later .cut);
         good =
             record {
               divides = ap₂ (λ (x y : List ℕ). c ++ x ++ y) (inner .good .divides) (later .good .divides);
-              allowed = ((m, subst (λ (x : List ℕ). NestedField sc n m c x) (sym (inner .good .divides)) f, inner .good .allowed), later .good .allowed);
+              allowed = ((m, subst (λ (x : List ℕ). NestedField sc n m tag c x) (sym (inner .good .divides)) f, inner .good .allowed), later .good .allowed);
               shallow = omega arith;
             };
-        is = rw (tag-is tag r h k, e, inner .is, later .is);
+        is = rw (e, inner .is, later .is);
       }

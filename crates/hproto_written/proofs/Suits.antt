@@ -1,10 +1,11 @@
 -- Values of the kind of their tag, in their least contents, are allowed there and mean themselves.
 use Prim.Native.Nat.{ℕ, _^_, _<_}
 use native.Mathlib.Omega.{arith}
-use mathlib.Core.Path.{_≡_, refl, sym, ap, subst}
+use mathlib.Core.Path.{_≡_, refl, ap}
 use mathlib.Core.Bool.{true, false, false≢true}
 use mathlib.Core.List.{List}
-use lib.Dec.{T, eqb}
+use lib.Dec.{eqb}
+use Rattle.octets.proofs.Text.{text-exactly}
 use lib.IntN.{ℤ}
 use lib.Signed.{mag}
 use Rattle.octets.specs.Number.{leastUint}
@@ -66,5 +67,5 @@ suits-octets Raw xs e f = absurd (false≢true e)
 suits-octets Uint xs e f = absurd (false≢true e)
 suits-octets Int xs e f = absurd (false≢true e)
 suits-octets String xs e f = record { least = refl; allowed = tt; same = refl; some-kind = λ z. omega arith }
-suits-octets Text xs e f = record { least = refl; allowed = subst T (sym f) tt; same = refl; some-kind = λ z. omega arith }
+suits-octets Text xs e f = record { least = refl; allowed = text-exactly xs .0 f; same = refl; some-kind = λ z. omega arith }
 suits-octets (Message m) xs e f = absurd (false≢true e)

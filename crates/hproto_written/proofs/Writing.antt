@@ -6,6 +6,7 @@ use mathlib.Core.List.{List, _++_, append-assoc}
 use lib.ListN.{length, length-append}
 use borrow.Author.Tests.{le-leb}
 use Rattle.octets.specs.Control.{leastControl}
+use Rattle.octets.proofs.Text.{text-exactly}
 use Rattle.hproto_table.specs.Entry.{kindNumber}
 use Rattle.hproto_table.specs.Schema.{schema}
 use Rattle.hproto_table.specs.declared.Meaning.{Meaning}
@@ -103,7 +104,7 @@ module _ (t : Table) (number : ℕ) (lent : List ℕ) where
         subst RunTo (rw e refl) (one-more g r (putOctets tag xs) tt (rw e (has-room (length (field tag xs)) l)))
     more-leaf r tag (text xs) h l =
         let e = of-kind tag Text (h .0) in
-        subst RunTo (rw e refl) (one-more g r (putOctets tag xs) tt (rw (e, h .1) (has-room (length (field tag xs)) l)))
+        subst RunTo (rw e refl) (one-more g r (putOctets tag xs) tt (rw (e, text-exactly xs .1 (h .1)) (has-room (length (field tag xs)) l)))
 
     more-open : RunTo g → (tag m : ℕ) → schema t .means (innermost (schema t) number g) tag ≡ Message m → openFields g ≤ 6 → RunTo (opened tag end g)
     unfolding InRange refusalOfCall giving orRefuse kindNumber

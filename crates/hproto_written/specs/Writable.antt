@@ -2,10 +2,9 @@
 -- lent buffer has room, is written by a run: none of its calls is refused.
 use Prim.Native.Nat.{ℕ, _^_, _<_}
 use mathlib.Core.Path.{_≡_}
-use mathlib.Core.Bool.{true}
 use mathlib.Core.List.{List}
 use lib.Signed.{mag}
-use Rattle.octets.specs.Text as octets
+use Rattle.octets.specs.Groups.{IsText}
 use Rattle.hproto_table.specs.Schema.{Schema}
 use Rattle.hproto_table.specs.declared.Meaning.{Meaning}
 use Rattle.hproto_table.specs.declared.Meaning.the-variants.{Uint, Int, String, Text, Message}
@@ -22,7 +21,7 @@ OfKind k (raw xs) = ⊥
 OfKind k (uint v) = (k ≡ Uint) × (v < 2 ^ 64)
 OfKind k (int z) = (k ≡ Int) × (mag z < 2 ^ 63)
 OfKind k (string xs) = k ≡ String
-OfKind k (text xs) = (k ≡ Text) × (octets.text xs ≡ true)
+OfKind k (text xs) = (k ≡ Text) × IsText xs
 
 -- Every field of a tree, at all depths, has a tag of the table and a value of its kind.
 unfoldable pub Writable : Schema → ℕ → Tree → Type 0

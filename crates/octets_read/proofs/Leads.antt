@@ -25,16 +25,16 @@ unfolding control
 control-none [] h = refl
 control-none (x ∷ s) h = absurd (omega arith)
 
-control-some : (s : List ℕ) → 0 < length s → controlOf (getD s 0 0 / 16) (getD s 0 0 % 16) (drop 1 s) ≡ control s
+control-some : (s : List ℕ) → 0 < length s → getD s 0 0 < 256 → controlOf (getD s 0 0 / 16) (getD s 0 0 % 16) (drop 1 s) ≡ control s
 unfolding control
-control-some [] h = absurd (omega arith)
-control-some (x ∷ s) h = refl
+control-some [] h l = absurd (omega arith)
+control-some (x ∷ s) h l = rw (lt-ltb x 256 l)
 
 -- The two nybbles of the first octet by shift and mask, and the octets after it.
-pub control-split : (s : List ℕ) (t l : ℕ) → 0 < length s → t ≡ getD s 0 0 / 16 → l ≡ bitAnd (getD s 0 0) 15
+pub control-split : (s : List ℕ) (t l : ℕ) → 0 < length s → t < 16 → t ≡ getD s 0 0 / 16 → l ≡ bitAnd (getD s 0 0) 15
     → controlOf t l (take (length s - 1) (drop 1 s)) ≡ control s
-control-split s t l h p q =
-    rw (p, q ∙ and-mask (getD s 0 0) 4, take-all (length s - 1) (drop 1 s) (rw (length-drop 1 s) (omega arith))) (control-some s h)
+control-split s t l h b p q =
+    rw (p, q ∙ and-mask (getD s 0 0) 4, take-all (length s - 1) (drop 1 s) (rw (length-drop 1 s) (omega arith))) (control-some s h (omega arith))
 
 pub nybbles : (x t l : ℕ) → x < 256 → t ≡ x / 16 → l ≡ bitAnd x 15 → (t < 16) × (l < 16)
 nybbles x t l h p q = let m = mask-lt x 4 in (omega arith, omega arith)

@@ -25,7 +25,7 @@ returns-2 c =
     let k = c .before .before .before .before in
     let s = k .before .before .before .args .s .now in
     whole-direct _ _ _ (c .before .if2 .taken) (ltb-true _ _ (c .if3 .taken))
-    ∙ control-split s _ _ (omega arith) (c .before .before .before .wide .ensures) (c .before .before .wide2 .ensures)
+    ∙ control-split s _ _ (omega arith) (omega arith) (c .before .before .before .wide .ensures) (c .before .before .wide2 .ensures)
 
 sub-after-leads : tie.Need-sub-after-leads
 sub-after-leads c = search needs
@@ -46,8 +46,9 @@ returns-3 : tie.Need-returns-3
 returns-3 c =
     let k = c .before .before .before .before .before in
     let s = k .before .before .before .args .s .now in
+    let n = nybbles (getD s 0 0) _ _ (k .shared-slice-known2 .given 0 .fits) (c .before .before .before .before .wide .ensures) (c .before .before .before .wide2 .ensures) in
     c .after-leads .ensures
-    ∙ control-split s _ _ (omega arith) (c .before .before .before .before .wide .ensures) (c .before .before .before .wide2 .ensures)
+    ∙ control-split s _ _ (omega arith) (n .0) (c .before .before .before .before .wide .ensures) (c .before .before .before .wide2 .ensures)
 
 pub control-spec : {M : Type 1} → statement M
 control-spec =
