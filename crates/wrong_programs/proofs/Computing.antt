@@ -5,6 +5,7 @@ use Rattle.octets.specs.Control as controls
 use Rattle.reading.specs.Reading.{onAccepted, inOrder}
 use Rattle.reading.specs.Checks as answers
 use Rattle.hproto_table.specs.Entry as entries
+use Rattle.hproto_table.specs.Schema as schemas
 use Rattle.hproto_table.specs.Load as loads
 use Rattle.hproto_table.specs.Valid as valids
 use Rattle.hproto_table.specs.Repeat as repeats
@@ -39,11 +40,11 @@ unfoldable pub hproto : Type 0
 unfolding kinds.always kinds.octets kinds.word kinds.words load.load check.fits check.check lookup.fits lookup.lookup lookup.lookupLast shorten.fits
     shorten.shorten frameRead.frameRead frameWrite.fits frameWrite.frameWrite show.fits show.show find.fits find.find valid.fits valid.valid
     loads.load loads.loadFrom loads.accepted loads.refused loads.tableOf loads.wordsBefore loads.faulty loads.wellFormed loads.recordAt loads.wordAt
-    loads.inRange loads.seen loads.pair entries.entry entries.entries entries.find entries.meaning entries.innerOf entries.kindNumber valids.valid
+    loads.inRange loads.seen loads.pair schemas.schema schemas.schemaOf entries.entry entries.entries entries.find entries.meaning entries.innerOf entries.kindNumber valids.valid
     valids.allInRange valids.allZero repeats.distinct octets.number octets.octetsOf octets.width octets.widthWithin octets.leastUint signs.integer
     signs.withSign signs.lowest controls.control controls.controlOf controls.following controls.coded controls.leastControl controls.leastCode
     controls.firstFit onAccepted inOrder readings.reading readings.messageFrom readings.fieldsFrom readings.afterStep readings.step readings.stepFrom
-    readings.stepByKind cuts.joined trees.tree trees.tagOf trees.value trees.depth trees.fields shortests.shortest shortests.field
+    readings.stepByKind cuts.joined trees.tree readings.tagOf readings.tagAt trees.value trees.depth trees.fields shortests.shortest shortests.field
     shortests.leastContents answers.counts answers.refusal checks.check checks.checkUnder checks.treeCounts lookups.outermost lookups.itemTag
     lookups.withTag lookups.lastOr lookups.chosen lookups.itemKind lookups.uintOf lookups.intOf lookups.refusal lookups.found lookups.foundIn
     lookups.answer lookups.lookup lookups.lookupLast shortestOf shortens.refusal shortens.shortUnder shortens.shortForm shortens.roomy

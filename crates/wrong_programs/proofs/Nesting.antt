@@ -7,6 +7,7 @@ use lib.ListN.{getD}
 use Rattle.octets.specs.Number as numbers
 use Rattle.octets.specs.Control as controls
 use Rattle.hproto_table.specs.Entry as entries
+use Rattle.hproto_table.specs.Schema as schemas
 use Rattle.hproto_table.specs.Valid as valids
 use Rattle.hproto_table.specs.Repeat as repeats
 use Rattle.hproto_table.specs.declared.Table.{Table}
@@ -86,7 +87,7 @@ record Outcomes : Type 0 where
 outcomes : Outcomes
 unfolding made openField closeField calls.opening calls.openRefusal calls.deeper calls.closing calls.closeBuffer calls.closingPart calls.closeEarly
     calls.closeRefusal calls.outer calls.back calls.bufferAfter calls.level calls.meant valids.valid valids.allInRange valids.allZero repeats.distinct
-    calls.answered calls.orRefuse entries.entries entries.find entries.meaning entries.kindNumber entries.innerOf sounds.sound sounds.falling
+    calls.answered calls.orRefuse entries.entries entries.find schemas.schema schemas.schemaOf entries.meaning entries.kindNumber entries.innerOf sounds.sound sounds.falling
     sounds.small stores.stored numbers.octetsOf controls.leastControl controls.leastCode controls.firstFit
 outcomes =
     record {

@@ -9,6 +9,7 @@ use Rattle.octets.specs.Number as numbers
 use Rattle.octets.specs.Signed as signed
 use Rattle.octets.specs.Control as controls
 use Rattle.hproto_table.specs.Entry as entries
+use Rattle.hproto_table.specs.Schema as schemas
 use Rattle.hproto_table.specs.Valid as valids
 use Rattle.hproto_table.specs.Repeat as repeats
 use Rattle.hproto_table.specs.declared.Table.{Table}
@@ -102,7 +103,7 @@ record Outcomes (p : Put) : Type 0 where
 outcomes : (p : Put) → Outcomes p
 unfolding made call put fits.callOf writes.answer writes.buffer calls.put calls.putBuffer calls.putRefusal calls.bufferAfter calls.back calls.level
     calls.meant calls.ofOctets calls.readable valids.valid valids.allInRange valids.allZero repeats.distinct calls.answered calls.orRefuse
-    entries.entries entries.find entries.meaning entries.kindNumber sounds.sound sounds.falling sounds.small field stores.stored numbers.leastUint
+    entries.entries entries.find schemas.schema schemas.schemaOf entries.meaning entries.kindNumber sounds.sound sounds.falling sounds.small field stores.stored numbers.leastUint
     numbers.width numbers.widthWithin numbers.octetsOf signed.leastInt signed.signedWidth signed.signedBits controls.leastControl controls.leastCode
     controls.firstFit
 outcomes uint = record { of-first = refl; of-later = refl; of-empty = refl; of-otherTag = refl; of-absentTag = refl }
