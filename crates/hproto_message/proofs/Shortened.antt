@@ -2,7 +2,7 @@
 -- tree are more.
 use Prim.Native.Nat.{ℕ, _+_, _≤_, _<_}
 use native.Mathlib.Omega.{arith}
-use mathlib.Core.Path.{_≡_, refl, sym, ap, ap₂, subst}
+use mathlib.Core.Path.{_≡_, refl, sym, ap, ap₂, _∙_, subst}
 use mathlib.Core.List.{List, [], _++_}
 use lib.ListN.{length, length-append}
 use Rattle.octets.specs.Number.{Octets, number}
@@ -20,6 +20,9 @@ use Rattle.hproto_message.specs.Cut as cuts
 use Rattle.hproto_message.specs.Cut.{Cut, joined, WholeField, Contents, LeafField, NestedField, Allowed, Good}
 use Rattle.hproto_message.specs.Tree as trees
 use Rattle.hproto_message.specs.Tree.{Tree, Value, value, tree}
+use Rattle.reading.specs.Reading.{depthLimit}
+use Rattle.hproto_message.specs.ReadTheSame.{ReadTheSame, ShortForm}
+use Rattle.hproto_message.proofs.Accepted.{good-cut-unique}
 use Rattle.hproto_message.specs.Shortest.{leastContents, field, shortest}
 
 -- The least contents of a value are no longer than contents that mean it, mean the same, and are as allowed.
@@ -191,3 +194,20 @@ unfolding tree trees.depth cuts.depth
 tree-depth sc Cut.end n = refl
 tree-depth sc (Cut.leaf tag c b rest) n = tree-depth sc rest n
 tree-depth sc (Cut.nested tag c inside rest) n = rw (tree-depth sc inside (innerOf (sc .means n tag)), tree-depth sc rest n)
+
+-- The shortest form of the tree of a message is the shortest of the octets that read the same.
+pub short-form : (sc : Schema) (n : ℕ) (s : List ℕ) (cut : Cut) → Octets s → Good sc depthLimit n s cut → ShortForm sc n s (shortest (tree sc n cut))
+short-form sc n s cut o g =
+    let f = shortest-good sc depthLimit n s cut o g in
+    record {
+      short-octets = shortest-octets sc depthLimit n s cut o g;
+      reads-the-same = record { first = cut; second = f .0; first-good = g; second-good = f .1; same-tree = f .2 };
+      others-more = λ r p same ne. more r p same ne;
+    }
+  where
+    more : (r : List ℕ) → Octets r → ReadTheSame sc n s r → (r ≡ shortest (tree sc n cut) → ⊥) → length (shortest (tree sc n cut)) < length r
+    more r p same ne =
+        let one : same .first ≡ cut = good-cut-unique sc depthLimit n s (same .first) cut (same .first-good) g in
+        let x : shortest (tree sc n (same .second)) ≡ shortest (tree sc n cut) = ap shortest (same .same-tree ∙ ap (tree sc n) one) in
+        subst (λ (l : List ℕ). length l < length r) x
+        (others-longer sc depthLimit n r (same .second) p (same .second-good) (λ q. ne (sym q ∙ x)))

@@ -1,5 +1,6 @@
 pub mod Cut
 pub mod Tree
+pub mod ReadTheSame
 pub mod Reading
 pub mod Shortest
 pub mod Samples

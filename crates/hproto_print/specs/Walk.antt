@@ -7,7 +7,7 @@ use Rattle.hproto_table.specs.declared.Meaning.{Meaning}
 use Rattle.hproto_table.specs.declared.Meaning.the-variants.{Raw, Uint, Int, String, Text, Message}
 use Rattle.hproto_message.specs.Cut.{Cut}
 use Rattle.hproto_message.specs.Tree.{tree}
-use Rattle.reading.specs.Reading.{Reading, accepted, refused}
+use Rattle.reading.specs.Reading.{Reading, accepted, refused, depthLimit}
 use Rattle.hproto_message.specs.Reading.{messageFrom}
 use Rattle.hproto_print.specs.Ascii.{ascii}
 use Rattle.hproto_print.specs.Text.{direct, lines}
@@ -27,7 +27,7 @@ directRead sc n (refused number place) = 0
 
 -- How many fields a message has itself.
 unfoldable pub directOf : Schema → ℕ → List ℕ → ℕ
-directOf sc n s = directRead sc n (messageFrom sc 8 n 0 0 s)
+directOf sc n s = directRead sc n (messageFrom sc depthLimit n 0 0 s)
 
 unfoldable pub linesRead : Schema → ℕ → ℕ → Reading Cut → List ℕ
 linesRead sc n depth (accepted cut) = lines depth (tree sc n cut)

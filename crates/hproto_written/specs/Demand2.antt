@@ -4,6 +4,7 @@ use Prim.Native.Nat.{ℕ, _+_}
 use mathlib.Core.Path.{_≡_}
 use mathlib.Core.List.{List}
 use lib.ListN.{length, take, drop}
+use Rattle.reading.specs.Reading.{depthLimit}
 use Rattle.hproto_table.specs.Schema.{schema}
 use Rattle.hproto_table.specs.declared.Table.{Table}
 use Rattle.hproto_message.specs.Cut.{Cut, Good}
@@ -25,7 +26,7 @@ pub record Demand2 (t : Table) (number : ℕ) (lent : List ℕ) (from : ℕ) (af
   pub accepted : check t number (drop from after) ≡ record { refusal = 0; place = 0; fields = fields whole; depth = depth whole }
   -- They have a good cut, and its tree is that of the fields given.
   pub cut : Cut
-  pub good : Good (schema t) 8 number (drop from after) cut
+  pub good : Good (schema t) depthLimit number (drop from after) cut
   pub reads-back : tree (schema t) number cut ≡ whole
   -- They are the shortest octets that do and reach to the buffer's end, and the octets before them are as they were lent.
   pub is-shortest : drop from after ≡ shortest whole

@@ -5,7 +5,7 @@ use mathlib.Core.Path.{_≡_}
 use mathlib.Core.List.{List, [], _∷_, _++_}
 use lib.ListN.{length}
 use Rattle.octets.specs.Number.{number}
-use Rattle.reading.specs.Reading.{messageLimit}
+use Rattle.reading.specs.Reading.{messageLimit, depthLimit}
 use Rattle.tib_field.specs.Name.{Name}
 
 -- A field, part by part in the order of its octets. The octet before the name, its size, is left out.
@@ -76,5 +76,5 @@ pub record Whole (s : List ℕ) (fields : Fields) : Type 0 where
   pub divides : s ≡ message size fields
   pub header : Header size fields
   pub allowed : Allowed fields
-  pub shallow : depth fields ≤ 8
+  pub shallow : depth fields ≤ depthLimit
   pub short : length s ≤ messageLimit

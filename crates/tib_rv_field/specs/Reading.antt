@@ -6,7 +6,7 @@ use mathlib.Core.List.{List, [], _∷_}
 use lib.ListN.{length, take, drop}
 use lib.Dec.{eqb, leb, ltb}
 use Rattle.octets.specs.Number.{number}
-use Rattle.reading.specs.Reading.{Reading, accepted, refused, onAccepted, inOrder, messageLimit}
+use Rattle.reading.specs.Reading.{Reading, accepted, refused, onAccepted, inOrder, messageLimit, depthLimit}
 use Rattle.tib_field.specs.Mark.{begins}
 use Rattle.tib_field.specs.Name.{nameFront, afterName}
 use Rattle.tib_rv_field.specs.declared.Sizes.{Sizes}
@@ -120,4 +120,4 @@ messageFrom (suc levels) field at s =
 
 -- The outermost message: its division, or the first refusal.
 unfoldable pub reading : List ℕ → Reading Fields
-reading s = cond (ltb messageLimit (length s)) (refused 1 0) (messageFrom 8 0 0 s)
+reading s = cond (ltb messageLimit (length s)) (refused 1 0) (messageFrom depthLimit 0 0 s)

@@ -1,0 +1,28 @@
+-- Messages that read the same, and the shortest of them.
+use Prim.Native.Nat.{ℕ, _<_}
+use mathlib.Core.Path.{_≡_}
+use mathlib.Core.List.{List}
+use lib.ListN.{length}
+use Rattle.reading.specs.Reading.{depthLimit}
+use Rattle.octets.specs.Number.{Octets}
+use Rattle.hproto_table.specs.Schema.{Schema}
+use Rattle.hproto_message.specs.Cut.{Cut, Good}
+use Rattle.hproto_message.specs.Tree.{tree}
+
+-- Octets have a cut under a schema and a message number.
+abbrev pub HasCut : Schema → ℕ → List ℕ → Type 0
+HasCut sc n s = (cut : Cut) × Good sc depthLimit n s cut
+
+-- Document 01's term: two messages read the same when both have a cut and the trees of their cuts are equal.
+pub record ReadTheSame (sc : Schema) (n : ℕ) (s r : List ℕ) : Type 0 where
+  pub first : Cut
+  pub second : Cut
+  pub first-good : Good sc depthLimit n s first
+  pub second-good : Good sc depthLimit n r second
+  pub same-tree : tree sc n second ≡ tree sc n first
+
+-- The shortest octets that read the same as a message: all others that do, of any length, are more.
+pub record ShortForm (sc : Schema) (n : ℕ) (s short : List ℕ) : Type 0 where
+  pub short-octets : Octets short
+  pub reads-the-same : ReadTheSame sc n s short
+  pub others-more : (r : List ℕ) → Octets r → ReadTheSame sc n s r → (r ≡ short → ⊥) → length short < length r
