@@ -13,7 +13,7 @@ ghost use Rattle.hproto_check.specs.Check.{check as check-of, checkUnder
 ghost use Rattle.hproto_check.specs.Walks.{walk as walk-of};
 
 // A message of number `n` whose octets start at a place, in the field that starts at `from`. `levels` is how many messages deep it may
-// be, itself counted; a nested message has one less. `rest` has the entries that have no slot.
+// be, itself counted; a nested message has one less. A tag that has no slot is looked for in `rest`, which has words of the table.
 fn nested(
     slots: &[u16; 256],
     rest: &[u64],

@@ -1,5 +1,5 @@
--- What `field_at` and `field_in`, which the shortener and the print share, answer: the tag, the kind and the sizes of the field at the
--- front of octets; and `part`, the tag and the sizes alone, which the lookup has too.
+-- The field at the front of octets. `field_at`, which the print calls, and `field_in`, which the shortener calls, answer its tag, its kind
+-- and its sizes; `part` of this crate, and `front` of the lookup, the tag and the sizes alone.
 use Prim.Native.Nat.{ℕ, _-_}
 use mathlib.Core.Bool.{cond}
 use mathlib.Core.List.{List}

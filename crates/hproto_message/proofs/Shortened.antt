@@ -21,7 +21,7 @@ use Rattle.hproto_message.specs.Cut.{Cut, joined, WholeField, Contents, 
 use Rattle.hproto_message.specs.Tree as trees
 use Rattle.hproto_message.specs.Tree.{Tree, Value, value, tree}
 use Rattle.reading.specs.Reading.{depthLimit}
-use Rattle.hproto_message.specs.ReadTheSame.{ReadTheSame, ShortForm}
+use Rattle.hproto_message.specs.ReadTheSame.{OthersMore, ShortForm}
 use Rattle.hproto_message.proofs.Accepted.{good-cut-unique}
 use Rattle.hproto_message.specs.Shortest.{leastContents, field, shortest}
 
@@ -196,18 +196,19 @@ tree-depth sc (Cut.leaf tag c b rest) n = tree-depth sc rest n
 tree-depth sc (Cut.nested tag c inside rest) n = rw (tree-depth sc inside (innerOf (sc .means n tag)), tree-depth sc rest n)
 
 -- The shortest form of the tree of a message is the shortest of the octets that read the same.
+pub others-more : (sc : Schema) (n : ℕ) (s : List ℕ) (cut : Cut) → Good sc depthLimit n s cut → OthersMore sc n s (shortest (tree sc n cut))
+unfolding OthersMore
+others-more sc n s cut g r o same ne =
+    let one : same .first ≡ cut = good-cut-unique sc depthLimit n s (same .first) cut (same .first-good) g in
+    let x : shortest (tree sc n (same .second)) ≡ shortest (tree sc n cut) = ap shortest (same .same-tree ∙ ap (tree sc n) one) in
+    subst (λ (l : List ℕ). length l < length r) x
+    (others-longer sc depthLimit n r (same .second) o (same .second-good) (λ q. ne (sym q ∙ x)))
+
 pub short-form : (sc : Schema) (n : ℕ) (s : List ℕ) (cut : Cut) → Octets s → Good sc depthLimit n s cut → ShortForm sc n s (shortest (tree sc n cut))
 short-form sc n s cut o g =
     let f = shortest-good sc depthLimit n s cut o g in
     record {
       short-octets = shortest-octets sc depthLimit n s cut o g;
       reads-the-same = record { first = cut; second = f .0; first-good = g; second-good = f .1; same-tree = f .2 };
-      others-more = λ r p same ne. more r p same ne;
+      others-more = others-more sc n s cut g;
     }
-  where
-    more : (r : List ℕ) → Octets r → ReadTheSame sc n s r → (r ≡ shortest (tree sc n cut) → ⊥) → length (shortest (tree sc n cut)) < length r
-    more r p same ne =
-        let one : same .first ≡ cut = good-cut-unique sc depthLimit n s (same .first) cut (same .first-good) g in
-        let x : shortest (tree sc n (same .second)) ≡ shortest (tree sc n cut) = ap shortest (same .same-tree ∙ ap (tree sc n) one) in
-        subst (λ (l : List ℕ). length l < length r) x
-        (others-longer sc depthLimit n r (same .second) p (same .second-good) (λ q. ne (sym q ∙ x)))

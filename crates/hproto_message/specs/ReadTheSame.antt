@@ -21,8 +21,12 @@ pub record ReadTheSame (sc : Schema) (n : ℕ) (s r : List ℕ) : Type 0 where
   pub second-good : Good sc depthLimit n r second
   pub same-tree : tree sc n second ≡ tree sc n first
 
--- The shortest octets that read the same as a message: all others that do, of any length, are more.
+-- All other octets that read the same as a message, of any length, are more than these.
+unfoldable pub OthersMore : Schema → ℕ → List ℕ → List ℕ → Type 0
+OthersMore sc n s short = (r : List ℕ) → Octets r → ReadTheSame sc n s r → (r ≡ short → ⊥) → length short < length r
+
+-- The shortest octets that read the same as a message.
 pub record ShortForm (sc : Schema) (n : ℕ) (s short : List ℕ) : Type 0 where
   pub short-octets : Octets short
   pub reads-the-same : ReadTheSame sc n s short
-  pub others-more : (r : List ℕ) → Octets r → ReadTheSame sc n s r → (r ≡ short → ⊥) → length short < length r
+  pub others-more : OthersMore sc n s short

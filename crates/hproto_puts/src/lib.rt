@@ -11,7 +11,8 @@ ghost use lib.ListN.{length as length-of};
 ghost use Rattle.octets.specs.Number.{octetsOf};
 ghost use Rattle.octets.specs.Control.{leastControl};
 ghost use Rattle.hproto_message.specs.Shortest.{field};
-ghost use Rattle.hproto_state.specs.Answer.{answer, buffer, putUint, putInt, putOctets};
+ghost use Rattle.hproto_state.specs.Call.{putUint, putInt, putOctets};
+ghost use Rattle.hproto_state.specs.Answer.{answer, buffer};
 ghost use Rattle.hproto_state.specs.Calls.{ofOctets, readable as readable-of, put, putBuffer, putRefusal};
 ghost use Rattle.hproto_puts.specs.Stores.{Before};
 

@@ -13,7 +13,7 @@ pub enum Record {
     Wrong,
 }
 
-// Whether the entry in a word is in range. The inner number is looked at first: it is 0 in most entries, whatever their kind.
+// Whether the entry in a word is in range. An inner number of 0 is in range whatever the kind; any other only with kind 5.
 pub fn in_range(w: u64) -> bool
     ensures { λ r. ⌜ r ≡ inRange (entry w) ⌝ }
 {

@@ -5,22 +5,14 @@ use mathlib.Core.Bool.{true}
 use mathlib.Core.List.{List}
 use lib.ListN.{length}
 use lib.Dec.{eqb}
-use lib.IntN.{ℤ}
 use Rattle.octets.specs.Number.{leastUint}
 use Rattle.octets.specs.Signed.{leastInt}
 use Rattle.hproto_table.specs.Entry.{kindNumber}
 use Rattle.hproto_table.specs.declared.Table.{Table}
-use Rattle.hproto_state.specs.Calls.{meant, ofOctets, readable, put, putBuffer, opening, closing, closeBuffer}
+use Rattle.hproto_state.specs.Call.{Call, putUint, putInt, putOctets, openField, closeField, Writer}
+use Rattle.hproto_state.specs.Calls.{meant, ofOctets, readable, put, putBuffer, opening, closing, closeBuffer, started, finished}
 use Rattle.hproto_state.specs.declared.State.{State}
 use Rattle.hproto_state.specs.declared.Written.{Written}
-
--- A call, with what the caller gives beside the table, the state and the buffer: a tag, and a value.
-pub data Call : Type 0 where
-  putUint : ℕ → ℕ → Call
-  putInt : ℕ → ℤ → Call
-  putOctets : ℕ → List ℕ → Call
-  openField : ℕ → Call
-  closeField : Call
 
 -- The answer on a table, a state and a buffer.
 unfoldable pub answer : Table → State → List ℕ → Call → Written
@@ -39,3 +31,7 @@ buffer t s d (putOctets tag xs) =
     putBuffer t s tag (ofOctets (kindNumber (meant t s tag))) (readable (kindNumber (meant t s tag)) xs) xs d
 buffer t s d (openField tag) = d
 buffer t s d closeField = closeBuffer t s d
+
+-- The writer of this library.
+abbrev pub writer : Writer
+writer = record { start = started; answer = answer; buffer = buffer; finish = finished }

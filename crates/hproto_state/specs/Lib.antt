@@ -1,3 +1,4 @@
 pub mod Sound
 pub mod Calls
+pub mod Call
 pub mod Answer

@@ -21,7 +21,8 @@ use Rattle.hproto_message.proofs.Fields.{field-length}
 use Rattle.hproto_state.proofs.Tags.{narrow}
 use Rattle.hproto_written.specs.Given.{Given, message, opened, onFields, closed, openFields, innermost}
 use Rattle.hproto_written.specs.Run.{InRange, octetsAs, kindIn, giving, Run, start, next}
-use Rattle.hproto_state.specs.Answer.{Call, putUint, putInt, putOctets, openField, closeField, answer, buffer}
+use Rattle.hproto_state.specs.Call.{Call, putUint, putInt, putOctets, openField, closeField}
+use Rattle.hproto_state.specs.Answer.{answer, buffer, writer}
 use Rattle.hproto_written.proofs.ReadsBack.{reads-leaf}
 use Rattle.hproto_written.proofs.Fields.{read-more}
 use Rattle.hproto_written.proofs.Suits.{Suits, is-message, suits-uint, suits-int, suits-octets}
@@ -108,6 +109,6 @@ module _ (t : Table) (number : ℕ) (lent : List ℕ) (s : State) (d : List ℕ)
   reached-next g r (openField tag) h e = reached-open g r tag e
   reached-next g r closeField h e = reached-close g r e
 
-pub run-reached : (t : Table) (number : ℕ) (lent : List ℕ) (s : State) (d : List ℕ) (g : Given) → Run t number lent s d g → Reached t number lent s d g
+pub run-reached : (t : Table) (number : ℕ) (lent : List ℕ) (s : State) (d : List ℕ) (g : Given) → Run writer t number lent s d g → Reached t number lent s d g
 run-reached t number lent s d g (start e) = reached-start t number lent e
 run-reached t number lent s d g (next before b f run c h e) = reached-next t number lent before b f (run-reached t number lent before b f run) c h e

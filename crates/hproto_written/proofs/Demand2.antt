@@ -7,15 +7,18 @@ use lib.ListN.{length, drop}
 use Rattle.hproto_table.specs.Schema.{schema}
 use Rattle.hproto_table.specs.declared.Table.{Table}
 use Rattle.hproto_message.specs.Cut.{Good}
-use Rattle.hproto_message.specs.Tree.{Tree}
+use Rattle.hproto_message.specs.Tree.{Tree, tree}
 use Rattle.hproto_message.specs.Shortest.{shortest}
 use Rattle.hproto_message.proofs.Accepted.{accepted-exactly}
+use Rattle.hproto_message.proofs.Shortened.{others-more}
 use Rattle.reading.specs.Checks.{counts}
-use Rattle.hproto_check.specs.Check.{treeCounts}
+use Rattle.hproto_check.specs.Check.{treeCounts, check}
 use Rattle.hproto_check.proofs.Counts.{read-through}
+use Rattle.hproto_state.specs.Answer.{writer}
 use Rattle.hproto_state.specs.Calls.{finished}
 use Rattle.hproto_state.specs.declared.State.{State}
-use Rattle.hproto_written.specs.Given.{Given, message, opened, written}
+use Rattle.hproto_written.specs.Given.{Given, message, opened}
+use Rattle.hproto_written.specs.Written.{written}
 use Rattle.hproto_written.specs.Refusal.{refusalOfFinish}
 use Rattle.hproto_written.specs.Demand2.{Demand2, Demand2Holds}
 use Rattle.hproto_written.proofs.Fields.{AllRead}
@@ -24,7 +27,7 @@ use Rattle.hproto_written.proofs.Accepted.{run-reached}
 use Rattle.hproto_written.proofs.Refused.{refusals}
 
 module _ (t : Table) (number : ℕ) (lent : List ℕ) (s : State) (d : List ℕ) where
-  whole-reads : (w : Tree) → Reached t number lent s d (message w) → Demand2 t number lent (s .start) d (message w)
+  whole-reads : (w : Tree) → Reached t number lent s d (message w) → Demand2 check t number lent (s .start) d (message w)
   unfolding written AllRead treeCounts counts
   whole-reads w r =
       let sc = schema t in
@@ -44,12 +47,12 @@ module _ (t : Table) (number : ℕ) (lent : List ℕ) (s : State) (d : List ℕ)
         cut = back .cut;
         good = good;
         reads-back = back .is;
-        is-shortest = f .stands;
-        to-the-end = p;
+        is-shortest = rw (f .stands, ← back .is) (others-more sc number (shortest (tree sc number (back .cut))) (back .cut) (rw (back .is) (back .good)));
+        to-the-end = rw l p;
         others-kept = f .kept;
       }
 
-  finished-whole : (g : Given) → refusalOfFinish g ≡ 0 → Reached t number lent s d g → Demand2 t number lent (s .start) d g
+  finished-whole : (g : Given) → refusalOfFinish g ≡ 0 → Reached t number lent s d g → Demand2 check t number lent (s .start) d g
   unfolding refusalOfFinish
   finished-whole (message w) e r = whole-reads w r
   finished-whole (opened tag w around) e r = absurd (omega arith)
@@ -58,9 +61,9 @@ module _ (t : Table) (number : ℕ) (lent : List ℕ) (s : State) (d : List ℕ)
   unfolding finished
   finish-place e = rw e refl
 
-pub demand-2 : Demand2Holds
+pub demand-2 : Demand2Holds check writer
 demand-2 t number lent s after given run e =
     let r = run-reached t number lent s after given run in
     let f = refusals t number lent s after given run .finish in
-    subst (λ (from : ℕ). Demand2 t number lent from after given) (sym (finish-place t number lent s after e))
+    subst (λ (from : ℕ). Demand2 check t number lent from after given) (sym (finish-place t number lent s after e))
     (finished-whole t number lent s after given (sym f ∙ e) r)

@@ -8,7 +8,8 @@ use Rattle.hproto_table.specs.Schema.{Schema}
 use Rattle.hproto_table.specs.declared.Meaning.the-variants.{Message}
 use Rattle.hproto_message.specs.Tree.{Tree, end}
 use Rattle.hproto_message.specs.Shortest.{shortest}
-use Rattle.hproto_written.specs.Given.{Given, message, opened, onFields, openFields, innermost, written}
+use Rattle.hproto_written.specs.Given.{Given, message, opened, onFields, openFields, innermost}
+use Rattle.hproto_written.specs.Written.{written}
 use Rattle.hproto_written.proofs.ReadsBack.{ReadsBack, reads-end}
 
 -- One more field changes neither which fields are open nor the number of the innermost message.

@@ -17,7 +17,8 @@ use Rattle.hproto_message.specs.Tree.{Tree, end, nested}
 use Rattle.hproto_message.specs.Shortest.{field, shortest}
 use Rattle.hproto_state.specs.Calls.{begun, back, deeper, outer, closingPart}
 use Rattle.hproto_state.specs.declared.State.{State}
-use Rattle.hproto_written.specs.Given.{Given, message, opened, onFields, openFields, innermost, written}
+use Rattle.hproto_written.specs.Given.{Given, message, opened, onFields, openFields, innermost}
+use Rattle.hproto_written.specs.Written.{written}
 use Rattle.hproto_written.proofs.ReadsBack.{ReadsBack, reads-end, reads-nested}
 use Rattle.hproto_written.proofs.Fields.{AllRead, same-open, opened-innermost, written-before, read-more, read-opened}
 use Rattle.hproto_written.proofs.Noted.{Noted, noted-more, noted-opened}

@@ -12,7 +12,8 @@ use Rattle.hproto_table.specs.declared.Table.{Table}
 use Rattle.hproto_message.specs.Tree.{Tree, end}
 use Rattle.hproto_message.specs.Shortest.{shortest}
 use Rattle.hproto_state.specs.Sound.{falling, small}
-use Rattle.hproto_written.specs.Given.{Given, message, opened, onFields, openFields, innermost, written}
+use Rattle.hproto_written.specs.Given.{Given, message, opened, onFields, openFields, innermost}
+use Rattle.hproto_written.specs.Written.{written}
 use Rattle.hproto_written.proofs.Tables.{inner-small}
 use Rattle.hproto_written.proofs.Falling.{falling-last, small-last}
 

@@ -17,7 +17,8 @@ use Rattle.hproto_state.specs.Sound.{falling, small, sound}
 use Rattle.hproto_state.specs.Calls.{level, meant}
 use Rattle.hproto_state.specs.declared.State.{State}
 use Rattle.hproto_state.proofs.Tags.{level-in}
-use Rattle.hproto_written.specs.Given.{Given, openFields, innermost, written}
+use Rattle.hproto_written.specs.Given.{Given, openFields, innermost}
+use Rattle.hproto_written.specs.Written.{written}
 use Rattle.hproto_written.proofs.Fields.{AllRead}
 use Rattle.hproto_written.proofs.Noted.{Noted, noted-number, noted-fall, noted-small}
 use Rattle.hproto_written.proofs.Buffer.{Filled}

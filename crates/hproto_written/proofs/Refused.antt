@@ -15,9 +15,11 @@ use Rattle.hproto_message.specs.Shortest.{field, shortest}
 use Rattle.hproto_store.proofs.Room.{left-enough}
 use Rattle.hproto_state.specs.Calls.{orRefuse, answered, meant, ofOctets, readable, put, putRefusal, opening, closing, closeRefusal, finished}
 use Rattle.hproto_state.specs.declared.State.{State}
-use Rattle.hproto_written.specs.Given.{Given, message, opened, openFields, written}
+use Rattle.hproto_written.specs.Given.{Given, message, opened, openFields}
+use Rattle.hproto_written.specs.Written.{written}
 use Rattle.hproto_written.specs.Run.{kindIn, Run}
-use Rattle.hproto_state.specs.Answer.{Call, putUint, putInt, putOctets, openField, closeField, answer}
+use Rattle.hproto_state.specs.Call.{Call, putUint, putInt, putOctets, openField, closeField}
+use Rattle.hproto_state.specs.Answer.{answer, writer}
 use Rattle.hproto_written.specs.Refusal.{refusalForRoom, refusalOfClose, refusalOfCall, refusalOfFinish, Refusals}
 use Rattle.hproto_written.proofs.Reached.{Reached, reached-meant}
 use Rattle.hproto_written.proofs.Moves.{closing-part}
@@ -75,7 +77,7 @@ module _ (t : Table) (number : ℕ) (lent : List ℕ) (s : State) (d : List ℕ)
       finish-decided t number lent s d (opened tag w around) r ∙ rw (ne-eqb (s .opened) 0 (λ z. omega arith)) refl
 
 -- For every run.
-pub refusals : (t : Table) (number : ℕ) (lent : List ℕ) (s : State) (d : List ℕ) (g : Given) → Run t number lent s d g
+pub refusals : (t : Table) (number : ℕ) (lent : List ℕ) (s : State) (d : List ℕ) (g : Given) → Run writer t number lent s d g
     → Refusals t number lent s d g
 refusals t number lent s d g run =
     let r = run-reached t number lent s d g run in

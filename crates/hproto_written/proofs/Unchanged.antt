@@ -13,7 +13,8 @@ use Rattle.hproto_table.specs.declared.Table.{Table}
 use Rattle.hproto_message.specs.Shortest.{field}
 use Rattle.hproto_state.specs.Calls.{answered, bufferAfter, meant, ofOctets, readable, put, putBuffer, putRefusal, opening, openRefusal, closing, closeBuffer, closeRefusal}
 use Rattle.hproto_state.specs.declared.State.{State}
-use Rattle.hproto_state.specs.Answer.{Call, putUint, putInt, putOctets, openField, closeField, answer, buffer}
+use Rattle.hproto_state.specs.Call.{Call, putUint, putInt, putOctets, openField, closeField}
+use Rattle.hproto_state.specs.Answer.{answer, buffer}
 use Rattle.hproto_table.specs.Entry.{kindNumber}
 
 -- What a refused call leaves.

@@ -17,9 +17,11 @@ use Rattle.hproto_message.specs.Shortest.{leastContents, field, shortest}
 use Rattle.hproto_state.specs.Calls.{orRefuse, ofOctets, readable, started}
 use Rattle.hproto_state.specs.declared.State.{State}
 use Rattle.hproto_message.proofs.Fields.{field-length}
-use Rattle.hproto_written.specs.Given.{Given, message, opened, onFields, closed, openFields, innermost, written}
+use Rattle.hproto_written.specs.Given.{Given, message, opened, onFields, closed, openFields, innermost}
+use Rattle.hproto_written.specs.Written.{written}
 use Rattle.hproto_written.specs.Run.{InRange, octetsAs, kindIn, giving, Run, start, next}
-use Rattle.hproto_state.specs.Answer.{Call, putUint, putInt, putOctets, openField, closeField}
+use Rattle.hproto_state.specs.Answer.{writer}
+use Rattle.hproto_state.specs.Call.{Call, putUint, putInt, putOctets, openField, closeField}
 use Rattle.hproto_written.specs.Refusal.{refusalForRoom, refusalOfClose, refusalOfCall, refusalOfFinish}
 use Rattle.hproto_written.specs.Writable.{OfKind, Writable, Writes}
 use Rattle.hproto_written.proofs.Fields.{same-open, same-innermost, opened-innermost, written-before}
@@ -78,7 +80,7 @@ module _ (t : Table) (number : ℕ) (lent : List ℕ) where
   record RunTo (g : Given) : Type 0 where
     state : State
     after : List ℕ
-    run : Run t number lent state after g
+    run : Run writer t number lent state after g
 
   one-more : (g : Given) → RunTo g → (c : Call) → InRange c → refusalOfCall t number (length lent) g c ≡ 0 → RunTo (giving t number c g)
   one-more g r c h e =

@@ -1,10 +1,8 @@
 -- The fields that calls of the writer give.
 use Prim.Native.Nat.{ℕ, suc}
-use mathlib.Core.List.{List, _++_}
 use Rattle.hproto_table.specs.Entry.{innerOf}
 use Rattle.hproto_table.specs.Schema.{Schema}
 use Rattle.hproto_message.specs.Tree.{Tree, nested}
-use Rattle.hproto_message.specs.Shortest.{shortest}
 
 -- The fields given so far. `message w`: nothing is open, and w holds the fields of the outermost message. `opened tag w around`: a
 -- message field with this tag is open, w holds the fields given inside it, and `around` those given before it was opened. In each of
@@ -32,8 +30,3 @@ openFields (opened tag w around) = suc (openFields around)
 unfoldable pub innermost : Schema → ℕ → Given → ℕ
 innermost sc number (message w) = number
 innermost sc number (opened tag w around) = innerOf (sc .means (innermost sc number around) tag)
-
--- The octets written for what is given so far. The control part of a field that is open is not written yet.
-unfoldable pub written : Given → List ℕ
-written (message w) = shortest w
-written (opened tag w around) = shortest w ++ written around

@@ -1,4 +1,5 @@
 pub mod Given
+pub mod Written
 pub mod Run
 pub mod Demand2
 pub mod Refusal

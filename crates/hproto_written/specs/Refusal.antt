@@ -12,9 +12,11 @@ use Rattle.hproto_table.specs.declared.Table.{Table}
 use Rattle.hproto_message.specs.Shortest.{field, shortest}
 use Rattle.hproto_state.specs.Calls.{orRefuse, ofOctets, readable, finished}
 use Rattle.hproto_state.specs.declared.State.{State}
-use Rattle.hproto_written.specs.Given.{Given, message, opened, openFields, written}
+use Rattle.hproto_written.specs.Given.{Given, message, opened, openFields}
+use Rattle.hproto_written.specs.Written.{written}
 use Rattle.hproto_written.specs.Run.{kindIn}
-use Rattle.hproto_state.specs.Answer.{Call, putUint, putInt, putOctets, openField, closeField, answer}
+use Rattle.hproto_state.specs.Call.{Call, putUint, putInt, putOctets, openField, closeField}
+use Rattle.hproto_state.specs.Answer.{answer}
 
 -- 9 where so many octets are more than the lent buffer has beside those written.
 unfoldable pub refusalForRoom : ℕ → Given → ℕ → ℕ

@@ -10,8 +10,7 @@ use Rattle.hproto_table.specs.Entry.{kindNumber}
 use Rattle.hproto_table.specs.Schema.{schema}
 use Rattle.hproto_table.specs.declared.Table.{Table}
 use Rattle.hproto_message.specs.Tree.{end, leaf, Value, uint, int, string, text}
-use Rattle.hproto_state.specs.Calls.{started}
-use Rattle.hproto_state.specs.Answer.{Call, putUint, putInt, putOctets, openField, closeField, answer, buffer}
+use Rattle.hproto_state.specs.Call.{Call, putUint, putInt, putOctets, openField, closeField, Writer}
 use Rattle.hproto_state.specs.declared.State.{State}
 use Rattle.hproto_written.specs.Given.{Given, message, opened, onFields, closed, innermost}
 
@@ -40,10 +39,10 @@ giving t number (putOctets tag xs) g = onFields (leaf tag (octetsAs (kindIn t nu
 giving t number (openField tag) g = opened tag end g
 giving t number closeField g = closed g
 
--- A run under a table, with a message number, over a lent buffer: the state and the buffer that its last call left, and what its calls
--- gave.
-pub data Run (t : Table) (number : ℕ) (lent : List ℕ) : State → List ℕ → Given → Type 0 where
-  start : started t number (length lent) .refusal ≡ 0
-      → Run t number lent (started t number (length lent) .state) lent (message end)
-  next : (s : State) (d : List ℕ) (g : Given) → Run t number lent s d g → (c : Call) → InRange c → answer t s d c .refusal ≡ 0
-      → Run t number lent (answer t s d c .state) (buffer t s d c) (giving t number c g)
+-- A run of a writer under a table, with a message number, over a lent buffer: the state and the buffer that its last call left, and what
+-- its calls gave.
+pub data Run (w : Writer) (t : Table) (number : ℕ) (lent : List ℕ) : State → List ℕ → Given → Type 0 where
+  start : w .start t number (length lent) .refusal ≡ 0
+      → Run w t number lent (w .start t number (length lent) .state) lent (message end)
+  next : (s : State) (d : List ℕ) (g : Given) → Run w t number lent s d g → (c : Call) → InRange c → w .answer t s d c .refusal ≡ 0
+      → Run w t number lent (w .answer t s d c .state) (w .buffer t s d c) (giving t number c g)

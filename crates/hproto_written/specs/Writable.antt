@@ -10,6 +10,7 @@ use Rattle.hproto_table.specs.declared.Meaning.{Meaning}
 use Rattle.hproto_table.specs.declared.Meaning.the-variants.{Uint, Int, String, Text, Message}
 use Rattle.hproto_table.specs.declared.Table.{Table}
 use Rattle.hproto_message.specs.Tree.{Tree, end, leaf, nested, Value, raw, uint, int, string, text}
+use Rattle.hproto_state.specs.Answer.{writer}
 use Rattle.hproto_state.specs.Calls.{finished}
 use Rattle.hproto_state.specs.declared.State.{State}
 use Rattle.hproto_written.specs.Given.{message}
@@ -33,5 +34,5 @@ Writable sc n (nested tag inside rest) = ((m : ℕ) × (sc .means n tag ≡ Mess
 pub record Writes (t : Table) (number : ℕ) (lent : List ℕ) (w : Tree) : Type 0 where
   pub state : State
   pub after : List ℕ
-  pub run : Run t number lent state after (message w)
+  pub run : Run writer t number lent state after (message w)
   pub finish : finished state .refusal ≡ 0

@@ -1,0 +1,24 @@
+-- The calls of the writer, and what a writer has to say about them.
+use Prim.Native.Nat.{ℕ}
+use mathlib.Core.List.{List}
+use lib.IntN.{ℤ}
+use Rattle.hproto_table.specs.declared.Table.{Table}
+use Rattle.hproto_state.specs.declared.State.{State}
+use Rattle.hproto_state.specs.declared.Written.{Written}
+use Rattle.hproto_state.specs.declared.Finished.{Finished}
+
+-- A call between start and finish, with what the caller gives beside the table, the state and the buffer: a tag, and a value.
+pub data Call : Type 0 where
+  putUint : ℕ → ℕ → Call
+  putInt : ℕ → ℤ → Call
+  putOctets : ℕ → List ℕ → Call
+  openField : ℕ → Call
+  closeField : Call
+
+-- What the calls of a writer answer: start by a table, a message number and the length of the lent buffer; a call by a table, a state and a
+-- buffer, with the buffer afterwards; finish by a state.
+pub record Writer : Type 0 where
+  pub start : Table → ℕ → ℕ → Written
+  pub answer : Table → State → List ℕ → Call → Written
+  pub buffer : Table → State → List ℕ → Call → List ℕ
+  pub finish : State → Finished
