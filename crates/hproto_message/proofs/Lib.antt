@@ -5,3 +5,6 @@ pub mod Shortened
 pub mod Next
 pub mod Refusals
 pub mod Fields
+pub mod WrongFields
+pub mod Search
+pub mod FirstFault

@@ -97,7 +97,7 @@ field-control tag c b rest w = rw (append-assoc c b rest) (part-read tag (length
 pub field-tag : (tag : ℕ) (c b rest : List ℕ) → WholeField tag c b → tagAt (c ++ b ++ rest) ≡ tag
 field-tag tag c b rest w = tag-is (c ++ b ++ rest) tag (length b) (length c) (field-control tag c b rest w)
 
-found : (sc : Schema) (n tag : ℕ) (c b rest : List ℕ) → WholeField tag c b
+pub found : (sc : Schema) (n tag : ℕ) (c b rest : List ℕ) → WholeField tag c b
     → step sc n (c ++ b ++ rest) ≡ stepByKind (sc .means n tag) (length c) b
 unfolding step stepFrom
 found sc n tag c b rest w =

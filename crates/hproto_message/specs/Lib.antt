@@ -4,3 +4,4 @@ pub mod ReadTheSame
 pub mod Reading
 pub mod Shortest
 pub mod Samples
+pub mod FirstFault

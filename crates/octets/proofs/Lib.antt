@@ -4,3 +4,4 @@ pub mod Integer
 pub mod Codes
 pub mod ControlPart
 pub mod Text
+pub mod CutControl

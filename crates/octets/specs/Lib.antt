@@ -4,3 +4,4 @@ pub mod ControlPart
 pub mod Groups
 pub mod Text
 pub mod Control
+pub mod CutControl

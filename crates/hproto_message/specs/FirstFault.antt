@@ -1,0 +1,89 @@
+-- What is wrong with a message that has no cut, with no word on how it is read (document 01, Refusal numbers): its first fault, and the fields
+-- before that at each level down to it.
+use Prim.Native.Nat.{ℕ, _+_, _-_, _<_}
+use mathlib.Core.Path.{_≡_}
+use mathlib.Core.List.{List, _++_}
+use mathlib.Core.Logic.{_⊎_}
+use lib.ListN.{length}
+use Rattle.octets.specs.ControlPart.{ControlPart}
+use Rattle.octets.specs.CutControl.{CutControl}
+use Rattle.octets.specs.Groups.{IsText}
+use Rattle.hproto_table.specs.Schema.{Schema}
+use Rattle.hproto_table.specs.declared.Meaning.the-variants.{Uint, Int, Text}
+use Rattle.hproto_message.specs.Cut.{Cut, joined, WholeField, LeafField, NestedField, Good}
+
+-- A field that is wrong, and the octets from it on to the end of the message that it stands in: a control part that ends too early; a control
+-- part and the octets after it, fewer than the length that it says; a whole field and the octets after it.
+pub data Wrong : Type 0 where
+  endsEarly : (octets : List ℕ) → Wrong
+  pastTheEnd : (tag len : ℕ) (part after : List ℕ) → Wrong
+  tooDeep : (tag : ℕ) (part contents after : List ℕ) → Wrong
+  tooWide : (tag : ℕ) (part contents after : List ℕ) → Wrong
+  noText : (tag : ℕ) (part contents after : List ℕ) → Wrong
+
+-- The number of its refusal.
+unfoldable pub wrongNumber : Wrong → ℕ
+wrongNumber (endsEarly octets) = 3
+wrongNumber (pastTheEnd tag len part after) = 4
+wrongNumber (tooDeep tag part contents after) = 5
+wrongNumber (tooWide tag part contents after) = 6
+wrongNumber (noText tag part contents after) = 7
+
+unfoldable pub wrongOctets : Wrong → List ℕ
+wrongOctets (endsEarly octets) = octets
+wrongOctets (pastTheEnd tag len part after) = part ++ after
+wrongOctets (tooDeep tag part contents after) = part ++ contents ++ after
+wrongOctets (tooWide tag part contents after) = part ++ contents ++ after
+wrongOctets (noText tag part contents after) = part ++ contents ++ after
+
+-- What makes it wrong in a message of number n that may be `levels` messages deep, itself counted: a message in the last of the levels is one too
+-- deep, even an empty one.
+unfoldable pub IsWrong : Schema → ℕ → ℕ → Wrong → Type 0
+IsWrong sc levels n (endsEarly octets) = CutControl octets
+IsWrong sc levels n (pastTheEnd tag len part after) = ControlPart tag len part × (length after < len)
+IsWrong sc levels n (tooDeep tag part contents after) = ((m : ℕ) × NestedField sc n m tag part contents) × (levels ≡ 1)
+IsWrong sc levels n (tooWide tag part contents after) =
+    WholeField tag part contents × ((sc .means n tag ≡ Uint) ⊎ (sc .means n tag ≡ Int)) × (8 < length contents)
+IsWrong sc levels n (noText tag part contents after) = WholeField tag part contents × (sc .means n tag ≡ Text) × (IsText contents → ⊥)
+
+-- The way to a fault: it is here, at the first field; over a field that is no message; past a field whose message has a cut; or inside a field
+-- that is a message, which other octets follow.
+pub data Fault : Type 0 where
+  here : Wrong → Fault
+  over : (tag : ℕ) (part contents : List ℕ) (later : Fault) → Fault
+  past : (tag : ℕ) (part : List ℕ) (cut : Cut) (later : Fault) → Fault
+  inside : (tag : ℕ) (part : List ℕ) (inner : Fault) (after : List ℕ) → Fault
+
+-- The octets of the message that it is the way through.
+unfoldable pub faultOctets : Fault → List ℕ
+faultOctets (here wrong) = wrongOctets wrong
+faultOctets (over tag part contents later) = part ++ contents ++ faultOctets later
+faultOctets (past tag part cut later) = part ++ joined cut ++ faultOctets later
+faultOctets (inside tag part inner after) = part ++ faultOctets inner ++ after
+
+-- The number of the refusal, and its place: the first octet of the field that is wrong, counted in the outermost message.
+unfoldable pub faultNumber : Fault → ℕ
+faultNumber (here wrong) = wrongNumber wrong
+faultNumber (over tag part contents later) = faultNumber later
+faultNumber (past tag part cut later) = faultNumber later
+faultNumber (inside tag part inner after) = faultNumber inner
+
+unfoldable pub faultPlace : Fault → ℕ
+faultPlace (here wrong) = 0
+faultPlace (over tag part contents later) = length part + length contents + faultPlace later
+faultPlace (past tag part cut later) = length part + length (joined cut) + faultPlace later
+faultPlace (inside tag part inner after) = length part + faultPlace inner
+
+-- Every field on the way is whole and allowed, every message that the way goes past has a cut, and the field at its end is wrong.
+unfoldable pub LeadsTo : Schema → ℕ → ℕ → Fault → Type 0
+LeadsTo sc levels n (here wrong) = IsWrong sc levels n wrong
+LeadsTo sc levels n (over tag part contents later) = LeafField sc n tag part contents × LeadsTo sc levels n later
+LeadsTo sc levels n (past tag part cut later) =
+    ((m : ℕ) × NestedField sc n m tag part (joined cut) × Good sc (levels - 1) m (joined cut) cut) × LeadsTo sc levels n later
+LeadsTo sc levels n (inside tag part inner after) =
+    (1 < levels) × ((m : ℕ) × NestedField sc n m tag part (faultOctets inner) × LeadsTo sc (levels - 1) m inner)
+
+-- The first fault of octets, under a schema and a message number, where a message may be `levels` messages deep.
+pub record FirstFault (sc : Schema) (levels number : ℕ) (octets : List ℕ) (fault : Fault) : Type 0 where
+  pub divides : faultOctets fault ≡ octets
+  pub leads : LeadsTo sc levels number fault

@@ -1,0 +1,15 @@
+-- A control part that ends too early (document 01's refusal 3), with no word on how it is read.
+use Prim.Native.Nat.{ℕ, _≤_}
+use mathlib.Core.List.{List, _++_}
+use lib.ListN.{length}
+use Rattle.octets.specs.ControlPart.{ControlPart}
+
+-- Octets that are a control part but for its last ones: there are some, and some more would make them whole. No beginning of such octets is a
+-- control part: proofs/CutControl.antt shows it.
+pub record CutControl (s : List ℕ) : Type 0 where
+  pub tag : ℕ
+  pub len : ℕ
+  pub missing : List ℕ
+  pub some : 1 ≤ length s
+  pub too-few : 1 ≤ length missing
+  pub part : ControlPart tag len (s ++ missing)
