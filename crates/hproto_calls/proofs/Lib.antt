@@ -1,2 +1,3 @@
 pub mod Loading
 pub mod Demand3
+pub mod Demand1
