@@ -15,6 +15,7 @@ LINK = re.compile(r'\[([^\]]+)\]\(([^)\s]+)\)')
 
 def pages():
     yield 'README.md'
+    yield 'CONTRIBUTING.md'
     for folder, _, files in os.walk('docs'):
         for name in sorted(files):
             if name.endswith('.md'):
