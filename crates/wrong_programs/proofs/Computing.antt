@@ -1,4 +1,5 @@
--- The definitions of the hproto entries. A proof that unfolds `hproto` computes their answers.
+-- The definitions that the contracts of the entries are made of. A proof that unfolds `hproto`, `writer` or `tib` computes answers: of the
+-- readers of hproto messages, of the backward writer, or of the Tib readers and tib_real.
 use Rattle.octets.specs.Number as octets
 use Rattle.octets.specs.Signed as signs
 use Rattle.octets.specs.Control as controls
@@ -25,6 +26,23 @@ use Rattle.hproto_print.specs.Digits as digits
 use Rattle.hproto_print.specs.Text as prints
 use Rattle.hproto_print.specs.Window.{window}
 use Rattle.hproto_show.specs.Output as shows
+use Rattle.hproto_state.specs.Sound as sounds
+use Rattle.hproto_state.specs.Calls as calls
+use Rattle.hproto_state.specs.Answer as writes
+use Rattle.tib_real.specs.Parts as parts
+use Rattle.tib_real.specs.Widened as wide
+use Rattle.tib_real.specs.FromOctets as fromOctets
+use Rattle.tib_real.specs.InFractions as inFractions
+use Rattle.tib_field.specs.Mark as marks
+use Rattle.tib_field.specs.Name as names
+use Rattle.tib_field.specs.Fields as fields
+use Rattle.tib_field.specs.Kth as kths
+use Rattle.tib_msg_field.specs.Layout as msgLayout
+use Rattle.tib_msg_field.specs.Reading as msgReading
+use Rattle.tib_msg.specs.Answers as msg
+use Rattle.tib_rv_field.specs.Layout as rvLayout
+use Rattle.tib_rv_field.specs.Reading as rvReading
+use Rattle.tib_rv.specs.Answers as rv
 use Rattle.wrong_programs.specs.Kinds as kinds
 use Rattle.wrong_programs.specs.Load as load
 use Rattle.wrong_programs.specs.Check as check
@@ -35,6 +53,9 @@ use Rattle.wrong_programs.specs.FrameWrite as frameWrite
 use Rattle.wrong_programs.specs.Show as show
 use Rattle.wrong_programs.specs.Find as find
 use Rattle.wrong_programs.specs.Valid as valid
+use Rattle.wrong_programs.specs.Writer as writing
+use Rattle.wrong_programs.specs.Tib as tibs
+use Rattle.wrong_programs.specs.Reals as reals
 
 unfoldable pub hproto : Type 0
 unfolding kinds.always kinds.octets kinds.word kinds.words load.load check.fits check.check lookup.fits lookup.lookup lookup.lookupLast shorten.fits
@@ -54,3 +75,26 @@ unfolding kinds.always kinds.octets kinds.word kinds.words load.load check.fits 
     prints.front prints.line prints.lines prints.page prints.shown prints.refusal prints.readText prints.messageText window shows.secondText
     shows.tableText shows.firstText shows.output
 hproto = Unit {0}
+
+unfoldable pub writer : Type 0
+unfolding hproto writing.below writing.array writing.tableFits writing.stateFits writing.startFits writing.intFits writing.Value writing.valueFits writing.putFits
+    writing.openFits writing.closeFits writing.start writing.callOf writing.put writing.openField writing.closeField writing.finish
+    writes.answer writes.buffer calls.orRefuse calls.answered calls.bufferAfter calls.level calls.meant calls.back calls.startRefusal
+    calls.begun calls.started calls.putRefusal calls.put calls.putBuffer calls.ofOctets calls.readable calls.openRefusal calls.deeper calls.opening calls.closingPart
+    calls.closeEarly calls.closeRefusal calls.outer calls.closing calls.closeBuffer calls.finishRefusal calls.finished sounds.falling sounds.small sounds.sound
+    signs.leastInt signs.signedWidth signs.signedBits
+writer = Unit {0}
+
+unfoldable pub tib : Type 0
+unfolding kinds.always kinds.octets kinds.word tibs.check tibs.fieldFits tibs.field reals.realFits reals.real reals.fractionsFits reals.fractions
+    onAccepted inOrder octets.number answers.counts answers.refusal marks.begins names.nameFront names.named names.closes names.afterName fields.placed
+    kths.fieldOf kths.answerFor msgLayout.kind msgLayout.hinted msgLayout.sizeWidth msgLayout.isWidth msgLayout.sizeAllowed msgLayout.octets
+    msgReading.typeAllowed msgReading.hintAt msgReading.hintFront msgReading.valueHint msgReading.withHint msgReading.fromData msgReading.fromSize
+    msgReading.fromType msgReading.nextField msgReading.total msgReading.partsAt msgReading.afterStep msgReading.fieldsFrom msgReading.reading
+    msg.check msg.depth msg.field msg.places msg.shown msg.hintNumber msg.realShown rvLayout.depth rvLayout.octets rvReading.following rvReading.own
+    rvReading.counted rvReading.countAllowed rvReading.found rvReading.fromCount rvReading.fromSize rvReading.fromType rvReading.nextField rvReading.lead
+    rvReading.total rvReading.partsAt rvReading.nestedOf rvReading.afterStep rvReading.fieldsFrom rvReading.headerFault rvReading.messageFrom
+    rvReading.reading rv.check rv.count rv.field rv.places rv.shown rv.outermost fromOctets.made fromOctets.realOf inFractions.scaled
+    inFractions.countable inFractions.signed inFractions.refused inFractions.accepted inFractions.inFractions inFractions.fractionsOf parts.negative
+    parts.exponent parts.fraction parts.finite parts.significand parts.units wide.together wide.widened
+tib = Unit {0}

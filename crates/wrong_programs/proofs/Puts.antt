@@ -1,36 +1,44 @@
 -- Wrong programs in the place of put_uint, put_int and put_octets.
-use Prim.Native.Nat.{ℕ, _<_}
+use Prim.Native.Nat.{ℕ}
 use native.Mathlib.Omega.{arith}
 use mathlib.Core.Path.{_≡_, refl}
 use mathlib.Core.List.{List, [], _∷_}
-use lib.Dec.{T}
+use lib.Dec.{T, ltb}
 use lib.IntN.{pos}
-use Rattle.octets.specs.Number as numbers
-use Rattle.octets.specs.Signed as signed
-use Rattle.octets.specs.Control as controls
-use Rattle.hproto_table.specs.Entry as entries
-use Rattle.hproto_table.specs.Schema as schemas
-use Rattle.hproto_table.specs.Valid as valids
-use Rattle.hproto_table.specs.Repeat as repeats
 use Rattle.hproto_table.specs.declared.Table.{Table}
-use Rattle.hproto_message.specs.Shortest.{field}
-use Rattle.hproto_store.specs.Store as stores
-use Rattle.hproto_state.specs.Sound as sounds
-use Rattle.hproto_state.specs.Calls as calls
-use Rattle.hproto_state.specs.Answer as writes
+use Rattle.hproto_state.specs.Sound.{sound}
 use Rattle.hproto_state.specs.declared.State.{State}
-use Rattle.wrong_programs.specs.Kinds as kinds
 use Rattle.wrong_programs.specs.Kinds.{RuledOut, Rejects, Accepts, Invents, SeesOnly, always, due}
-use Rattle.wrong_programs.specs.Writer as fits
 use Rattle.wrong_programs.specs.Writer.{Put, uint, int, octets, Value, PutInput, PutCall, Outcome, putFits, put}
-use Rattle.wrong_programs.proofs.RulingOut.{rejects-ruled-out, accepts-ruled-out, invents-ruled-out, sees-only-where-accepted}
-use Rattle.wrong_programs.proofs.WriterStates.{table, unused, stateAt, accepted}
+use Rattle.wrong_programs.proofs.RulingOut.{Sample, given, fixes, rejects, accepts, invents, sees-only}
+use Rattle.wrong_programs.proofs.Computing.{writer}
+use Rattle.wrong_programs.proofs.WriterStates.{table, unused, ending, state-at, accepted, refused, outcome}
+
+-- A sample for each put.
+module _ (value : (p : Put) → PutInput p) (answer : Outcome)
+    (u : T (putFits uint (value uint))) (i : T (putFits int (value int))) (o : T (putFits octets (value octets)))
+    (of-u : put uint (record { value = value uint; in-range = u }) ≡ answer)
+    (of-i : put int (record { value = value int; in-range = i }) ≡ answer)
+    (of-o : put octets (record { value = value octets; in-range = o }) ≡ answer) where
+  in-range : (p : Put) → T (putFits p (value p))
+  in-range uint = u
+  in-range int = i
+  in-range octets = o
+
+  fixed : (p : Put) → put p (record { value = value p; in-range = in-range p }) ≡ answer
+  unfolding in-range
+  fixed uint = of-u
+  fixed int = of-i
+  fixed octets = of-o
+
+  abbrev each : (p : Put) → Sample (put p)
+  each p = given (value p) answer (in-range p) (fixed p)
 
 -- The kind of the fields that a put is for, and two values for it: one octet 5, and none.
-kindOf : Put → ℕ
-kindOf uint = 1
-kindOf int = 2
-kindOf octets = 3
+kind : Put → ℕ
+kind uint = 1
+kind int = 2
+kind octets = 3
 
 five : (p : Put) → Value p
 unfolding Value
@@ -38,163 +46,121 @@ five uint = 5
 five int = pos 5
 five octets = 5 ∷ []
 
-nought : (p : Put) → Value p
+zero : (p : Put) → Value p
 unfolding Value
-nought uint = 0
-nought int = pos 0
-nought octets = []
+zero uint = 0
+zero int = pos 0
+zero octets = []
 
--- A call for each put, from what it gives.
-module _ (x : (p : Put) → PutInput p) (u : T (putFits uint (x uint))) (i : T (putFits int (x int))) (o : T (putFits octets (x octets))) where
-  in-range-of : (p : Put) → T (putFits p (x p))
-  in-range-of uint = u
-  in-range-of int = i
-  in-range-of octets = o
+abbrev asked : (p : Put) → State → ℕ → Value p → List ℕ → PutInput p
+asked p s tag v buffer = record { table = table (kind p); state = s; tag = tag; value = v; buffer = buffer }
 
-  call : (p : Put) → PutCall p
-  call p = record { value = x p; in-range = in-range-of p }
+-- A put of 5 with the tag 1, and another with the state and the buffer that it leaves.
+first : (p : Put) → Sample (put p)
+unfolding writer kind five
+first = each (λ p. asked p (state-at 6) 1 (five p) unused) (outcome (accepted (state-at 4)) (ending (0x11 ∷ 5 ∷ []))) tt tt tt refl refl refl
 
--- The buffer after a put of 5 with tag 1, after two of them, after a put of nothing, and after a put of 5 with tag 2.
-abbrev one : List ℕ
-one = 0xaa ∷ 0xaa ∷ 0xaa ∷ 0xaa ∷ 0x11 ∷ 5 ∷ []
+later : (p : Put) → Sample (put p)
+unfolding writer kind five
+later =
+    each (λ p. asked p (state-at 4) 1 (five p) (ending (0x11 ∷ 5 ∷ []))) (outcome (accepted (state-at 2)) (ending (0x11 ∷ 5 ∷ 0x11 ∷ 5 ∷ []))) tt tt tt refl
+    refl refl
 
-abbrev two : List ℕ
-two = 0xaa ∷ 0xaa ∷ 0x11 ∷ 5 ∷ 0x11 ∷ 5 ∷ []
+-- A put of a value of no octets, and of 5 with the tag 2, and with a tag that is not in the table.
+empty : (p : Put) → Sample (put p)
+unfolding writer kind zero
+empty = each (λ p. asked p (state-at 6) 1 (zero p) unused) (outcome (accepted (state-at 5)) (ending (0x10 ∷ []))) tt tt tt refl refl refl
 
-abbrev none : List ℕ
-none = 0xaa ∷ 0xaa ∷ 0xaa ∷ 0xaa ∷ 0xaa ∷ 0x10 ∷ []
+of-tag-2 : (p : Put) → Sample (put p)
+unfolding writer kind five
+of-tag-2 = each (λ p. asked p (state-at 6) 2 (five p) unused) (outcome (accepted (state-at 4)) (ending (0x21 ∷ 5 ∷ []))) tt tt tt refl refl refl
 
-abbrev other : List ℕ
-other = 0xaa ∷ 0xaa ∷ 0xaa ∷ 0xaa ∷ 0x21 ∷ 5 ∷ []
-
-abbrev given : (p : Put) → State → ℕ → Value p → List ℕ → PutInput p
-given p s tag v d = record { table = table (kindOf p); state = s; tag = tag; value = v; buffer = d }
-
--- The put `later` has the state and the buffer that `first` leaves.
-record Calls : Type 0 where
-  first : (p : Put) → PutCall p
-  later : (p : Put) → PutCall p
-  empty : (p : Put) → PutCall p
-  otherTag : (p : Put) → PutCall p
-  absentTag : (p : Put) → PutCall p
-
-made : Calls
-unfolding kinds.octets kinds.word fits.below fits.array fits.tableFits fits.stateFits fits.intFits fits.valueFits putFits table kindOf five nought
-made =
-    record {
-      first = call (λ (p : Put). given p (stateAt 6) 1 (five p) unused) tt tt tt;
-      later = call (λ (p : Put). given p (stateAt 4) 1 (five p) one) tt tt tt;
-      empty = call (λ (p : Put). given p (stateAt 6) 1 (nought p) unused) tt tt tt;
-      otherTag = call (λ (p : Put). given p (stateAt 6) 2 (five p) unused) tt tt tt;
-      absentTag = call (λ (p : Put). given p (stateAt 6) 3 (five p) unused) tt tt tt;
-    }
-
--- The outcomes of these calls.
-abbrev stored : ℕ → List ℕ → Outcome
-stored start d = record { answer = accepted (stateAt start); buffer = d }
-
-record Outcomes (p : Put) : Type 0 where
-  of-first : put p (made .first p) ≡ stored 4 one
-  of-later : put p (made .later p) ≡ stored 2 two
-  of-empty : put p (made .empty p) ≡ stored 5 none
-  of-otherTag : put p (made .otherTag p) ≡ stored 4 other
-  of-absentTag : put p (made .absentTag p) .answer .refusal ≡ 8
-
-outcomes : (p : Put) → Outcomes p
-unfolding made call put fits.callOf writes.answer writes.buffer calls.put calls.putBuffer calls.putRefusal calls.bufferAfter calls.back calls.level
-    calls.meant calls.ofOctets calls.readable valids.valid valids.allInRange valids.allZero repeats.distinct calls.answered calls.orRefuse
-    entries.entries entries.find schemas.schema schemas.schemaOf entries.meaning entries.kindNumber sounds.sound sounds.falling sounds.small field stores.stored numbers.leastUint
-    numbers.width numbers.widthWithin numbers.octetsOf signed.leastInt signed.signedWidth signed.signedBits controls.leastControl controls.leastCode
-    controls.firstFit
-outcomes uint = record { of-first = refl; of-later = refl; of-empty = refl; of-otherTag = refl; of-absentTag = refl }
-outcomes int = record { of-first = refl; of-later = refl; of-empty = refl; of-otherTag = refl; of-absentTag = refl }
-outcomes octets = record { of-first = refl; of-later = refl; of-empty = refl; of-otherTag = refl; of-absentTag = refl }
+of-tag-3 : (p : Put) → Sample (put p)
+unfolding writer kind five
+of-tag-3 = each (λ p. asked p (state-at 6) 3 (five p) unused) (outcome (refused 8 (state-at 6)) unused) tt tt tt refl refl refl
 
 abbrev refusal : Outcome → ℕ
 refusal r = r .answer .refusal
 
-abbrev startAfter : Outcome → ℕ
-startAfter r = r .answer .state .start
+abbrev start-after : Outcome → ℕ
+start-after r = r .answer .state .start
 
-abbrev bufferAfter : Outcome → List ℕ
-bufferAfter r = r .buffer
+abbrev buffer-after : Outcome → List ℕ
+buffer-after r = r .buffer
 
 module _ (p : Put) where
-  abbrev bufferBefore : PutCall p → List ℕ
-  bufferBefore x = x .value .buffer
+  abbrev start-before : PutCall p → ℕ
+  start-before x = x .value .state .start
 
-  abbrev startBefore : PutCall p → ℕ
-  startBefore x = x .value .state .start
+  abbrev buffer-before : PutCall p → List ℕ
+  buffer-before x = x .value .buffer
 
-  -- Something is stored already.
-  abbrev isLater : PutCall p → Type 0
-  isLater x = x .value .state .start < x .value .state .length
+  -- The contract accepts the call.
+  abbrev accepts-it : PutCall p → Type 0
+  accepts-it = due (put p) refusal 0
+
+  -- Octets are stored already.
+  abbrev has-octets : PutCall p → Type 0
+  has-octets x = T (ltb (x .value .state .start) (x .value .state .length))
 
   -- It rejects all calls, or all with a sound state.
-  abbrev isSound : PutCall p → Type 0
-  isSound x = T (sounds.sound (x .value .state))
+  abbrev has-sound-state : PutCall p → Type 0
+  has-sound-state x = T (sound (x .value .state))
 
-  pub rejects-all : RuledOut (Rejects refusal isSound) (put p)
-  unfolding made call sounds.sound sounds.falling sounds.small
-  rejects-all = rejects-ruled-out (put p) refusal isSound (made .first p) (stored 4 one) (outcomes p .of-first) tt refl
+  pub rejects-all : RuledOut (Rejects refusal has-sound-state) (put p)
+  unfolding first
+  rejects-all = rejects refusal has-sound-state (first p) tt refl
 
   -- It rejects every put after the first.
-  pub rejects-later : RuledOut (Rejects refusal isLater) (put p)
-  unfolding made call
-  rejects-later = rejects-ruled-out (put p) refusal isLater (made .later p) (stored 2 two) (outcomes p .of-later) (omega arith) refl
+  pub rejects-later : RuledOut (Rejects refusal has-octets) (put p)
+  unfolding later
+  rejects-later = rejects refusal has-octets (later p) tt refl
 
   -- It accepts every call.
   pub accepts-all : RuledOut (Accepts refusal always) (put p)
-  unfolding always
-  accepts-all =
-      accepts-ruled-out (put p) refusal always (made .absentTag p) (put p (made .absentTag p)) refl tt
-      (λ (e : put p (made .absentTag p) .answer .refusal ≡ 0). let r = outcomes p .of-absentTag in absurd (omega arith))
+  unfolding of-tag-3
+  accepts-all = accepts refusal always (of-tag-3 p) tt (λ (e : 8 ≡ 0). absurd (omega arith))
 
-  -- The buffer stays as it is.
-  pub stores-nothing : RuledOut (Invents bufferAfter bufferBefore always) (put p)
-  unfolding always made call
+  -- It stores nothing, or nothing after the first put.
+  pub stores-nothing : RuledOut (Invents buffer-after buffer-before always) (put p)
+  unfolding first
   stores-nothing =
-      invents-ruled-out (put p) bufferAfter bufferBefore always (made .first p) (stored 4 one) (outcomes p .of-first) tt
-      (λ (e : one ≡ unused). let z : _≡_ {A = ℕ} 0x11 0xaa = cc in absurd (omega arith))
+      invents buffer-after buffer-before always (first p) tt
+      (λ (e : ending (0x11 ∷ 5 ∷ []) ≡ unused). let d : _≡_ {A = ℕ} 0x11 0xaa = cc in absurd (omega arith))
 
-  -- The buffer stays as it is in every put after the first.
-  pub stores-only-the-first : RuledOut (Invents bufferAfter bufferBefore isLater) (put p)
-  unfolding made call
+  pub stores-only-the-first : RuledOut (Invents buffer-after buffer-before has-octets) (put p)
+  unfolding later
   stores-only-the-first =
-      invents-ruled-out (put p) bufferAfter bufferBefore isLater (made .later p) (stored 2 two) (outcomes p .of-later) (omega arith)
-      (λ (e : two ≡ one). let z : _≡_ {A = ℕ} 0x11 0xaa = cc in absurd (omega arith))
+      invents buffer-after buffer-before has-octets (later p) tt
+      (λ (e : ending (0x11 ∷ 5 ∷ 0x11 ∷ 5 ∷ []) ≡ ending (0x11 ∷ 5 ∷ [])). let d : _≡_ {A = ℕ} 0x11 0xaa = cc in absurd (omega arith))
 
-  -- The state stays as it is in every put after the first: the place where the octets stored start does not move.
-  pub state-unchanged : RuledOut (Invents startAfter startBefore isLater) (put p)
-  unfolding made call
-  state-unchanged =
-      invents-ruled-out (put p) startAfter startBefore isLater (made .later p) (stored 2 two) (outcomes p .of-later) (omega arith)
-      (λ (e : 2 ≡ 4). absurd (omega arith))
+  -- It hands back the state as it was given, after the first put: the octets stored start where they did.
+  pub state-unchanged : RuledOut (Invents start-after start-before has-octets) (put p)
+  unfolding later
+  state-unchanged = invents start-after start-before has-octets (later p) tt (λ (e : 2 ≡ 4). absurd (omega arith))
 
-  -- The buffer, or the place where the octets stored start, does not depend on the value.
-  abbrev butTheValue : PutCall p → Table × State × ℕ × List ℕ
-  butTheValue x = (x .value .table, x .value .state, x .value .tag, x .value .buffer)
+  -- It stores the same for each value, or moves the start by the same.
+  abbrev all-but-the-value : PutCall p → Table × State × ℕ × List ℕ
+  all-but-the-value x = (x .value .table, x .value .state, x .value .tag, x .value .buffer)
 
-  pub value-ignored : RuledOut (SeesOnly butTheValue bufferAfter (due (put p) refusal 0)) (put p)
-  unfolding made call
+  pub value-ignored : RuledOut (SeesOnly all-but-the-value buffer-after accepts-it) (put p)
+  unfolding first empty
   value-ignored =
-      sees-only-where-accepted (put p) refusal butTheValue bufferAfter (made .first p) (made .empty p) (stored 4 one) (stored 5 none)
-      (outcomes p .of-first) (outcomes p .of-empty) refl refl refl
-      (λ (e : one ≡ none). let z : _≡_ {A = ℕ} 0x11 0xaa = cc in absurd (omega arith))
+      sees-only all-but-the-value buffer-after accepts-it (first p) (empty p) (fixes refusal (first p)) (fixes refusal (empty p)) refl
+      (λ (e : ending (0x11 ∷ 5 ∷ []) ≡ ending (0x10 ∷ [])). let d : _≡_ {A = ℕ} 0x11 0xaa = cc in absurd (omega arith))
 
-  pub value-ignored-in-state : RuledOut (SeesOnly butTheValue startAfter (due (put p) refusal 0)) (put p)
-  unfolding made call
+  pub value-ignored-in-state : RuledOut (SeesOnly all-but-the-value start-after accepts-it) (put p)
+  unfolding first empty
   value-ignored-in-state =
-      sees-only-where-accepted (put p) refusal butTheValue startAfter (made .first p) (made .empty p) (stored 4 one) (stored 5 none)
-      (outcomes p .of-first) (outcomes p .of-empty) refl refl refl (λ (e : 4 ≡ 5). absurd (omega arith))
+      sees-only all-but-the-value start-after accepts-it (first p) (empty p) (fixes refusal (first p)) (fixes refusal (empty p)) refl
+      (λ (e : 4 ≡ 5). absurd (omega arith))
 
-  -- The buffer does not depend on the tag.
-  abbrev butTheTag : PutCall p → Table × State × Value p × List ℕ
-  butTheTag x = (x .value .table, x .value .state, x .value .value, x .value .buffer)
+  -- It stores the same for each tag.
+  abbrev all-but-the-tag : PutCall p → Table × State × Value p × List ℕ
+  all-but-the-tag x = (x .value .table, x .value .state, x .value .value, x .value .buffer)
 
-  pub tag-ignored : RuledOut (SeesOnly butTheTag bufferAfter (due (put p) refusal 0)) (put p)
-  unfolding made call
+  pub tag-ignored : RuledOut (SeesOnly all-but-the-tag buffer-after accepts-it) (put p)
+  unfolding first of-tag-2
   tag-ignored =
-      sees-only-where-accepted (put p) refusal butTheTag bufferAfter (made .first p) (made .otherTag p) (stored 4 one) (stored 4 other)
-      (outcomes p .of-first) (outcomes p .of-otherTag) refl refl refl
-      (λ (e : one ≡ other). let z : _≡_ {A = ℕ} 0x11 0x21 = cc in absurd (omega arith))
+      sees-only all-but-the-tag buffer-after accepts-it (first p) (of-tag-2 p) (fixes refusal (first p)) (fixes refusal (of-tag-2 p)) refl
+      (λ (e : ending (0x11 ∷ 5 ∷ []) ≡ ending (0x21 ∷ 5 ∷ [])). let d : _≡_ {A = ℕ} 0x11 0x21 = cc in absurd (omega arith))

@@ -2,25 +2,26 @@
 use Prim.Native.Nat.{ℕ, _-_}
 use mathlib.Core.List.{List, [], _∷_, _++_}
 use lib.ListN.{length, replicate}
-use Rattle.octets.specs.Number.{number}
-use Rattle.hproto_table.specs.Entry.{entry}
-use Rattle.hproto_table.specs.Load as loads
+use Rattle.hproto_table.specs.Load.{load}
 use Rattle.hproto_table.specs.declared.Table.{Table}
 use Rattle.hproto_state.specs.declared.State.{State}
 use Rattle.hproto_state.specs.declared.Written.{Written}
+use Rattle.wrong_programs.specs.Writer.{Outcome}
 
--- Tags 1 and 2 have this kind in messages of number 0. The inner number of a field of kind 5 is 0 too.
-unfoldable pub table : ℕ → Table
-unfolding loads.load loads.loadFrom loads.accepted loads.tableOf loads.wordsBefore loads.faulty loads.wellFormed loads.recordAt loads.wordAt
-    loads.inRange loads.seen loads.pair entry number
-table kind = loads.load (1 ∷ 0 ∷ 5 ∷ 0 ∷ 0 ∷ 1 ∷ kind ∷ 0 ∷ 1 ∷ 0 ∷ 5 ∷ 0 ∷ 0 ∷ 2 ∷ kind ∷ 0 ∷ []) .table
+-- The tags 1 and 2 have this kind in messages of the number 0. A message in them has the number 0 too.
+abbrev pub table : ℕ → Table
+table kind = load (1 ∷ 0 ∷ 5 ∷ 0 ∷ 0 ∷ 1 ∷ kind ∷ 0 ∷ 1 ∷ 0 ∷ 5 ∷ 0 ∷ 0 ∷ 2 ∷ kind ∷ 0 ∷ []) .table
 
 abbrev pub unused : List ℕ
 unused = replicate 6 0xaa
 
+-- The buffer with octets at its end.
+abbrev pub ending : List ℕ → List ℕ
+ending s = replicate (6 - length s) 0xaa ++ s
+
 -- A state by where the octets stored so far start, how many fields are open, and the marks and tags of the fields that were opened.
-abbrev pub stateOf : ℕ → ℕ → List ℕ → List ℕ → State
-stateOf start opened marks tags =
+abbrev pub state : ℕ → ℕ → List ℕ → List ℕ → State
+state start opened marks tags =
     record {
       length = 6;
       start = start;
@@ -31,8 +32,14 @@ stateOf start opened marks tags =
     }
 
 -- No field was opened. `start` gives the state at 6, as proofs/StartFinish.antt shows.
-abbrev pub stateAt : ℕ → State
-stateAt start = stateOf start 0 [] []
+abbrev pub state-at : ℕ → State
+state-at start = state start 0 [] []
 
 abbrev pub accepted : State → Written
 accepted s = record { refusal = 0; place = 0; state = s }
+
+abbrev pub refused : ℕ → State → Written
+refused number s = record { refusal = number; place = 0; state = s }
+
+abbrev pub outcome : Written → List ℕ → Outcome
+outcome answer buffer = record { answer = answer; buffer = buffer }

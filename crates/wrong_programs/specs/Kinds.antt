@@ -25,6 +25,10 @@ Rejects {A} refusal when program = (x : A) → when x → refusal (program x) �
 unfoldable pub Accepts : {A B : Type 0} → (B → ℕ) → (A → Type 0) → (A → B) → Type 0
 Accepts {A} refusal when program = (x : A) → when x → refusal (program x) ≡ 0
 
+-- The program accepts a call that has the property: one of them at least, whatever it answers to the others.
+unfoldable pub AcceptsSome : {A B : Type 0} → (B → ℕ) → (A → Type 0) → (A → B) → Type 0
+AcceptsSome {A} refusal when program = (x : A) × when x × (refusal (program x) ≡ 0)
+
 -- A part of the answer is what `invented` says, whatever else the program answers.
 unfoldable pub Invents : {A B C : Type 0} → (B → C) → (A → C) → (A → Type 0) → (A → B) → Type 0
 Invents {A} part invented when program = (x : A) → when x → part (program x) ≡ invented x
