@@ -1,14 +1,12 @@
 -- Wrong programs in the place of crudvim_check.
 use Prim.Native.Nat.{ℕ}
 use native.Mathlib.Omega.{arith}
-use mathlib.Core.Path.{_≡_, refl, ap, fun-ext}
+use mathlib.Core.Path.{_≡_, refl}
 use mathlib.Core.List.{List, [], _∷_}
 use lib.ListN.{length}
 use lib.Dec.{T, ltb}
 use Rattle.reading.specs.declared.Checked.{Checked}
 use Rattle.reading.specs.Checks as answers
-use Rattle.hproto_table.specs.declared.Table.{Table}
-use Rattle.hproto_calls.specs.Calls.{withTable}
 use Rattle.wrong_programs.specs.Kinds.{RuledOut, Rejects, Accepts, Invents, SeesOnly, Follows, always, due}
 use Rattle.wrong_programs.specs.Check.{CheckCall, check}
 use Rattle.wrong_programs.proofs.RulingOut.{Sample, given, rejects, accepts, invents, sees-only, follows}
@@ -178,9 +176,3 @@ pub place-of-the-outer-field : RuledOut (Invents place (λ (x : CheckCall). 0) c
 unfolding cut-inside
 place-of-the-outer-field =
     invents place (λ (x : CheckCall). 0) cut-in-a-field cut-inside ((0xf0, refl), refl) (λ (e : 1 ≡ 0). absurd (omega arith))
-
--- hproto_check::check, hproto_lookup::lookup and hproto_shorten::shorten are given a table value. Behind the loader a program that meets the
--- contract of one of them meets that of the entry, so what is ruled out for the entry is ruled out for them.
-pub behind-the-loader : {A : Type 0} (program right : Table → A) (octets message : List ℕ) (refuse : ℕ → ℕ → A)
-    → ((t : Table) → program t ≡ right t) → withTable octets message program refuse ≡ withTable octets message right refuse
-behind-the-loader {A} program right octets message refuse meets = ap (λ (under : Table → A). withTable octets message under refuse) (fun-ext meets)

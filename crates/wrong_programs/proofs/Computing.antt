@@ -58,8 +58,8 @@ use Rattle.wrong_programs.specs.Tib as tibs
 use Rattle.wrong_programs.specs.Reals as reals
 
 unfoldable pub hproto : Type 0
-unfolding kinds.always kinds.octets kinds.word kinds.words load.load check.fits check.check lookup.fits lookup.lookup lookup.lookupLast shorten.fits
-    shorten.shorten frameRead.frameRead frameWrite.fits frameWrite.frameWrite show.fits show.show find.fits find.find valid.fits valid.valid
+unfolding kinds.always kinds.below kinds.array kinds.octets kinds.word kinds.words kinds.table load.load check.fits check.check lookup.fits lookup.lookup lookup.lookupLast shorten.fits
+    shorten.shorten frameRead.frameRead frameWrite.fits frameWrite.frameWrite show.fits show.show find.fits find.find valid.valid
     loads.load loads.loadFrom loads.accepted loads.refused loads.tableOf loads.wordsBefore loads.faulty loads.wellFormed loads.recordAt loads.wordAt
     loads.inRange loads.seen loads.pair schemas.schema schemas.schemaOf entries.entry entries.entries entries.find entries.meaning entries.innerOf entries.kindNumber valids.valid
     valids.allInRange valids.allZero repeats.distinct octets.number octets.octetsOf octets.width octets.widthWithin octets.leastUint signs.integer
@@ -77,7 +77,7 @@ unfolding kinds.always kinds.octets kinds.word kinds.words load.load check.fits 
 hproto = Unit {0}
 
 unfoldable pub writer : Type 0
-unfolding hproto writing.below writing.array writing.tableFits writing.stateFits writing.startFits writing.intFits writing.Value writing.valueFits writing.putFits
+unfolding hproto writing.stateFits writing.startFits writing.intFits writing.Value writing.valueFits writing.putFits
     writing.openFits writing.closeFits writing.start writing.callOf writing.put writing.openField writing.closeField writing.finish
     writes.answer writes.buffer calls.orRefuse calls.answered calls.bufferAfter calls.level calls.meant calls.back calls.startRefusal
     calls.begun calls.started calls.putRefusal calls.put calls.putBuffer calls.ofOctets calls.readable calls.openRefusal calls.deeper calls.opening calls.closingPart
@@ -86,7 +86,7 @@ unfolding hproto writing.below writing.array writing.tableFits writing.stateFits
 writer = Unit {0}
 
 unfoldable pub tib : Type 0
-unfolding kinds.always kinds.octets kinds.word tibs.check tibs.fieldFits tibs.field reals.realFits reals.real reals.fractionsFits reals.fractions
+unfolding kinds.always kinds.below kinds.octets kinds.word tibs.check tibs.fieldFits tibs.field reals.realFits reals.real reals.fractionsFits reals.fractions
     onAccepted inOrder octets.number answers.counts answers.refusal marks.begins names.nameFront names.named names.closes names.afterName fields.placed
     kths.fieldOf kths.answerFor msgLayout.kind msgLayout.hinted msgLayout.sizeWidth msgLayout.isWidth msgLayout.sizeAllowed msgLayout.octets
     msgReading.typeAllowed msgReading.hintAt msgReading.hintFront msgReading.valueHint msgReading.withHint msgReading.fromData msgReading.fromSize

@@ -1,4 +1,5 @@
 pub mod RulingOut
+pub mod Faults
 pub mod Computing
 pub mod Witnesses
 pub mod Load
@@ -10,6 +11,7 @@ pub mod FrameWrite
 pub mod Show
 pub mod Find
 pub mod Valid
+pub mod TableValues
 pub mod TibMessages
 pub mod TibCheck
 pub mod TibField
@@ -19,3 +21,4 @@ pub mod WriterStates
 pub mod Puts
 pub mod Nesting
 pub mod StartFinish
+pub mod WriterFaults

@@ -3,7 +3,9 @@ use Prim.Native.Nat.{ℕ}
 use mathlib.Core.Path.{_≡_}
 use mathlib.Core.Bool.{Bool, true, _&&_}
 use mathlib.Core.List.{List, [], _∷_}
-use lib.Dec.{T, ltb}
+use lib.ListN.{length}
+use lib.Dec.{T, eqb, ltb}
+use Rattle.hproto_table.specs.declared.Table.{Table}
 
 -- No program of a kind meets the contract that its answer is `right`.
 unfoldable pub RuledOut : {A B : Type 0} → ((A → B) → Type 0) → (A → B) → Type 0
@@ -46,16 +48,24 @@ pub record Given {A : Type 0} (fits : A → Bool) : Type 0 where
   pub value : A
   pub in-range : T (fits value)
 
--- Numbers below 256.
-unfoldable pub octets : List ℕ → Bool
-octets [] = true
-octets (x ∷ s) = ltb x 256 && octets s
+-- Numbers below a limit, and so many of them.
+unfoldable pub below : ℕ → List ℕ → Bool
+below limit [] = true
+below limit (x ∷ s) = ltb x limit && below limit s
 
--- A number of 64 bits.
+unfoldable pub array : ℕ → ℕ → List ℕ → Bool
+array n limit s = eqb (length s) n && below limit s
+
+unfoldable pub octets : List ℕ → Bool
+octets s = below 256 s
+
+-- A number of 64 bits, and such numbers.
 unfoldable pub word : ℕ → Bool
 word n = ltb n 0x10000000000000000
 
--- Numbers of 64 bits.
 unfoldable pub words : List ℕ → Bool
-words [] = true
-words (x ∷ s) = word x && words s
+words s = below 0x10000000000000000 s
+
+-- A table value, as the code has it.
+unfoldable pub table : Table → Bool
+table t = word (t .count) && array 64 0x10000000000000000 (t .words)

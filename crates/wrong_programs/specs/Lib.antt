@@ -1,4 +1,5 @@
 pub mod Kinds
+pub mod Faults
 pub mod Load
 pub mod Check
 pub mod Lookup
@@ -8,6 +9,7 @@ pub mod FrameWrite
 pub mod Show
 pub mod Find
 pub mod Valid
+pub mod TableValues
 pub mod Tib
 pub mod Reals
 pub mod Writer

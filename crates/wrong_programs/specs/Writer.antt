@@ -1,8 +1,8 @@
 -- What the calls of the backward writer give, and the answers and buffers that their contracts fix.
 use Prim.Native.Nat.{ℕ}
-use mathlib.Core.Bool.{Bool, true, _&&_}
-use mathlib.Core.List.{List, [], _∷_}
-use lib.Dec.{eqb, ltb}
+use mathlib.Core.Bool.{Bool, _&&_}
+use mathlib.Core.List.{List}
+use lib.Dec.{ltb}
 use lib.IntN.{ℤ, pos, negsuc}
 use lib.ListN.{length}
 use Rattle.hproto_table.specs.declared.Table.{Table}
@@ -13,18 +13,7 @@ use Rattle.hproto_state.specs.declared.State.{State}
 use Rattle.hproto_state.specs.declared.Written.{Written}
 use Rattle.hproto_state.specs.declared.Finished.{Finished}
 use Rattle.wrong_programs.specs.Kinds as kinds
-use Rattle.wrong_programs.specs.Kinds.{Given, word}
-
--- So many numbers, all below a limit.
-unfoldable pub below : ℕ → List ℕ → Bool
-below limit [] = true
-below limit (x ∷ s) = ltb x limit && below limit s
-
-unfoldable pub array : ℕ → ℕ → List ℕ → Bool
-array n limit s = eqb (length s) n && below limit s
-
-unfoldable pub tableFits : Table → Bool
-tableFits t = word (t .count) && array 64 0x10000000000000000 (t .words)
+use Rattle.wrong_programs.specs.Kinds.{Given, word, array}
 
 unfoldable pub stateFits : State → Bool
 stateFits s =
@@ -39,7 +28,7 @@ pub record StartInput : Type 0 where
   pub buffer : List ℕ
 
 unfoldable pub startFits : StartInput → Bool
-startFits x = tableFits (x .table) && word (x .number) && kinds.octets (x .buffer)
+startFits x = kinds.table (x .table) && word (x .number) && kinds.octets (x .buffer)
 
 abbrev pub StartCall : Type 0
 StartCall = Given startFits
@@ -79,7 +68,7 @@ pub record PutInput (p : Put) : Type 0 where
 
 unfoldable pub putFits : (p : Put) → PutInput p → Bool
 putFits p x =
-    tableFits (x .table) && stateFits (x .state) && word (x .tag) && valueFits p (x .value) && kinds.octets (x .buffer)
+    kinds.table (x .table) && stateFits (x .state) && word (x .tag) && valueFits p (x .value) && kinds.octets (x .buffer)
 
 abbrev pub PutCall : Put → Type 0
 PutCall p = Given (putFits p)
@@ -111,7 +100,7 @@ pub record OpenInput : Type 0 where
   pub tag : ℕ
 
 unfoldable pub openFits : OpenInput → Bool
-openFits x = tableFits (x .table) && stateFits (x .state) && word (x .tag)
+openFits x = kinds.table (x .table) && stateFits (x .state) && word (x .tag)
 
 abbrev pub OpenCall : Type 0
 OpenCall = Given openFits
@@ -127,7 +116,7 @@ pub record CloseInput : Type 0 where
   pub buffer : List ℕ
 
 unfoldable pub closeFits : CloseInput → Bool
-closeFits x = tableFits (x .table) && stateFits (x .state) && kinds.octets (x .buffer)
+closeFits x = kinds.table (x .table) && stateFits (x .state) && kinds.octets (x .buffer)
 
 abbrev pub CloseCall : Type 0
 CloseCall = Given closeFits

@@ -1,0 +1,41 @@
+-- What a call gives that is given a table value, not its octets, and the answers that the contracts fix.
+use Prim.Native.Nat.{ℕ}
+use mathlib.Core.Bool.{Bool, _&&_}
+use mathlib.Core.List.{List}
+use Rattle.reading.specs.declared.Checked.{Checked}
+use Rattle.hproto_table.specs.declared.Table.{Table}
+use Rattle.hproto_check.specs.Check as checks
+use Rattle.hproto_lookup.specs.Lookup as lookups
+use Rattle.hproto_lookup.specs.declared.Found.{Found}
+use Rattle.hproto_shorten.specs.Shorten as shortens
+use Rattle.hproto_shorten.specs.declared.Shortened.{Shortened}
+use Rattle.wrong_programs.specs.Kinds.{Given, octets, word}
+use Rattle.wrong_programs.specs.Kinds as kinds
+
+-- All that one of the four entries is given. Each contract below is over a part of it: a program that looks at more is ruled out too.
+pub record ValueInput : Type 0 where
+  pub table : Table
+  pub number : ℕ
+  pub message : List ℕ
+  pub tag : ℕ
+  pub k : ℕ
+  pub out : List ℕ
+
+unfoldable pub fits : ValueInput → Bool
+fits x = kinds.table (x .table) && (word (x .number) && octets (x .message) && word (x .tag) && word (x .k) && octets (x .out))
+
+abbrev pub ValueCall : Type 0
+ValueCall = Given fits
+
+-- The contracts of hproto_check::check, hproto_lookup::lookup and lookup_last, and hproto_shorten::shorten.
+unfoldable pub check : ValueCall → Checked
+check x = checks.check (x .value .table) (x .value .number) (x .value .message)
+
+unfoldable pub lookup : ValueCall → Found
+lookup x = lookups.lookup (x .value .table) (x .value .number) (x .value .message) (x .value .tag) (x .value .k)
+
+unfoldable pub lookupLast : ValueCall → Found
+lookupLast x = lookups.lookupLast (x .value .table) (x .value .number) (x .value .message) (x .value .tag)
+
+unfoldable pub shorten : ValueCall → Shortened
+shorten x = shortens.answer (x .value .table) (x .value .number) (x .value .message) (x .value .out)
