@@ -1,10 +1,10 @@
 -- Wrong programs in the place of crudvim_check.
 use Prim.Native.Nat.{ℕ}
-use native.Mathlib.Omega.{arith}
 use mathlib.Core.Path.{_≡_, refl}
 use mathlib.Core.List.{List, [], _∷_}
 use lib.ListN.{length}
 use lib.Dec.{T, ltb}
+use borrow.Author.Tests.{eqb-false}
 use Rattle.reading.specs.declared.Checked.{Checked}
 use Rattle.reading.specs.Checks as answers
 use Rattle.wrong_programs.specs.Kinds.{RuledOut, Rejects, Accepts, Invents, SeesOnly, Follows, always, due}
@@ -111,7 +111,7 @@ rejects-eight-levels = rejects refusal (due check depth 8) eight-levels refl ref
 -- It accepts every call.
 pub accepts-all : RuledOut (Accepts refusal always) check
 unfolding past-the-end
-accepts-all = accepts refusal always past-the-end tt (λ (e : 4 ≡ 0). absurd (omega arith))
+accepts-all = accepts refusal always past-the-end tt (eqb-false 4 0 refl)
 
 -- It takes 16 as a message number.
 abbrev empty-under-16 : CheckCall → Type 0
@@ -119,7 +119,7 @@ empty-under-16 x = (x .value .table ≡ []) × (x .value .number ≡ 16) × (mes
 
 pub accepts-number-16 : RuledOut (Accepts refusal empty-under-16) check
 unfolding number-16
-accepts-number-16 = accepts refusal empty-under-16 number-16 (refl, refl, refl) (λ (e : 2 ≡ 0). absurd (omega arith))
+accepts-number-16 = accepts refusal empty-under-16 number-16 (refl, refl, refl) (eqb-false 2 0 refl)
 
 -- The count of fields of what it accepts, or the depth, is invented: it is the same each time, or is made from the length of the message.
 abbrev all-but-the-octets : CheckCall → List ℕ × ℕ × ℕ
@@ -127,20 +127,20 @@ all-but-the-octets x = (x .value .table, x .value .number, size x)
 
 pub depth-by-length : RuledOut (SeesOnly all-but-the-octets depth accepts-it) check
 unfolding nested of-tag-2
-depth-by-length = sees-only all-but-the-octets depth accepts-it nested of-tag-2 refl refl refl (λ (e : 2 ≡ 1). absurd (omega arith))
+depth-by-length = sees-only all-but-the-octets depth accepts-it nested of-tag-2 refl refl refl (eqb-false 2 1 refl)
 
 pub fields-by-length : RuledOut (SeesOnly all-but-the-octets fields accepts-it) check
 unfolding two-fields one-field
-fields-by-length = sees-only all-but-the-octets fields accepts-it two-fields one-field refl refl refl (λ (e : 2 ≡ 1). absurd (omega arith))
+fields-by-length = sees-only all-but-the-octets fields accepts-it two-fields one-field refl refl refl (eqb-false 2 1 refl)
 
 -- One of the two is made from the other: they are equal, or one more.
 pub fields-by-depth : RuledOut (Follows depth fields accepts-it) check
 unfolding two-fields one-field
-fields-by-depth = follows depth fields accepts-it two-fields one-field refl refl refl (λ (e : 2 ≡ 1). absurd (omega arith))
+fields-by-depth = follows depth fields accepts-it two-fields one-field refl refl refl (eqb-false 2 1 refl)
 
 pub depth-by-fields : RuledOut (Follows fields depth accepts-it) check
 unfolding nested raw
-depth-by-fields = follows fields depth accepts-it nested raw refl refl refl (λ (e : 2 ≡ 1). absurd (omega arith))
+depth-by-fields = follows fields depth accepts-it nested raw refl refl refl (eqb-false 2 1 refl)
 
 -- It takes the table to be the same each time, such as one with no entries.
 abbrev all-but-the-table : CheckCall → ℕ × List ℕ
@@ -148,7 +148,7 @@ all-but-the-table x = (x .value .number, message x)
 
 pub table-ignored : RuledOut (SeesOnly all-but-the-table depth accepts-it) check
 unfolding nested raw
-table-ignored = sees-only all-but-the-table depth accepts-it nested raw refl refl refl (λ (e : 2 ≡ 1). absurd (omega arith))
+table-ignored = sees-only all-but-the-table depth accepts-it nested raw refl refl refl (eqb-false 2 1 refl)
 
 -- It checks each message as one of the same number.
 abbrev all-but-the-number : CheckCall → List ℕ × List ℕ
@@ -156,8 +156,7 @@ all-but-the-number x = (x .value .table, message x)
 
 pub number-ignored : RuledOut (SeesOnly all-but-the-number depth accepts-it) check
 unfolding nested under-another-number
-number-ignored =
-    sees-only all-but-the-number depth accepts-it nested under-another-number refl refl refl (λ (e : 2 ≡ 1). absurd (omega arith))
+number-ignored = sees-only all-but-the-number depth accepts-it nested under-another-number refl refl refl (eqb-false 2 1 refl)
 
 -- Another number for a cut control part, and for contents past the end.
 pub cut-control-renumbered : (n : ℕ) → (3 ≡ n → ⊥) → RuledOut (Invents refusal (λ (x : CheckCall). n) (due check refusal 3)) check
@@ -174,5 +173,4 @@ cut-in-a-field x = ((c : ℕ) × (message x ≡ 0x11 ∷ c ∷ [])) × due check
 
 pub place-of-the-outer-field : RuledOut (Invents place (λ (x : CheckCall). 0) cut-in-a-field) check
 unfolding cut-inside
-place-of-the-outer-field =
-    invents place (λ (x : CheckCall). 0) cut-in-a-field cut-inside ((0xf0, refl), refl) (λ (e : 1 ≡ 0). absurd (omega arith))
+place-of-the-outer-field = invents place (λ (x : CheckCall). 0) cut-in-a-field cut-inside ((0xf0, refl), refl) (eqb-false 1 0 refl)

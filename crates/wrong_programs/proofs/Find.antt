@@ -1,12 +1,11 @@
 -- Wrong programs in the place of hproto_find::find.
 use Prim.Native.Nat.{ℕ}
-use native.Mathlib.Omega.{arith}
-use mathlib.Core.Path.{_≡_, refl}
+use mathlib.Core.Path.{refl}
 use mathlib.Core.List.{List, [], _∷_}
 use lib.ListN.{drop}
 use lib.Dec.{T, ltb}
+use borrow.Author.Tests.{eqb-false}
 use Rattle.hproto_table.specs.Entry.{kindNumber, innerOf}
-use Rattle.hproto_table.specs.declared.Meaning.{Meaning}
 use Rattle.hproto_table.specs.declared.Meaning.the-variants.{Raw, Uint, Int, Message}
 use Rattle.wrong_programs.specs.Kinds.{RuledOut, Invents, SeesOnly, always, due}
 use Rattle.wrong_programs.specs.Find.{FindInput, FindCall, find}
@@ -54,7 +53,7 @@ under-number-16 = given (searched (0x1000010100 ∷ []) 1 16 1) Uint tt refl
 -- It finds no entry: every tag is raw.
 pub finds-nothing : RuledOut (Invents kindNumber (λ (x : FindCall). 0) always) find
 unfolding uint
-finds-nothing = invents kindNumber (λ (x : FindCall). 0) always uint tt (λ (e : 1 ≡ 0). absurd (omega arith))
+finds-nothing = invents kindNumber (λ (x : FindCall). 0) always uint tt (eqb-false 1 0 refl)
 
 -- A number over 15 is raw even where a word has it.
 abbrev number-over-15 : FindCall → Type 0
@@ -62,7 +61,7 @@ number-over-15 x = T (ltb 15 (x .value .number))
 
 pub numbers-over-15-raw : RuledOut (Invents kindNumber (λ (x : FindCall). 0) number-over-15) find
 unfolding under-number-16
-numbers-over-15-raw = invents kindNumber (λ (x : FindCall). 0) number-over-15 under-number-16 tt (λ (e : 1 ≡ 0). absurd (omega arith))
+numbers-over-15-raw = invents kindNumber (λ (x : FindCall). 0) number-over-15 under-number-16 tt (eqb-false 1 0 refl)
 
 -- It does not look at the first word.
 abbrev all-but-the-first : FindCall → List ℕ × ℕ × ℕ × ℕ
@@ -70,7 +69,7 @@ all-but-the-first x = (drop 1 (x .value .words), x .value .count, x .value .numb
 
 pub first-ignored : RuledOut (SeesOnly all-but-the-first kindNumber always) find
 unfolding uint int
-first-ignored = sees-only all-but-the-first kindNumber always uint int tt tt refl (λ (e : 1 ≡ 2). absurd (omega arith))
+first-ignored = sees-only all-but-the-first kindNumber always uint int tt tt refl (eqb-false 1 2 refl)
 
 -- It gives each nested message the same number.
 abbrev finds-a-message : FindCall → Type 0
@@ -78,7 +77,7 @@ finds-a-message = due find kindNumber 5
 
 pub inner-ignored : RuledOut (SeesOnly all-but-the-first innerOf finds-a-message) find
 unfolding message-2 message-3
-inner-ignored = sees-only all-but-the-first innerOf finds-a-message message-2 message-3 refl refl refl (λ (e : 2 ≡ 3). absurd (omega arith))
+inner-ignored = sees-only all-but-the-first innerOf finds-a-message message-2 message-3 refl refl refl (eqb-false 2 3 refl)
 
 -- It looks at all words, whatever the count.
 abbrev all-but-the-count : FindCall → List ℕ × ℕ × ℕ
@@ -86,18 +85,18 @@ all-but-the-count x = (x .value .words, x .value .number, x .value .tag)
 
 pub count-ignored : RuledOut (SeesOnly all-but-the-count kindNumber always) find
 unfolding uint no-words
-count-ignored = sees-only all-but-the-count kindNumber always uint no-words tt tt refl (λ (e : 1 ≡ 0). absurd (omega arith))
+count-ignored = sees-only all-but-the-count kindNumber always uint no-words tt tt refl (eqb-false 1 0 refl)
 
 abbrev all-but-the-number : FindCall → List ℕ × ℕ × ℕ
 all-but-the-number x = (x .value .words, x .value .count, x .value .tag)
 
 pub number-ignored : RuledOut (SeesOnly all-but-the-number kindNumber always) find
 unfolding uint under-number-1
-number-ignored = sees-only all-but-the-number kindNumber always uint under-number-1 tt tt refl (λ (e : 1 ≡ 0). absurd (omega arith))
+number-ignored = sees-only all-but-the-number kindNumber always uint under-number-1 tt tt refl (eqb-false 1 0 refl)
 
 abbrev all-but-the-tag : FindCall → List ℕ × ℕ × ℕ
 all-but-the-tag x = (x .value .words, x .value .count, x .value .number)
 
 pub tag-ignored : RuledOut (SeesOnly all-but-the-tag kindNumber always) find
 unfolding uint of-tag-2
-tag-ignored = sees-only all-but-the-tag kindNumber always uint of-tag-2 tt tt refl (λ (e : 1 ≡ 0). absurd (omega arith))
+tag-ignored = sees-only all-but-the-tag kindNumber always uint of-tag-2 tt tt refl (eqb-false 1 0 refl)

@@ -1,14 +1,14 @@
 -- Wrong programs in the place of crudvim_fractions and tib_real::fractions.
 use Prim.Native.Nat.{ℕ, _%_, _^_}
-use native.Mathlib.Omega.{arith}
 use mathlib.Core.Path.{_≡_, refl}
 use mathlib.Core.Bool.{true}
 use lib.IntN.{ℤ, pos, _+ℤ_}
+use borrow.Author.Tests.{eqb-false}
 use Rattle.tib_real.specs.InFractions.{accepted, refused, inFractions}
 use Rattle.tib_real.specs.declared.types.Fractions.{Fractions}
 use Rattle.wrong_programs.specs.Kinds.{RuledOut, Rejects, Accepts, Invents, SeesOnly, always, due}
 use Rattle.wrong_programs.specs.Reals.{FractionsInput, FractionsCall, fractions}
-use Rattle.wrong_programs.proofs.RulingOut.{Sample, given, rejects, accepts, invents, sees-only}
+use Rattle.wrong_programs.proofs.RulingOut.{Sample, given, rejects, accepts, invents, sees-only, pos-differ}
 use Rattle.wrong_programs.proofs.Computing.{tib}
 
 abbrev hinted : ℕ → ℕ → FractionsInput
@@ -51,7 +51,7 @@ not-zero x = x .value .bits % 2 ^ 63 ≡ 0 → ⊥
 
 pub rejects-all : RuledOut (Rejects refusal not-zero) fractions
 unfolding quarters
-rejects-all = rejects refusal not-zero quarters (λ (e : 0x400a000000000000 ≡ 0). absurd (omega arith)) refl
+rejects-all = rejects refusal not-zero quarters (eqb-false 0x400a000000000000 0 refl) refl
 
 -- It rejects minus zero.
 abbrev is-minus-zero : FractionsCall → Type 0
@@ -67,27 +67,21 @@ whole-with-hint-0 x = (x .value .hinted ≡ true) × (x .value .hint ≡ 0) × (
 
 pub accepts-hint-0 : RuledOut (Accepts refusal whole-with-hint-0) fractions
 unfolding hint-0
-accepts-hint-0 = accepts refusal whole-with-hint-0 hint-0 (refl, refl, refl) (λ (e : 17 ≡ 0). absurd (omega arith))
+accepts-hint-0 = accepts refusal whole-with-hint-0 hint-0 (refl, refl, refl) (eqb-false 17 0 refl)
 
 -- Every answer is 0.
 pub answers-0 : RuledOut (Invents number (λ (x : FractionsCall). pos 0) always) fractions
 unfolding quarters
-answers-0 =
-    invents number (λ (x : FractionsCall). pos 0) always quarters tt
-    (λ (e : pos 13 ≡ pos 0). let d : _≡_ {A = ℕ} 13 0 = cc in absurd (omega arith))
+answers-0 = invents number (λ (x : FractionsCall). pos 0) always quarters tt (pos-differ 13 0 refl)
 
 -- The answer is the same each time, or is made from the hint, or from the bits.
 pub bits-ignored : RuledOut (SeesOnly (λ (x : FractionsCall). x .value .hint) number accepts-it) fractions
 unfolding quarters one
-bits-ignored =
-    sees-only (λ (x : FractionsCall). x .value .hint) number accepts-it quarters one refl refl refl
-    (λ (e : pos 13 ≡ pos 4). let d : _≡_ {A = ℕ} 13 4 = cc in absurd (omega arith))
+bits-ignored = sees-only (λ (x : FractionsCall). x .value .hint) number accepts-it quarters one refl refl refl (pos-differ 13 4 refl)
 
 pub hint-ignored : RuledOut (SeesOnly (λ (x : FractionsCall). x .value .bits) number accepts-it) fractions
 unfolding quarters eighths
-hint-ignored =
-    sees-only (λ (x : FractionsCall). x .value .bits) number accepts-it quarters eighths refl refl refl
-    (λ (e : pos 13 ≡ pos 26). let d : _≡_ {A = ℕ} 13 26 = cc in absurd (omega arith))
+hint-ignored = sees-only (λ (x : FractionsCall). x .value .bits) number accepts-it quarters eighths refl refl refl (pos-differ 13 26 refl)
 
 -- The product is by 2 ^ (h + 1), twice the number that there should be.
 abbrev doubled : FractionsCall → ℤ
@@ -95,5 +89,4 @@ doubled x = fractions x .value +ℤ fractions x .value
 
 pub next-power : RuledOut (Invents number doubled accepts-it) fractions
 unfolding quarters
-next-power =
-    invents number doubled accepts-it quarters refl (λ (e : pos 13 ≡ pos 26). let d : _≡_ {A = ℕ} 13 26 = cc in absurd (omega arith))
+next-power = invents number doubled accepts-it quarters refl (pos-differ 13 26 refl)

@@ -1,10 +1,10 @@
 -- Wrong programs in the place of crudvim_frame_read.
 use Prim.Native.Nat.{ℕ}
-use native.Mathlib.Omega.{arith}
 use mathlib.Core.Path.{_≡_, refl}
-use mathlib.Core.List.{List, [], _∷_}
+use mathlib.Core.List.{[], _∷_}
 use lib.ListN.{length, getD}
 use lib.Dec.{T, ltb}
+use borrow.Author.Tests.{eqb-false}
 use Rattle.hproto_frame.specs.Frame.{readRefused, readAccepted}
 use Rattle.hproto_frame.specs.declared.FrameRead.{FrameRead}
 use Rattle.wrong_programs.specs.Kinds.{RuledOut, Rejects, Accepts, Invents, SeesOnly, always, due}
@@ -78,7 +78,7 @@ rejects-longer-prefix = rejects refusal size-0-after-fc longer-prefix (refl, ref
 -- It accepts every call, or at least contents past the end.
 pub accepts-all : RuledOut (Accepts refusal (due frameRead refusal 4)) frameRead
 unfolding past-the-end
-accepts-all = accepts refusal (due frameRead refusal 4) past-the-end refl (λ (e : 4 ≡ 0). absurd (omega arith))
+accepts-all = accepts refusal (due frameRead refusal 4) past-the-end refl (eqb-false 4 0 refl)
 
 -- Another number for a cut prefix, and for a size over the limit, such as 4, since it is past the end too.
 pub cut-prefix-renumbered : (n : ℕ) → (3 ≡ n → ⊥) → RuledOut (Invents refusal (λ (x : FrameReadCall). n) (due frameRead refusal 3)) frameRead
@@ -98,13 +98,13 @@ direct-prefix x = due frameRead start 1 x
 
 pub prefix-counted : RuledOut (Invents end (λ (x : FrameReadCall). getD (x .value) 0 0) direct-prefix) frameRead
 unfolding one-octet
-prefix-counted = invents end (λ (x : FrameReadCall). getD (x .value) 0 0) direct-prefix one-octet refl (λ (e : 2 ≡ 1). absurd (omega arith))
+prefix-counted = invents end (λ (x : FrameReadCall). getD (x .value) 0 0) direct-prefix one-octet refl (eqb-false 2 1 refl)
 
 -- The message starts, or ends, at the same place each time, or at one that depends on the length of the buffer alone.
 pub start-by-length : RuledOut (SeesOnly size start accepts-it) frameRead
 unfolding one-octet longer-prefix
-start-by-length = sees-only size start accepts-it one-octet longer-prefix refl refl refl (λ (e : 1 ≡ 2). absurd (omega arith))
+start-by-length = sees-only size start accepts-it one-octet longer-prefix refl refl refl (eqb-false 1 2 refl)
 
 pub end-by-length : RuledOut (SeesOnly size end accepts-it) frameRead
 unfolding one-octet octet-after
-end-by-length = sees-only size end accepts-it one-octet octet-after refl refl refl (λ (e : 2 ≡ 1). absurd (omega arith))
+end-by-length = sees-only size end accepts-it one-octet octet-after refl refl refl (eqb-false 2 1 refl)

@@ -1,11 +1,11 @@
 -- Wrong programs in the place of crudvim_frame_write.
 use Prim.Native.Nat.{ℕ, _+_}
-use native.Mathlib.Omega.{arith}
 use mathlib.Core.Path.{_≡_, refl}
 use mathlib.Core.List.{List, [], _∷_}
 use lib.ListN.{getD, replicate}
 use lib.ListN as lists
 use lib.Dec.{T, ltb}
+use borrow.Author.Tests.{eqb-false}
 use Rattle.hproto_frame.specs.Frame.{writeRefused}
 use Rattle.hproto_frame.specs.declared.FrameWritten.{FrameWritten}
 use Rattle.wrong_programs.specs.Kinds.{RuledOut, Rejects, Accepts, Invents, SeesOnly, always, due}
@@ -72,7 +72,7 @@ rejects-full-buffer = rejects refusal fills exact-room refl refl
 -- It accepts every call, or at least a message for which there is no room.
 pub accepts-all : RuledOut (Accepts refusal (due frameWrite refusal 9)) frameWrite
 unfolding no-room
-accepts-all = accepts refusal (due frameWrite refusal 9) no-room refl (λ (e : 9 ≡ 0). absurd (omega arith))
+accepts-all = accepts refusal (due frameWrite refusal 9) no-room refl (eqb-false 9 0 refl)
 
 -- The length that it answers is that of the message.
 abbrev size : FrameWriteCall → ℕ
@@ -80,7 +80,7 @@ size x = lists.length (x .value .message)
 
 pub length-of-the-message : RuledOut (Invents (λ (a : Answer). a .0 .length) size accepts-it) frameWrite
 unfolding five
-length-of-the-message = invents (λ (a : Answer). a .0 .length) size accepts-it five refl (λ (e : 2 ≡ 1). absurd (omega arith))
+length-of-the-message = invents (λ (a : Answer). a .0 .length) size accepts-it five refl (eqb-false 2 1 refl)
 
 -- The size in the prefix counts the prefix too. A message of 252 octets is the least whose size stands after the first octet.
 abbrev prefix-of-two : FrameWriteCall → Type 0
@@ -88,7 +88,7 @@ prefix-of-two x = (size x ≡ 252) × accepts-it x
 
 pub prefix-counted : RuledOut (Invents (octet 1) (λ (x : FrameWriteCall). size x + 2) prefix-of-two) frameWrite
 unfolding of-252
-prefix-counted = invents (octet 1) (λ (x : FrameWriteCall). size x + 2) prefix-of-two of-252 (refl, refl) (λ (e : 252 ≡ 254). absurd (omega arith))
+prefix-counted = invents (octet 1) (λ (x : FrameWriteCall). size x + 2) prefix-of-two of-252 (refl, refl) (eqb-false 252 254 refl)
 
 -- It stores the message with no prefix.
 abbrev has-octets : FrameWriteCall → Type 0
@@ -96,12 +96,12 @@ has-octets x = accepts-it x × T (ltb 0 (size x))
 
 pub copies-its-input : RuledOut (Invents (octet 0) (λ (x : FrameWriteCall). getD (x .value .message) 0 0) has-octets) frameWrite
 unfolding five
-copies-its-input = invents (octet 0) (λ (x : FrameWriteCall). getD (x .value .message) 0 0) has-octets five (refl, tt) (λ (e : 1 ≡ 5). absurd (omega arith))
+copies-its-input = invents (octet 0) (λ (x : FrameWriteCall). getD (x .value .message) 0 0) has-octets five (refl, tt) (eqb-false 1 5 refl)
 
 -- It stores nothing.
 pub stores-nothing : RuledOut (Invents (octet 0) (λ (x : FrameWriteCall). getD (x .value .out) 0 0) accepts-it) frameWrite
 unfolding five
-stores-nothing = invents (octet 0) (λ (x : FrameWriteCall). getD (x .value .out) 0 0) accepts-it five refl (λ (e : 1 ≡ 9). absurd (omega arith))
+stores-nothing = invents (octet 0) (λ (x : FrameWriteCall). getD (x .value .out) 0 0) accepts-it five refl (eqb-false 1 9 refl)
 
 -- It stores the same octets for each message of a size.
 abbrev size-and-buffer : FrameWriteCall → ℕ × List ℕ
@@ -109,7 +109,7 @@ size-and-buffer x = (size x, x .value .out)
 
 pub octets-by-length : RuledOut (SeesOnly size-and-buffer (octet 1) accepts-it) frameWrite
 unfolding five six
-octets-by-length = sees-only size-and-buffer (octet 1) accepts-it five six refl refl refl (λ (e : 5 ≡ 6). absurd (omega arith))
+octets-by-length = sees-only size-and-buffer (octet 1) accepts-it five six refl refl refl (eqb-false 5 6 refl)
 
 -- It does not leave the rest of the buffer: of what stands in that it sees only the length.
 abbrev message-and-room : FrameWriteCall → List ℕ × ℕ
@@ -117,4 +117,4 @@ message-and-room x = (x .value .message, lists.length (x .value .out))
 
 pub rest-not-left : RuledOut (SeesOnly message-and-room (octet 2) accepts-it) frameWrite
 unfolding five five-into-eights
-rest-not-left = sees-only message-and-room (octet 2) accepts-it five five-into-eights refl refl refl (λ (e : 9 ≡ 8). absurd (omega arith))
+rest-not-left = sees-only message-and-room (octet 2) accepts-it five five-into-eights refl refl refl (eqb-false 9 8 refl)

@@ -1,9 +1,9 @@
 -- Wrong programs in the place of the loader.
 use Prim.Native.Nat.{ℕ, _%_}
-use native.Mathlib.Omega.{arith}
 use mathlib.Core.Path.{_≡_, refl}
-use mathlib.Core.List.{List, [], _∷_, _++_}
+use mathlib.Core.List.{[], _∷_, _++_}
 use lib.ListN.{length, getD}
+use borrow.Author.Tests.{eqb-false}
 use Rattle.hproto_table.specs.Load as loads
 use Rattle.hproto_table.specs.declared.Loaded.{Loaded}
 use Rattle.wrong_programs.specs.Kinds.{RuledOut, Rejects, Accepts, Invents, SeesOnly, always, due}
@@ -47,12 +47,12 @@ rejects-message-0 = rejects refusal first-holds-message-0 one-message refl refl
 -- It accepts every call.
 pub accepts-all : RuledOut (Accepts refusal always) load
 unfolding repeated
-accepts-all = accepts refusal always repeated tt (λ (e : 2 ≡ 0). absurd (omega arith))
+accepts-all = accepts refusal always repeated tt (eqb-false 2 0 refl)
 
 -- The place of every fault is 0.
 pub place-dropped : RuledOut (Invents (λ (l : Loaded). l .place) (λ (x : LoadCall). 0) always) load
 unfolding repeated
-place-dropped = invents (λ (l : Loaded). l .place) (λ (x : LoadCall). 0) always repeated tt (λ (e : 8 ≡ 0). absurd (omega arith))
+place-dropped = invents (λ (l : Loaded). l .place) (λ (x : LoadCall). 0) always repeated tt (eqb-false 8 0 refl)
 
 -- It gives a table with no entries.
 abbrev count : Loaded → ℕ
@@ -60,7 +60,7 @@ count l = l .table .count
 
 pub records-dropped : RuledOut (Invents count (λ (x : LoadCall). 0) accepts-it) load
 unfolding one-uint
-records-dropped = invents count (λ (x : LoadCall). 0) accepts-it one-uint refl (λ (e : 1 ≡ 0). absurd (omega arith))
+records-dropped = invents count (λ (x : LoadCall). 0) accepts-it one-uint refl (eqb-false 1 0 refl)
 
 -- It gives the same words each time, or the same for each count of records.
 abbrev size : LoadCall → ℕ
@@ -71,4 +71,4 @@ first-word l = getD (l .table .words) 0 0
 
 pub words-by-length : RuledOut (SeesOnly size first-word accepts-it) load
 unfolding one-uint one-message
-words-by-length = sees-only size first-word accepts-it one-uint one-message refl refl refl (λ (e : 0x10100 ≡ 0x10500). absurd (omega arith))
+words-by-length = sees-only size first-word accepts-it one-uint one-message refl refl refl (eqb-false 0x10100 0x10500 refl)

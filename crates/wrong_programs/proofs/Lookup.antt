@@ -1,18 +1,18 @@
 -- Wrong programs in the place of crudvim_lookup and crudvim_lookup_last.
 use Prim.Native.Nat.{ℕ}
-use native.Mathlib.Omega.{arith}
-use mathlib.Core.Path.{_≡_, refl}
+use mathlib.Core.Path.{refl}
 use mathlib.Core.List.{List, [], _∷_}
 use lib.ListN.{length}
 use lib.IntN.{ℤ, pos}
 use lib.Dec.{T, ltb}
+use borrow.Author.Tests.{eqb-false}
 use Rattle.hproto_lookup.specs.Lookup as lookups
 use Rattle.hproto_lookup.specs.declared.Found.{Found}
 use Rattle.hproto_calls.specs.Calls.{lookupOctets}
 use Rattle.wrong_programs.specs.Kinds.{RuledOut, Rejects, Accepts, Invents, SeesOnly, always, due}
 use Rattle.wrong_programs.specs.Check.{CheckInput}
 use Rattle.wrong_programs.specs.Lookup.{LookupInput, LookupCall, lookup, lookupLast}
-use Rattle.wrong_programs.proofs.RulingOut.{Sample, given, rejects, accepts, invents, sees-only}
+use Rattle.wrong_programs.proofs.RulingOut.{Sample, given, rejects, accepts, invents, sees-only, pos-differ}
 use Rattle.wrong_programs.proofs.Computing.{hproto}
 use Rattle.wrong_programs.proofs.Witnesses.{uints, ints, asked}
 
@@ -149,20 +149,20 @@ last-rejects-tags-over-15 = rejects refusal tag-over-15 last-of-tag-16 tt refl
 -- It accepts every call, or at least contents past the end.
 pub accepts-all : RuledOut (Accepts refusal (due lookup refusal 4)) lookup
 unfolding past-the-end
-accepts-all = accepts refusal (due lookup refusal 4) past-the-end refl (λ (e : 4 ≡ 0). absurd (omega arith))
+accepts-all = accepts refusal (due lookup refusal 4) past-the-end refl (eqb-false 4 0 refl)
 
 pub last-accepts-all : RuledOut (Accepts refusal (due lookupLast refusal 4)) lookupLast
 unfolding last-past-the-end
-last-accepts-all = accepts refusal (due lookupLast refusal 4) last-past-the-end refl (λ (e : 4 ≡ 0). absurd (omega arith))
+last-accepts-all = accepts refusal (due lookupLast refusal 4) last-past-the-end refl (eqb-false 4 0 refl)
 
 -- It accepts a call where there is no such field.
 pub absent-accepted : RuledOut (Accepts refusal (due lookup refusal 18)) lookup
 unfolding no-third
-absent-accepted = accepts refusal (due lookup refusal 18) no-third refl (λ (e : 18 ≡ 0). absurd (omega arith))
+absent-accepted = accepts refusal (due lookup refusal 18) no-third refl (eqb-false 18 0 refl)
 
 pub last-absent-accepted : RuledOut (Accepts refusal (due lookupLast refusal 18)) lookupLast
 unfolding last-of-tag-3
-last-absent-accepted = accepts refusal (due lookupLast refusal 18) last-of-tag-3 refl (λ (e : 18 ≡ 0). absurd (omega arith))
+last-absent-accepted = accepts refusal (due lookupLast refusal 18) last-of-tag-3 refl (eqb-false 18 0 refl)
 
 -- It gives the same field for each k.
 abbrev all-but-k : LookupCall → CheckInput × ℕ
@@ -170,7 +170,7 @@ all-but-k x = (x .value .within, x .value .tag)
 
 pub k-ignored : RuledOut (SeesOnly all-but-k start accepts-it) lookup
 unfolding first second
-k-ignored = sees-only all-but-k start accepts-it first second refl refl refl (λ (e : 1 ≡ 3). absurd (omega arith))
+k-ignored = sees-only all-but-k start accepts-it first second refl refl refl (eqb-false 1 3 refl)
 
 -- It gives the first field for the last one.
 abbrev start-of-the-first : LookupCall → ℕ
@@ -178,7 +178,7 @@ start-of-the-first x = lookupOctets (x .value .within .table) (x .value .within 
 
 pub first-for-last : RuledOut (Invents start start-of-the-first last-accepts-it) lookupLast
 unfolding last
-first-for-last = invents start start-of-the-first last-accepts-it last refl (λ (e : 3 ≡ 1). absurd (omega arith))
+first-for-last = invents start start-of-the-first last-accepts-it last refl (eqb-false 3 1 refl)
 
 -- It gives the same field for each tag.
 abbrev all-but-the-tag : LookupCall → CheckInput × ℕ
@@ -186,11 +186,11 @@ all-but-the-tag x = (x .value .within, x .value .k)
 
 pub tag-ignored : RuledOut (SeesOnly all-but-the-tag start accepts-it) lookup
 unfolding first of-tag-2
-tag-ignored = sees-only all-but-the-tag start accepts-it first of-tag-2 refl refl refl (λ (e : 1 ≡ 5). absurd (omega arith))
+tag-ignored = sees-only all-but-the-tag start accepts-it first of-tag-2 refl refl refl (eqb-false 1 5 refl)
 
 pub last-tag-ignored : RuledOut (SeesOnly all-but-the-tag start last-accepts-it) lookupLast
 unfolding last last-of-tag-2
-last-tag-ignored = sees-only all-but-the-tag start last-accepts-it last last-of-tag-2 refl refl refl (λ (e : 3 ≡ 5). absurd (omega arith))
+last-tag-ignored = sees-only all-but-the-tag start last-accepts-it last last-of-tag-2 refl refl refl (eqb-false 3 5 refl)
 
 -- It gives a kind that does not depend on the table, or on the message number.
 abbrev all-but-the-table : LookupCall → ℕ × List ℕ × ℕ × ℕ
@@ -198,42 +198,39 @@ all-but-the-table x = (x .value .within .number, x .value .within .message, x .v
 
 pub table-ignored : RuledOut (SeesOnly all-but-the-table kind accepts-it) lookup
 unfolding first first-int
-table-ignored = sees-only all-but-the-table kind accepts-it first first-int refl refl refl (λ (e : 1 ≡ 2). absurd (omega arith))
+table-ignored = sees-only all-but-the-table kind accepts-it first first-int refl refl refl (eqb-false 1 2 refl)
 
 pub last-table-ignored : RuledOut (SeesOnly all-but-the-table kind last-accepts-it) lookupLast
 unfolding last last-int
-last-table-ignored = sees-only all-but-the-table kind last-accepts-it last last-int refl refl refl (λ (e : 1 ≡ 2). absurd (omega arith))
+last-table-ignored = sees-only all-but-the-table kind last-accepts-it last last-int refl refl refl (eqb-false 1 2 refl)
 
 abbrev all-but-the-number : LookupCall → List ℕ × List ℕ × ℕ × ℕ
 all-but-the-number x = (x .value .within .table, x .value .within .message, x .value .tag, x .value .k)
 
 pub number-ignored : RuledOut (SeesOnly all-but-the-number kind accepts-it) lookup
 unfolding first under-number-1
-number-ignored = sees-only all-but-the-number kind accepts-it first under-number-1 refl refl refl (λ (e : 1 ≡ 0). absurd (omega arith))
+number-ignored = sees-only all-but-the-number kind accepts-it first under-number-1 refl refl refl (eqb-false 1 0 refl)
 
 pub last-number-ignored : RuledOut (SeesOnly all-but-the-number kind last-accepts-it) lookupLast
 unfolding last last-under-number-1
-last-number-ignored = sees-only all-but-the-number kind last-accepts-it last last-under-number-1 refl refl refl (λ (e : 1 ≡ 0). absurd (omega arith))
+last-number-ignored = sees-only all-but-the-number kind last-accepts-it last last-under-number-1 refl refl refl (eqb-false 1 0 refl)
 
 -- It gives the same number or the same place each time, or one made from the length of the message.
 abbrev all-but-the-octets : LookupCall → List ℕ × ℕ × ℕ × ℕ × ℕ
-all-but-the-octets x =
-    (x .value .within .table, x .value .within .number, length (x .value .within .message), x .value .tag, x .value .k)
+all-but-the-octets x = (x .value .within .table, x .value .within .number, length (x .value .within .message), x .value .tag, x .value .k)
 
 pub number-by-length : RuledOut (SeesOnly all-but-the-octets number accepts-it) lookup
 unfolding first behind-tag-2
-number-by-length = sees-only all-but-the-octets number accepts-it first behind-tag-2 refl refl refl (λ (e : 42 ≡ 7). absurd (omega arith))
+number-by-length = sees-only all-but-the-octets number accepts-it first behind-tag-2 refl refl refl (eqb-false 42 7 refl)
 
 pub signed-by-length : RuledOut (SeesOnly all-but-the-octets (λ (f : Found). f .signed) accepts-it) lookup
 unfolding first-int int-behind-tag-2
-signed-by-length =
-    sees-only all-but-the-octets (λ (f : Found). f .signed) accepts-it first-int int-behind-tag-2 refl refl refl
-    (λ (e : pos 42 ≡ pos 7). let d : _≡_ {A = ℕ} 42 7 = cc in absurd (omega arith))
+signed-by-length = sees-only all-but-the-octets (λ (f : Found). f .signed) accepts-it first-int int-behind-tag-2 refl refl refl (pos-differ 42 7 refl)
 
 pub start-by-length : RuledOut (SeesOnly all-but-the-octets start accepts-it) lookup
 unfolding first behind-tag-2
-start-by-length = sees-only all-but-the-octets start accepts-it first behind-tag-2 refl refl refl (λ (e : 1 ≡ 3). absurd (omega arith))
+start-by-length = sees-only all-but-the-octets start accepts-it first behind-tag-2 refl refl refl (eqb-false 1 3 refl)
 
 pub last-number-by-length : RuledOut (SeesOnly all-but-the-octets number last-accepts-it) lookupLast
 unfolding last last-before-tag-2
-last-number-by-length = sees-only all-but-the-octets number last-accepts-it last last-before-tag-2 refl refl refl (λ (e : 7 ≡ 42). absurd (omega arith))
+last-number-by-length = sees-only all-but-the-octets number last-accepts-it last last-before-tag-2 refl refl refl (eqb-false 7 42 refl)

@@ -1,16 +1,16 @@
 -- Wrong programs in the place of open_field and close_field.
-use Prim.Native.Nat.{ℕ, _*_}
-use native.Mathlib.Omega.{arith}
-use mathlib.Core.Path.{_≡_, refl}
+use Prim.Native.Nat.{ℕ}
+use mathlib.Core.Path.{refl}
 use mathlib.Core.List.{List, [], _∷_}
 use lib.ListN.{getD}
 use lib.Dec.{T, ltb}
+use borrow.Author.Tests.{eqb-false}
 use Rattle.hproto_table.specs.declared.Table.{Table}
 use Rattle.hproto_state.specs.declared.State.{State}
 use Rattle.hproto_state.specs.declared.Written.{Written}
 use Rattle.wrong_programs.specs.Kinds.{RuledOut, Rejects, Accepts, Invents, SeesOnly, always, due}
 use Rattle.wrong_programs.specs.Writer.{OpenInput, OpenCall, CloseInput, CloseCall, Outcome, openField, closeField}
-use Rattle.wrong_programs.proofs.RulingOut.{Sample, given, rejects, accepts, invents, sees-only}
+use Rattle.wrong_programs.proofs.RulingOut.{Sample, given, rejects, accepts, invents, sees-only, differ-at}
 use Rattle.wrong_programs.proofs.Computing.{writer}
 use Rattle.wrong_programs.proofs.WriterStates.{table, unused, ending, state, state-at, accepted, refused, outcome}
 
@@ -62,7 +62,7 @@ open-rejects-inside = rejects open-refusal is-inside open-inside tt refl
 -- It accepts every call.
 pub open-accepts-all : RuledOut (Accepts open-refusal always) openField
 unfolding open-3
-open-accepts-all = accepts open-refusal always open-3 tt (λ (e : 8 ≡ 0). absurd (omega arith))
+open-accepts-all = accepts open-refusal always open-3 tt (eqb-false 8 0 refl)
 
 -- It hands back the state as it was given: no more fields are open than before.
 abbrev open-before : OpenCall → ℕ
@@ -70,7 +70,7 @@ open-before x = x .value .state .opened
 
 pub open-state-unchanged : RuledOut (Invents (λ (r : Written). r .state .opened) open-before always) openField
 unfolding open-1
-open-state-unchanged = invents (λ (r : Written). r .state .opened) open-before always open-1 tt (λ (e : 1 ≡ 0). absurd (omega arith))
+open-state-unchanged = invents (λ (r : Written). r .state .opened) open-before always open-1 tt (eqb-false 1 0 refl)
 
 -- It notes the same tag for each field.
 abbrev all-but-the-tag : OpenCall → Table × State
@@ -81,8 +81,7 @@ tag-noted r = getD (r .state .tags) 0 0
 
 pub open-tag-ignored : RuledOut (SeesOnly all-but-the-tag tag-noted (due openField open-refusal 0)) openField
 unfolding open-1 open-2
-open-tag-ignored =
-    sees-only all-but-the-tag tag-noted (due openField open-refusal 0) open-1 open-2 refl refl refl (λ (e : 1 ≡ 2). absurd (omega arith))
+open-tag-ignored = sees-only all-but-the-tag tag-noted (due openField open-refusal 0) open-1 open-2 refl refl refl (eqb-false 1 2 refl)
 
 -- ---- close_field
 
@@ -143,20 +142,16 @@ close-rejects-later = rejects refusal has-octets close-outer tt refl
 -- It accepts every call.
 pub close-accepts-all : RuledOut (Accepts refusal always) closeField
 unfolding none-open
-close-accepts-all = accepts refusal always none-open tt (λ (e : 11 ≡ 0). absurd (omega arith))
+close-accepts-all = accepts refusal always none-open tt (eqb-false 11 0 refl)
 
 -- It stores nothing, or nothing where octets are stored already.
 pub close-stores-nothing : RuledOut (Invents buffer-after buffer-before always) closeField
 unfolding close-1
-close-stores-nothing =
-    invents buffer-after buffer-before always close-1 tt
-    (λ (e : ending (0x10 ∷ []) ≡ unused). let d : _≡_ {A = ℕ} 0x10 0xaa = cc in absurd (omega arith))
+close-stores-nothing = invents buffer-after buffer-before always close-1 tt (differ-at 5 refl)
 
 pub close-stores-only-the-first : RuledOut (Invents buffer-after buffer-before has-octets) closeField
 unfolding close-outer
-close-stores-only-the-first =
-    invents buffer-after buffer-before has-octets close-outer tt
-    (λ (e : ending (0x11 ∷ 0x10 ∷ []) ≡ ending (0x10 ∷ [])). let d : _≡_ {A = ℕ} 0x11 0xaa = cc in absurd (omega arith))
+close-stores-only-the-first = invents buffer-after buffer-before has-octets close-outer tt (differ-at 4 refl)
 
 -- The closed field stays open.
 abbrev open-first : CloseCall → ℕ
@@ -164,8 +159,7 @@ open-first x = x .value .state .opened
 
 pub close-stays-open : RuledOut (Invents (λ (r : Outcome). r .answer .state .opened) open-first always) closeField
 unfolding close-1
-close-stays-open =
-    invents (λ (r : Outcome). r .answer .state .opened) open-first always close-1 tt (λ (e : 0 ≡ 1). absurd (omega arith))
+close-stays-open = invents (λ (r : Outcome). r .answer .state .opened) open-first always close-1 tt (eqb-false 0 1 refl)
 
 -- It stores the same for each tag.
 abbrev all-but-the-tags : CloseCall → Table × List ℕ × List ℕ × List ℕ
@@ -175,9 +169,7 @@ all-but-the-tags x =
 
 pub close-tag-ignored : RuledOut (SeesOnly all-but-the-tags buffer-after accepts-it) closeField
 unfolding close-1 close-2
-close-tag-ignored =
-    sees-only all-but-the-tags buffer-after accepts-it close-1 close-2 refl refl refl
-    (λ (e : ending (0x10 ∷ []) ≡ ending (0x20 ∷ [])). let d : _≡_ {A = ℕ} 0x10 0x20 = cc in absurd (omega arith))
+close-tag-ignored = sees-only all-but-the-tags buffer-after accepts-it close-1 close-2 refl refl refl (differ-at 5 refl)
 
 -- The length in the control octet does not depend on what was stored since the open.
 abbrev tag-of : CloseCall → ℕ
@@ -188,4 +180,4 @@ control-octet r = getD (r .buffer) (r .answer .state .start) 0
 
 pub close-length-ignored : RuledOut (SeesOnly tag-of control-octet accepts-it) closeField
 unfolding close-1 close-outer
-close-length-ignored = sees-only tag-of control-octet accepts-it close-1 close-outer refl refl refl (λ (e : 0x10 ≡ 0x11). absurd (omega arith))
+close-length-ignored = sees-only tag-of control-octet accepts-it close-1 close-outer refl refl refl (eqb-false 0x10 0x11 refl)

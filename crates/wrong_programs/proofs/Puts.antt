@@ -1,16 +1,16 @@
 -- Wrong programs in the place of put_uint, put_int and put_octets.
 use Prim.Native.Nat.{ℕ}
-use native.Mathlib.Omega.{arith}
 use mathlib.Core.Path.{_≡_, refl}
 use mathlib.Core.List.{List, [], _∷_}
 use lib.Dec.{T, ltb}
 use lib.IntN.{pos}
+use borrow.Author.Tests.{eqb-false}
 use Rattle.hproto_table.specs.declared.Table.{Table}
 use Rattle.hproto_state.specs.Sound.{sound}
 use Rattle.hproto_state.specs.declared.State.{State}
 use Rattle.wrong_programs.specs.Kinds.{RuledOut, Rejects, Accepts, Invents, SeesOnly, always, due}
 use Rattle.wrong_programs.specs.Writer.{Put, uint, int, octets, Value, PutInput, PutCall, Outcome, putFits, put}
-use Rattle.wrong_programs.proofs.RulingOut.{Sample, given, fixes, rejects, accepts, invents, sees-only}
+use Rattle.wrong_programs.proofs.RulingOut.{Sample, given, fixes, rejects, accepts, invents, sees-only, differ-at}
 use Rattle.wrong_programs.proofs.Computing.{writer}
 use Rattle.wrong_programs.proofs.WriterStates.{table, unused, ending, state-at, accepted, refused, outcome}
 
@@ -119,25 +119,21 @@ module _ (p : Put) where
   -- It accepts every call.
   pub accepts-all : RuledOut (Accepts refusal always) (put p)
   unfolding of-tag-3
-  accepts-all = accepts refusal always (of-tag-3 p) tt (λ (e : 8 ≡ 0). absurd (omega arith))
+  accepts-all = accepts refusal always (of-tag-3 p) tt (eqb-false 8 0 refl)
 
   -- It stores nothing, or nothing after the first put.
   pub stores-nothing : RuledOut (Invents buffer-after buffer-before always) (put p)
   unfolding first
-  stores-nothing =
-      invents buffer-after buffer-before always (first p) tt
-      (λ (e : ending (0x11 ∷ 5 ∷ []) ≡ unused). let d : _≡_ {A = ℕ} 0x11 0xaa = cc in absurd (omega arith))
+  stores-nothing = invents buffer-after buffer-before always (first p) tt (differ-at 4 refl)
 
   pub stores-only-the-first : RuledOut (Invents buffer-after buffer-before has-octets) (put p)
   unfolding later
-  stores-only-the-first =
-      invents buffer-after buffer-before has-octets (later p) tt
-      (λ (e : ending (0x11 ∷ 5 ∷ 0x11 ∷ 5 ∷ []) ≡ ending (0x11 ∷ 5 ∷ [])). let d : _≡_ {A = ℕ} 0x11 0xaa = cc in absurd (omega arith))
+  stores-only-the-first = invents buffer-after buffer-before has-octets (later p) tt (differ-at 2 refl)
 
   -- It hands back the state as it was given, after the first put: the octets stored start where they did.
   pub state-unchanged : RuledOut (Invents start-after start-before has-octets) (put p)
   unfolding later
-  state-unchanged = invents start-after start-before has-octets (later p) tt (λ (e : 2 ≡ 4). absurd (omega arith))
+  state-unchanged = invents start-after start-before has-octets (later p) tt (eqb-false 2 4 refl)
 
   -- It stores the same for each value, or moves the start by the same.
   abbrev all-but-the-value : PutCall p → Table × State × ℕ × List ℕ
@@ -147,13 +143,13 @@ module _ (p : Put) where
   unfolding first empty
   value-ignored =
       sees-only all-but-the-value buffer-after accepts-it (first p) (empty p) (fixes refusal (first p)) (fixes refusal (empty p)) refl
-      (λ (e : ending (0x11 ∷ 5 ∷ []) ≡ ending (0x10 ∷ [])). let d : _≡_ {A = ℕ} 0x11 0xaa = cc in absurd (omega arith))
+      (differ-at 4 refl)
 
   pub value-ignored-in-state : RuledOut (SeesOnly all-but-the-value start-after accepts-it) (put p)
   unfolding first empty
   value-ignored-in-state =
       sees-only all-but-the-value start-after accepts-it (first p) (empty p) (fixes refusal (first p)) (fixes refusal (empty p)) refl
-      (λ (e : 4 ≡ 5). absurd (omega arith))
+      (eqb-false 4 5 refl)
 
   -- It stores the same for each tag.
   abbrev all-but-the-tag : PutCall p → Table × State × Value p × List ℕ
@@ -163,4 +159,4 @@ module _ (p : Put) where
   unfolding first of-tag-2
   tag-ignored =
       sees-only all-but-the-tag buffer-after accepts-it (first p) (of-tag-2 p) (fixes refusal (first p)) (fixes refusal (of-tag-2 p)) refl
-      (λ (e : ending (0x11 ∷ 5 ∷ []) ≡ ending (0x21 ∷ 5 ∷ [])). let d : _≡_ {A = ℕ} 0x11 0x21 = cc in absurd (omega arith))
+      (differ-at 4 refl)

@@ -7,6 +7,7 @@ use mathlib.Core.List.{List, [], _∷_}
 use lib.Ieee as ieee
 use lib.Ieee.{fin}
 use lib.IntN.{pos}
+use borrow.Author.Tests.{eqb-false}
 use Rattle.octets.specs.Number.{number}
 use Rattle.tib_real.specs.FromOctets.{made}
 use Rattle.tib_real.specs.declared.types.Real.{Real}
@@ -40,7 +41,7 @@ hint-of x = (x .value .hint, x .value .hinted)
 
 pub octets-ignored-in-bits : RuledOut (SeesOnly hint-of bits always) real
 unfolding one zero
-octets-ignored-in-bits = sees-only hint-of bits always one zero tt tt refl (λ (e : 0x3ff0000000000000 ≡ 0). absurd (omega arith))
+octets-ignored-in-bits = sees-only hint-of bits always one zero tt tt refl (eqb-false 0x3ff0000000000000 0 refl)
 
 pub octets-ignored-in-value : RuledOut (SeesOnly hint-of (λ (r : Real). r .value) always) real
 unfolding one zero ieee.ofBits
@@ -54,7 +55,7 @@ as-they-stand x = number (x .value .contents)
 
 pub four-octets-as-they-are : RuledOut (Invents bits as-they-stand always) real
 unfolding one
-four-octets-as-they-are = invents bits as-they-stand always one tt (λ (e : 0x3ff0000000000000 ≡ 0x3f800000). absurd (omega arith))
+four-octets-as-they-are = invents bits as-they-stand always one tt (eqb-false 0x3ff0000000000000 0x3f800000 refl)
 
 -- The hint, or whether there is one, is the same each time, or is made from the octets.
 abbrev contents-of : RealCall → List ℕ
@@ -62,7 +63,7 @@ contents-of x = x .value .contents
 
 pub hint-ignored : RuledOut (SeesOnly contents-of (λ (r : Real). r .hint) always) real
 unfolding one unhinted
-hint-ignored = sees-only contents-of (λ (r : Real). r .hint) always one unhinted tt tt refl (λ (e : 2 ≡ 0). absurd (omega arith))
+hint-ignored = sees-only contents-of (λ (r : Real). r .hint) always one unhinted tt tt refl (eqb-false 2 0 refl)
 
 pub hinted-ignored : RuledOut (SeesOnly contents-of (λ (r : Real). r .hinted) always) real
 unfolding one unhinted

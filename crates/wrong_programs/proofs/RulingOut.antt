@@ -1,8 +1,12 @@
 -- What rules out each kind of wrong programs: one call, or two, and the answers that the contract fixes.
 use Prim.Native.Nat.{ℕ}
 use mathlib.Core.Path.{_≡_, sym, _∙_, ap}
-use mathlib.Core.Bool.{Bool}
-use lib.Dec.{T}
+use mathlib.Core.Bool.{Bool, false}
+use mathlib.Core.List.{List}
+use lib.ListN.{getD}
+use lib.IntN.{pos}
+use lib.Dec.{T, eqb}
+use borrow.Author.Tests.{eqb-false}
 use Rattle.wrong_programs.specs.Kinds.{RuledOut, Rejects, Accepts, AcceptsSome, Invents, SeesOnly, Follows, Given, due}
 
 -- A call and the answer that the contract fixes for it. The laws that follow are over such samples.
@@ -57,3 +61,10 @@ follows other part when x y w v e d program meets wrong =
     let a = meets (x .call) ∙ x .fixed in
     let b = meets (y .call) ∙ y .fixed in
     d (sym (ap part a) ∙ wrong (x .call) (y .call) w v (ap other a ∙ e ∙ sym (ap other b)) ∙ ap part b)
+
+-- Parts of answers that are not numbers differ: lists at a place, and integers. Numbers differ by the library's `eqb-false`.
+pub differ-at : {a b : List ℕ} (i : ℕ) → eqb (getD a i 0) (getD b i 0) ≡ false → a ≡ b → ⊥
+differ-at {a} {b} i d e = eqb-false (getD a i 0) (getD b i 0) d (ap (λ (s : List ℕ). getD s i 0) e)
+
+pub pos-differ : (m n : ℕ) → eqb m n ≡ false → pos m ≡ pos n → ⊥
+pos-differ m n d e = eqb-false m n d cc

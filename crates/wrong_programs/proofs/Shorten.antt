@@ -1,11 +1,11 @@
 -- Wrong programs in the place of crudvim_shorten.
 use Prim.Native.Nat.{ℕ}
-use native.Mathlib.Omega.{arith}
 use mathlib.Core.Path.{_≡_, refl}
 use mathlib.Core.List.{List, [], _∷_}
 use lib.ListN.{getD}
 use lib.ListN as lists
 use lib.Dec.{T, leb, ltb}
+use borrow.Author.Tests.{eqb-false}
 use Rattle.hproto_shorten.specs.Shorten as shortens
 use Rattle.hproto_shorten.specs.declared.Shortened.{Shortened}
 use Rattle.wrong_programs.specs.Kinds.{RuledOut, Rejects, Accepts, Invents, SeesOnly, always, due}
@@ -34,8 +34,7 @@ long = given (into (asked uints 0 (0x1d ∷ 0x00 ∷ 0x01 ∷ 0x05 ∷ [])) nine
 
 long-into-eights : Sample shorten
 unfolding hproto
-long-into-eights =
-    given (into (asked uints 0 (0x1d ∷ 0x00 ∷ 0x01 ∷ 0x05 ∷ [])) (8 ∷ 8 ∷ 8 ∷ 8 ∷ [])) (accepted 2 (0x11 ∷ 0x05 ∷ 8 ∷ 8 ∷ [])) tt refl
+long-into-eights = given (into (asked uints 0 (0x1d ∷ 0x00 ∷ 0x01 ∷ 0x05 ∷ [])) (8 ∷ 8 ∷ 8 ∷ 8 ∷ [])) (accepted 2 (0x11 ∷ 0x05 ∷ 8 ∷ 8 ∷ [])) tt refl
 
 -- Four octets that are as short as can be.
 short : Sample shorten
@@ -102,11 +101,11 @@ rejects-full-buffer = rejects refusal fills short refl refl
 -- It accepts every call, or at least contents past the end, or a message for which there is no room.
 pub accepts-all : RuledOut (Accepts refusal (due shorten refusal 4)) shorten
 unfolding past-the-end
-accepts-all = accepts refusal (due shorten refusal 4) past-the-end refl (λ (e : 4 ≡ 0). absurd (omega arith))
+accepts-all = accepts refusal (due shorten refusal 4) past-the-end refl (eqb-false 4 0 refl)
 
 pub accepts-without-room : RuledOut (Accepts refusal (due shorten refusal 9)) shorten
 unfolding no-room
-accepts-without-room = accepts refusal (due shorten refusal 9) no-room refl (λ (e : 9 ≡ 0). absurd (omega arith))
+accepts-without-room = accepts refusal (due shorten refusal 9) no-room refl (eqb-false 9 0 refl)
 
 -- It copies its input: where there are octets to copy and room for them, the first in the buffer is that of the message.
 abbrev can-be-copied : ShortenCall → Type 0
@@ -114,7 +113,7 @@ can-be-copied x = accepts-it x × T (ltb 0 (size x)) × T (leb (size x) (lists.l
 
 pub copies-its-input : RuledOut (Invents (octet 0) (λ (x : ShortenCall). getD (message x) 0 0) can-be-copied) shorten
 unfolding long
-copies-its-input = invents (octet 0) (λ (x : ShortenCall). getD (message x) 0 0) can-be-copied long (refl, tt, tt) (λ (e : 0x11 ≡ 0x1d). absurd (omega arith))
+copies-its-input = invents (octet 0) (λ (x : ShortenCall). getD (message x) 0 0) can-be-copied long (refl, tt, tt) (eqb-false 0x11 0x1d refl)
 
 -- The length that it answers is that of the message, or is made from it.
 abbrev all-but-the-octets : ShortenCall → List ℕ × ℕ × ℕ × List ℕ
@@ -122,12 +121,12 @@ all-but-the-octets x = (x .value .within .table, x .value .within .number, size 
 
 pub length-by-length : RuledOut (SeesOnly all-but-the-octets length accepts-it) shorten
 unfolding long short
-length-by-length = sees-only all-but-the-octets length accepts-it long short refl refl refl (λ (e : 2 ≡ 4). absurd (omega arith))
+length-by-length = sees-only all-but-the-octets length accepts-it long short refl refl refl (eqb-false 2 4 refl)
 
 -- It stores nothing.
 pub stores-nothing : RuledOut (Invents (octet 0) (λ (x : ShortenCall). getD (x .value .out) 0 0) accepts-it) shorten
 unfolding long
-stores-nothing = invents (octet 0) (λ (x : ShortenCall). getD (x .value .out) 0 0) accepts-it long refl (λ (e : 0x11 ≡ 9). absurd (omega arith))
+stores-nothing = invents (octet 0) (λ (x : ShortenCall). getD (x .value .out) 0 0) accepts-it long refl (eqb-false 0x11 9 refl)
 
 -- It does not leave the rest of the second buffer: of what stands in that it sees only the length.
 abbrev within-and-room : ShortenCall → CheckInput × ℕ
@@ -135,13 +134,12 @@ within-and-room x = (x .value .within, lists.length (x .value .out))
 
 pub rest-not-left : RuledOut (SeesOnly within-and-room (octet 3) accepts-it) shorten
 unfolding long long-into-eights
-rest-not-left =
-    sees-only within-and-room (octet 3) accepts-it long long-into-eights refl refl refl (λ (e : 9 ≡ 8). absurd (omega arith))
+rest-not-left = sees-only within-and-room (octet 3) accepts-it long long-into-eights refl refl refl (eqb-false 9 8 refl)
 
 -- It writes the same octets each time, or the same for each length of the message.
 pub octets-by-length : RuledOut (SeesOnly all-but-the-octets (octet 1) accepts-it) shorten
 unfolding zero-five zero-six
-octets-by-length = sees-only all-but-the-octets (octet 1) accepts-it zero-five zero-six refl refl refl (λ (e : 5 ≡ 6). absurd (omega arith))
+octets-by-length = sees-only all-but-the-octets (octet 1) accepts-it zero-five zero-six refl refl refl (eqb-false 5 6 refl)
 
 -- It shortens every field as if the table, or the message number, were the same each time.
 abbrev all-but-the-table : ShortenCall → ℕ × List ℕ × List ℕ
@@ -149,11 +147,11 @@ all-but-the-table x = (x .value .within .number, message x, x .value .out)
 
 pub table-ignored : RuledOut (SeesOnly all-but-the-table (octet 0) accepts-it) shorten
 unfolding zero-five raw
-table-ignored = sees-only all-but-the-table (octet 0) accepts-it zero-five raw refl refl refl (λ (e : 0x11 ≡ 0x12). absurd (omega arith))
+table-ignored = sees-only all-but-the-table (octet 0) accepts-it zero-five raw refl refl refl (eqb-false 0x11 0x12 refl)
 
 abbrev all-but-the-number : ShortenCall → List ℕ × List ℕ × List ℕ
 all-but-the-number x = (x .value .within .table, message x, x .value .out)
 
 pub number-ignored : RuledOut (SeesOnly all-but-the-number (octet 0) accepts-it) shorten
 unfolding zero-five under-number-1
-number-ignored = sees-only all-but-the-number (octet 0) accepts-it zero-five under-number-1 refl refl refl (λ (e : 0x11 ≡ 0x12). absurd (omega arith))
+number-ignored = sees-only all-but-the-number (octet 0) accepts-it zero-five under-number-1 refl refl refl (eqb-false 0x11 0x12 refl)

@@ -1,9 +1,9 @@
 -- Wrong programs in the place of hproto_show::show.
 use Prim.Native.Nat.{ℕ}
-use native.Mathlib.Omega.{arith}
 use mathlib.Core.Path.{_≡_, refl}
 use mathlib.Core.List.{List, [], _∷_, _++_}
 use lib.ListN.{length, getD}
+use borrow.Author.Tests.{eqb-false}
 use Rattle.wrong_programs.specs.Kinds.{RuledOut, Invents, SeesOnly, always, due}
 use Rattle.wrong_programs.specs.Show.{ShowInput, ShowCall, show}
 use Rattle.wrong_programs.proofs.RulingOut.{Sample, given, invents, sees-only}
@@ -74,7 +74,7 @@ from-0 x = (x .value .from ≡ 0) × (length (x .value .out) ≡ 1)
 -- It prints a refusal for all input.
 pub refuses-all : RuledOut (Invents octet (λ (x : ShowCall). 0x72) from-0) show
 unfolding letter-d
-refuses-all = invents octet (λ (x : ShowCall). 0x72) from-0 letter-d (refl, refl) (λ (e : 0x64 ≡ 0x72). absurd (omega arith))
+refuses-all = invents octet (λ (x : ShowCall). 0x72) from-0 letter-d (refl, refl) (eqb-false 0x64 0x72 refl)
 
 -- It prints a refusal where the table has no records.
 abbrev no-records : ShowCall → Type 0
@@ -82,12 +82,12 @@ no-records x = from-0 x × (getD (x .value .input) 0 0 ≡ 0)
 
 pub refuses-empty-table : RuledOut (Invents octet (λ (x : ShowCall). 0x72) no-records) show
 unfolding letter-d
-refuses-empty-table = invents octet (λ (x : ShowCall). 0x72) no-records letter-d ((refl, refl), refl) (λ (e : 0x64 ≡ 0x72). absurd (omega arith))
+refuses-empty-table = invents octet (λ (x : ShowCall). 0x72) no-records letter-d ((refl, refl), refl) (eqb-false 0x64 0x72 refl)
 
 -- It prints a message for all input.
 pub accepts-all : RuledOut (Invents octet (λ (x : ShowCall). 0x64) from-0) show
 unfolding letter-r
-accepts-all = invents octet (λ (x : ShowCall). 0x64) from-0 letter-r (refl, refl) (λ (e : 0x72 ≡ 0x64). absurd (omega arith))
+accepts-all = invents octet (λ (x : ShowCall). 0x64) from-0 letter-r (refl, refl) (eqb-false 0x72 0x64 refl)
 
 -- It prints the same for every message, or for every one in an input of a length.
 abbrev prints-a-message : ShowCall → Type 0
@@ -97,14 +97,14 @@ pub text-by-length : RuledOut (SeesOnly (λ (x : ShowCall). length (x .value .in
 unfolding forty-two seven
 text-by-length =
     sees-only (λ (x : ShowCall). length (x .value .input)) text-length prints-a-message forty-two seven ((refl, refl), refl) ((refl, refl), refl) refl
-    (λ (e : 54 ≡ 53). absurd (omega arith))
+    (eqb-false 54 53 refl)
 
 abbrev all-but-the-octets : ShowCall → ℕ × ℕ × List ℕ
 all-but-the-octets x = (length (x .value .input), x .value .from, x .value .out)
 
 pub octets-by-length : RuledOut (SeesOnly all-but-the-octets octet (due show text-length 54)) show
 unfolding digit-2 digit-3
-octets-by-length = sees-only all-but-the-octets octet (due show text-length 54) digit-2 digit-3 refl refl refl (λ (e : 0x32 ≡ 0x33). absurd (omega arith))
+octets-by-length = sees-only all-but-the-octets octet (due show text-length 54) digit-2 digit-3 refl refl refl (eqb-false 0x32 0x33 refl)
 
 -- It prints the same refusal each time.
 abbrev from-and-buffer : ShowCall → ℕ × List ℕ
@@ -112,8 +112,7 @@ from-and-buffer x = (x .value .from, x .value .out)
 
 pub same-refusal : RuledOut (SeesOnly from-and-buffer octet (due show text-length 15)) show
 unfolding three four
-same-refusal =
-    sees-only from-and-buffer octet (due show text-length 15) three four refl refl refl (λ (e : 0x33 ≡ 0x34). absurd (omega arith))
+same-refusal = sees-only from-and-buffer octet (due show text-length 15) three four refl refl refl (eqb-false 0x33 0x34 refl)
 
 -- It always gives the text from its start.
 abbrev all-but-from : ShowCall → List ℕ × List ℕ
@@ -121,9 +120,9 @@ all-but-from x = (x .value .input, x .value .out)
 
 pub from-ignored : RuledOut (SeesOnly all-but-from octet always) show
 unfolding letter-d letter-e
-from-ignored = sees-only all-but-from octet always letter-d letter-e tt tt refl (λ (e : 0x64 ≡ 0x65). absurd (omega arith))
+from-ignored = sees-only all-but-from octet always letter-d letter-e tt tt refl (eqb-false 0x64 0x65 refl)
 
 -- It stores nothing.
 pub stores-nothing : RuledOut (Invents octet (λ (x : ShowCall). getD (x .value .out) 0 0) always) show
 unfolding letter-d
-stores-nothing = invents octet (λ (x : ShowCall). getD (x .value .out) 0 0) always letter-d tt (λ (e : 0x64 ≡ 0). absurd (omega arith))
+stores-nothing = invents octet (λ (x : ShowCall). getD (x .value .out) 0 0) always letter-d tt (eqb-false 0x64 0 refl)

@@ -1,10 +1,10 @@
 -- Wrong programs in the place of start and finish.
 use Prim.Native.Nat.{ℕ}
-use native.Mathlib.Omega.{arith}
-use mathlib.Core.Path.{_≡_, refl}
+use mathlib.Core.Path.{refl}
 use mathlib.Core.List.{List, [], _∷_}
 use lib.ListN.{getD}
 use lib.Dec.{T, ltb}
+use borrow.Author.Tests.{eqb-false}
 use Rattle.hproto_table.specs.declared.Table.{Table}
 use Rattle.hproto_state.specs.Calls.{begun}
 use Rattle.hproto_state.specs.declared.State.{State}
@@ -59,7 +59,7 @@ start-rejects-numbers = rejects start-refusal not-number-0 number-1 tt refl
 -- It accepts every call.
 pub start-accepts-all : RuledOut (Accepts start-refusal always) start
 unfolding number-16
-start-accepts-all = accepts start-refusal always number-16 tt (λ (e : 2 ≡ 0). absurd (omega arith))
+start-accepts-all = accepts start-refusal always number-16 tt (eqb-false 2 0 refl)
 
 -- It gives each outermost message the same number.
 abbrev all-but-the-number : StartCall → Table × List ℕ
@@ -70,8 +70,7 @@ number-noted r = getD (r .state .numbers) 0 0
 
 pub start-number-ignored : RuledOut (SeesOnly all-but-the-number number-noted start-accepts-it) start
 unfolding number-0 number-1
-start-number-ignored =
-    sees-only all-but-the-number number-noted start-accepts-it number-0 number-1 refl refl refl (λ (e : 0 ≡ 1). absurd (omega arith))
+start-number-ignored = sees-only all-but-the-number number-noted start-accepts-it number-0 number-1 refl refl refl (eqb-false 0 1 refl)
 
 -- It starts at the same place in each buffer.
 abbrev all-but-the-buffer : StartCall → Table × ℕ
@@ -81,7 +80,7 @@ pub start-buffer-ignored : RuledOut (SeesOnly all-but-the-buffer (λ (r : Writte
 unfolding number-0 no-buffer
 start-buffer-ignored =
     sees-only all-but-the-buffer (λ (r : Written). r .state .start) start-accepts-it number-0 no-buffer refl refl refl
-    (λ (e : 6 ≡ 0). absurd (omega arith))
+    (eqb-false 6 0 refl)
 
 -- ---- finish
 
@@ -126,7 +125,7 @@ finish-rejects-written = rejects refusal has-octets two-octets tt refl
 -- It accepts every call.
 pub finish-accepts-all : RuledOut (Accepts refusal always) finish
 unfolding still-open
-finish-accepts-all = accepts refusal always still-open tt (λ (e : 12 ≡ 0). absurd (omega arith))
+finish-accepts-all = accepts refusal always still-open tt (eqb-false 12 0 refl)
 
 -- The start of the message, or the state handed back, is the same each time, or is made from the length of the buffer.
 abbrev room : FinishCall → ℕ
@@ -134,10 +133,8 @@ room x = x .value .length
 
 pub finish-start-by-length : RuledOut (SeesOnly room (λ (r : Finished). r .start) accepts-it) finish
 unfolding nothing two-octets
-finish-start-by-length =
-    sees-only room (λ (r : Finished). r .start) accepts-it nothing two-octets refl refl refl (λ (e : 6 ≡ 4). absurd (omega arith))
+finish-start-by-length = sees-only room (λ (r : Finished). r .start) accepts-it nothing two-octets refl refl refl (eqb-false 6 4 refl)
 
 pub finish-state-by-length : RuledOut (SeesOnly room (λ (r : Finished). r .state .start) accepts-it) finish
 unfolding nothing two-octets
-finish-state-by-length =
-    sees-only room (λ (r : Finished). r .state .start) accepts-it nothing two-octets refl refl refl (λ (e : 6 ≡ 4). absurd (omega arith))
+finish-state-by-length = sees-only room (λ (r : Finished). r .state .start) accepts-it nothing two-octets refl refl refl (eqb-false 6 4 refl)

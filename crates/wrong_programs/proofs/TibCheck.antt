@@ -1,10 +1,10 @@
 -- Wrong programs in the place of crudvim_tibmsg_check and crudvim_tibrv_check.
 use Prim.Native.Nat.{ℕ}
-use native.Mathlib.Omega.{arith}
 use mathlib.Core.Path.{_≡_, refl, sym}
 use mathlib.Core.List.{List, [], _∷_}
 use lib.ListN.{length, replicate}
 use lib.Dec.{T, ltb}
+use borrow.Author.Tests.{eqb-false}
 use Rattle.reading.specs.Checks as answers
 use Rattle.reading.specs.declared.Checked.{Checked}
 use Rattle.wrong_programs.specs.Kinds.{RuledOut, Rejects, Accepts, Invents, SeesOnly, always, due}
@@ -84,12 +84,12 @@ module _ (f : Format) where
   -- It accepts every call.
   pub accepts-all : RuledOut (Accepts refusal always) (check f)
   unfolding cut
-  accepts-all = accepts refusal always (cut f) tt (λ (e : 3 ≡ 0). absurd (omega arith))
+  accepts-all = accepts refusal always (cut f) tt (eqb-false 3 0 refl)
 
   -- The count of fields of what it accepts is the same each time, or is made from the length of the message.
   pub fields-by-length : RuledOut (SeesOnly size fields accepts-it) (check f)
   unfolding one two
-  fields-by-length = sees-only size fields accepts-it (one f) (two f) (fixes refusal (one f)) (fixes refusal (two f)) (same-length f) (λ (e : 1 ≡ 2). absurd (omega arith))
+  fields-by-length = sees-only size fields accepts-it (one f) (two f) (fixes refusal (one f)) (fixes refusal (two f)) (same-length f) (eqb-false 1 2 refl)
 
   -- A name that is cut short is refused with 15, as a bad one.
   abbrev ends-in-a-name : MessageCall → Type 0
@@ -97,13 +97,12 @@ module _ (f : Format) where
 
   pub cut-name-refused-as-bad : RuledOut (Invents refusal (λ (x : MessageCall). 15) ends-in-a-name) (check f)
   unfolding cut
-  cut-name-refused-as-bad = invents refusal (λ (x : MessageCall). 15) ends-in-a-name (cut f) refl (λ (e : 3 ≡ 15). absurd (omega arith))
+  cut-name-refused-as-bad = invents refusal (λ (x : MessageCall). 15) ends-in-a-name (cut f) refl (eqb-false 3 15 refl)
 
 -- The depth of every TibMsg that is accepted is another than 1.
 pub depth-not-1 : (d : MessageCall → ℕ) → ((x : MessageCall) → d x ≡ 1 → ⊥) → RuledOut (Invents depth d (accepts-it tibmsg)) (check tibmsg)
 unfolding one
-depth-not-1 d other =
-    invents depth d (accepts-it tibmsg) (one tibmsg) refl (λ (e : 1 ≡ d (one tibmsg .call)). other (one tibmsg .call) (sym e))
+depth-not-1 d other = invents depth d (accepts-it tibmsg) (one tibmsg) refl (λ (e : 1 ≡ d (one tibmsg .call)). other (one tibmsg .call) (sym e))
 
 -- It rejects the messages that have one field, which holds a message.
 abbrev holds-one : MessageCall → Type 0
@@ -116,17 +115,17 @@ rejects-nested = rejects refusal holds-one nested refl refl
 -- The depth is the same each time, or is made from the length of the message.
 pub depth-by-length : RuledOut (SeesOnly size depth (accepts-it tibrv)) (check tibrv)
 unfolding nested flat
-depth-by-length = sees-only size depth (accepts-it tibrv) nested flat refl refl refl (λ (e : 2 ≡ 1). absurd (omega arith))
+depth-by-length = sees-only size depth (accepts-it tibrv) nested flat refl refl refl (eqb-false 2 1 refl)
 
 -- A message in a message counts as two messages deeper.
 pub nested-is-two-deeper : RuledOut (Invents depth (λ (x : MessageCall). 3) holds-one) (check tibrv)
 unfolding nested
-nested-is-two-deeper = invents depth (λ (x : MessageCall). 3) holds-one nested refl (λ (e : 2 ≡ 3). absurd (omega arith))
+nested-is-two-deeper = invents depth (λ (x : MessageCall). 3) holds-one nested refl (eqb-false 2 3 refl)
 
 -- A field that holds a message is not counted.
 pub holder-not-counted : RuledOut (Invents fields (λ (x : MessageCall). 0) holds-one) (check tibrv)
 unfolding nested
-holder-not-counted = invents fields (λ (x : MessageCall). 0) holds-one nested refl (λ (e : 1 ≡ 0). absurd (omega arith))
+holder-not-counted = invents fields (λ (x : MessageCall). 0) holds-one nested refl (eqb-false 1 0 refl)
 
 -- The place of a fault in a message in a message is counted from the inner one: 8, where the name of its first field is cut.
 abbrev ends-in-an-inner-name : MessageCall → Type 0
@@ -134,5 +133,4 @@ ends-in-an-inner-name x = x .value ≡ message tibrv (holder (cut-name tibrv))
 
 pub place-in-the-inner-message : RuledOut (Invents (λ (c : Checked). c .place) (λ (x : MessageCall). 8) ends-in-an-inner-name) (check tibrv)
 unfolding cut-inside
-place-in-the-inner-message =
-    invents (λ (c : Checked). c .place) (λ (x : MessageCall). 8) ends-in-an-inner-name cut-inside refl (λ (e : 19 ≡ 8). absurd (omega arith))
+place-in-the-inner-message = invents (λ (c : Checked). c .place) (λ (x : MessageCall). 8) ends-in-an-inner-name cut-inside refl (eqb-false 19 8 refl)

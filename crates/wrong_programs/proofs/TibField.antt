@@ -5,6 +5,7 @@ use mathlib.Core.Path.{_≡_, refl}
 use mathlib.Core.Bool.{true, false, true≢false}
 use mathlib.Core.List.{List, [], _∷_}
 use lib.Dec.{T, ltb}
+use borrow.Author.Tests.{eqb-false}
 use Rattle.tib_real.specs.FromOctets.{made}
 use Rattle.tib_real.specs.declared.types.Real.{Real}
 use Rattle.tib_field.specs.Refused.{noReal, refusedField}
@@ -94,7 +95,7 @@ module _ (f : Format) where
   -- It accepts every call.
   pub accepts-all : RuledOut (Accepts refusal always) (field f)
   unfolding no-third
-  accepts-all = accepts refusal always (no-third f) tt (λ (e : 18 ≡ 0). absurd (omega arith))
+  accepts-all = accepts refusal always (no-third f) tt (eqb-false 18 0 refl)
 
   -- It gives the same field for each k.
   pub k-ignored : RuledOut (SeesOnly message-of data-place accepts-it) (field f)
@@ -108,7 +109,7 @@ module _ (f : Format) where
   unfolding only first-of-two
   message-ignored =
       sees-only index data-length accepts-it (only f) (first-of-two f) (fixes refusal (only f)) (fixes refusal (first-of-two f)) refl
-      (λ (e : 3 ≡ 0). absurd (omega arith))
+      (eqb-false 3 0 refl)
 
 -- No field of a TibMsg has a hint.
 pub hint-dropped : RuledOut (Invents (λ (a : Field). a .hinted) (λ (x : FieldCall). false) always) (field tibmsg)
@@ -118,5 +119,4 @@ hint-dropped = invents (λ (a : Field). a .hinted) (λ (x : FieldCall). false) a
 -- Every real of a TibMsg is 0.
 pub real-dropped : RuledOut (Invents (λ (a : Field). a .real .bits) (λ (x : FieldCall). 0) always) (field tibmsg)
 unfolding hinted-real
-real-dropped =
-    invents (λ (a : Field). a .real .bits) (λ (x : FieldCall). 0) always hinted-real tt (λ (e : 0x3ff0000000000000 ≡ 0). absurd (omega arith))
+real-dropped = invents (λ (a : Field). a .real .bits) (λ (x : FieldCall). 0) always hinted-real tt (eqb-false 0x3ff0000000000000 0 refl)

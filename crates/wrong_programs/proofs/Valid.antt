@@ -1,11 +1,11 @@
 -- Wrong programs in the place of hproto_valid::valid.
 use Prim.Native.Nat.{ℕ}
-use native.Mathlib.Omega.{arith}
-use mathlib.Core.Path.{_≡_, refl}
+use mathlib.Core.Path.{refl}
 use mathlib.Core.Bool.{Bool, true, false, cond}
-use mathlib.Core.List.{List, [], _∷_}
+use mathlib.Core.List.{List, _∷_}
 use lib.ListN.{take, replicate}
 use lib.Dec.{T, ltb}
+use borrow.Author.Tests.{eqb-false}
 use Rattle.hproto_table.specs.declared.Table.{Table}
 use Rattle.wrong_programs.specs.Kinds.{RuledOut, Rejects, Accepts, SeesOnly, always}
 use Rattle.wrong_programs.specs.Valid.{ValidCall, valid}
@@ -53,7 +53,7 @@ rejects-entries = rejects refusal has-entries one-uint tt refl
 -- It accepts every call.
 pub accepts-all : RuledOut (Accepts refusal always) valid
 unfolding no-kind
-accepts-all = accepts refusal always no-kind tt (λ (e : 1 ≡ 0). absurd (omega arith))
+accepts-all = accepts refusal always no-kind tt (eqb-false 1 0 refl)
 
 -- It does not look at the unused words.
 abbrev used : ValidCall → ℕ × List ℕ
@@ -61,13 +61,13 @@ used x = (x .value .count, take (x .value .count) (x .value .words))
 
 pub unused-not-seen : RuledOut (SeesOnly used refusal always) valid
 unfolding empty unused-set
-unused-not-seen = sees-only used refusal always empty unused-set tt tt refl (λ (e : 0 ≡ 1). absurd (omega arith))
+unused-not-seen = sees-only used refusal always empty unused-set tt tt refl (eqb-false 0 1 refl)
 
 -- It does not look at the words, or at the count.
 pub words-ignored : RuledOut (SeesOnly (λ (x : ValidCall). x .value .count) refusal always) valid
 unfolding one-uint no-kind
-words-ignored = sees-only (λ (x : ValidCall). x .value .count) refusal always one-uint no-kind tt tt refl (λ (e : 0 ≡ 1). absurd (omega arith))
+words-ignored = sees-only (λ (x : ValidCall). x .value .count) refusal always one-uint no-kind tt tt refl (eqb-false 0 1 refl)
 
 pub count-ignored : RuledOut (SeesOnly (λ (x : ValidCall). x .value .words) refusal always) valid
 unfolding empty no-kind
-count-ignored = sees-only (λ (x : ValidCall). x .value .words) refusal always empty no-kind tt tt refl (λ (e : 0 ≡ 1). absurd (omega arith))
+count-ignored = sees-only (λ (x : ValidCall). x .value .words) refusal always empty no-kind tt tt refl (eqb-false 0 1 refl)
