@@ -58,43 +58,44 @@ use Rattle.wrong_programs.specs.Tib as tibs
 use Rattle.wrong_programs.specs.Reals as reals
 
 unfoldable pub hproto : Type 0
-unfolding kinds.always kinds.below kinds.array kinds.octets kinds.word kinds.words kinds.table load.load check.fits check.check lookup.fits lookup.lookup lookup.lookupLast shorten.fits
-    shorten.shorten frameRead.frameRead frameWrite.fits frameWrite.frameWrite show.fits show.show find.fits find.find valid.valid
-    loads.load loads.loadFrom loads.accepted loads.refused loads.tableOf loads.wordsBefore loads.faulty loads.wellFormed loads.recordAt loads.wordAt
-    loads.inRange loads.seen loads.pair schemas.schema schemas.schemaOf entries.entry entries.entries entries.find entries.meaning entries.innerOf entries.kindNumber valids.valid
-    valids.allInRange valids.allZero repeats.distinct octets.number octets.octetsOf octets.width octets.widthWithin octets.leastUint signs.integer
-    signs.withSign signs.lowest controls.control controls.controlOf controls.following controls.coded controls.leastControl controls.leastCode
-    controls.firstFit onAccepted inOrder readings.reading readings.messageFrom readings.fieldsFrom readings.afterStep readings.step readings.stepFrom
-    readings.stepByKind cuts.joined trees.tree readings.tagOf readings.tagAt trees.value trees.depth trees.fields shortests.shortest shortests.field
-    shortests.leastContents answers.counts answers.refusal checks.check checks.checkUnder checks.treeCounts lookups.outermost lookups.itemTag
-    lookups.withTag lookups.lastOr lookups.chosen lookups.itemKind lookups.uintOf lookups.intOf lookups.refusal lookups.found lookups.foundIn
-    lookups.answer lookups.lookup lookups.lookupLast shortestOf shortens.refusal shortens.shortUnder shortens.shortForm shortens.roomy
-    shortens.answerTo shortens.bufferTo shortens.answer shortens.buffer withTable checkOctets lookupOctets lookupLastOctets shortenOctets
-    shortenBuffer stored frames.announced frames.prefixed frames.frontRead frames.frameRead frames.messagePart frames.shortestPrefix frames.framed
-    frames.frameWritten frames.frameStored ascii digits.glyph digits.decimalWithin digits.decimal digits.fourDigits prints.kindName prints.valueText
-    prints.front prints.line prints.lines prints.page prints.shown prints.refusal prints.readText prints.messageText window shows.secondText
-    shows.tableText shows.firstText shows.output
+unfolding kinds.always kinds.below kinds.array kinds.octets kinds.word kinds.words kinds.table load.load check.fits check.check lookup.fits
+    lookup.lookup lookup.lookupLast shorten.fits shorten.shorten frameRead.frameRead frameWrite.fits frameWrite.frameWrite show.fits show.show
+    find.fits find.find valid.valid loads.load loads.loadFrom loads.accepted loads.refused loads.tableOf loads.wordsBefore loads.faulty
+    loads.wellFormed loads.recordAt loads.wordAt loads.inRange loads.seen loads.pair schemas.schema schemas.schemaOf entries.entry entries.entries
+    entries.find entries.meaning entries.innerOf entries.kindNumber valids.valid valids.allInRange valids.allZero repeats.distinct octets.number
+    octets.octetsOf octets.width octets.widthWithin octets.leastUint signs.integer signs.withSign signs.lowest controls.control controls.controlOf
+    controls.following controls.coded controls.leastControl controls.leastCode controls.firstFit onAccepted inOrder readings.reading
+    readings.messageFrom readings.fieldsFrom readings.afterStep readings.step readings.stepFrom readings.stepByKind cuts.joined trees.tree
+    readings.tagOf readings.tagAt trees.value trees.depth trees.fields shortests.shortest shortests.field shortests.leastContents answers.counts
+    answers.refusal checks.check checks.checkUnder checks.treeCounts lookups.outermost lookups.itemTag lookups.withTag lookups.lastOr lookups.chosen
+    lookups.itemKind lookups.uintOf lookups.intOf lookups.refusal lookups.found lookups.foundIn lookups.answer lookups.lookup lookups.lookupLast
+    shortestOf shortens.refusal shortens.shortUnder shortens.shortForm shortens.roomy shortens.answerTo shortens.bufferTo shortens.answer
+    shortens.buffer withTable checkOctets lookupOctets lookupLastOctets shortenOctets shortenBuffer stored frames.announced frames.prefixed
+    frames.frontRead frames.frameRead frames.messagePart frames.shortestPrefix frames.framed frames.frameWritten frames.frameStored ascii
+    digits.glyph digits.decimalWithin digits.decimal digits.fourDigits prints.kindName prints.valueText prints.front prints.line prints.lines
+    prints.page prints.shown prints.refusal prints.readText prints.messageText window shows.secondText shows.tableText shows.firstText shows.output
 hproto = Unit {0}
 
 unfoldable pub writer : Type 0
-unfolding hproto writing.stateFits writing.startFits writing.intFits writing.Value writing.valueFits writing.putFits
-    writing.openFits writing.closeFits writing.start writing.callOf writing.put writing.openField writing.closeField writing.finish
-    writes.answer writes.buffer calls.orRefuse calls.answered calls.bufferAfter calls.level calls.meant calls.back calls.startRefusal
-    calls.begun calls.started calls.putRefusal calls.put calls.putBuffer calls.ofOctets calls.readable calls.openRefusal calls.deeper calls.opening calls.closingPart
-    calls.closeEarly calls.closeRefusal calls.outer calls.closing calls.closeBuffer calls.finishRefusal calls.finished sounds.falling sounds.small sounds.sound
+unfolding hproto writing.stateFits writing.startFits writing.intFits writing.Value writing.valueFits writing.putFits writing.openFits
+    writing.closeFits writing.start writing.callOf writing.put writing.openField writing.closeField writing.finish writing.soundState writes.answer writes.buffer
+    calls.orRefuse calls.answered calls.bufferAfter calls.level calls.meant calls.back calls.startRefusal calls.begun calls.started calls.putRefusal
+    calls.put calls.putBuffer calls.ofOctets calls.readable calls.openRefusal calls.deeper calls.opening calls.closingPart calls.closeEarly
+    calls.closeRefusal calls.outer calls.closing calls.closeBuffer calls.finishRefusal calls.finished sounds.falling sounds.small sounds.sound
     signs.leastInt signs.signedWidth signs.signedBits
 writer = Unit {0}
 
 unfoldable pub tib : Type 0
-unfolding kinds.always kinds.below kinds.octets kinds.word tibs.check tibs.fieldFits tibs.field reals.realFits reals.real reals.fractionsFits reals.fractions
-    onAccepted inOrder octets.number answers.counts answers.refusal marks.begins names.nameFront names.named names.closes names.afterName fields.placed
-    kths.fieldOf kths.answerFor msgLayout.kind msgLayout.hinted msgLayout.sizeWidth msgLayout.isWidth msgLayout.sizeAllowed msgLayout.octets
-    msgReading.typeAllowed msgReading.hintAt msgReading.hintFront msgReading.valueHint msgReading.withHint msgReading.fromData msgReading.fromSize
-    msgReading.fromType msgReading.nextField msgReading.total msgReading.partsAt msgReading.afterStep msgReading.fieldsFrom msgReading.reading
-    msg.check msg.depth msg.field msg.places msg.shown msg.hintNumber msg.realShown rvLayout.depth rvLayout.octets rvReading.following rvReading.own
-    rvReading.counted rvReading.countAllowed rvReading.found rvReading.fromCount rvReading.fromSize rvReading.fromType rvReading.nextField rvReading.lead
-    rvReading.total rvReading.partsAt rvReading.nestedOf rvReading.afterStep rvReading.fieldsFrom rvReading.headerFault rvReading.messageFrom
-    rvReading.reading rv.check rv.count rv.field rv.places rv.shown rv.outermost fromOctets.made fromOctets.realOf inFractions.scaled
-    inFractions.countable inFractions.signed inFractions.refused inFractions.accepted inFractions.inFractions inFractions.fractionsOf parts.negative
-    parts.exponent parts.fraction parts.finite parts.significand parts.units wide.together wide.widened
+unfolding kinds.always kinds.below kinds.octets kinds.word tibs.check tibs.fieldFits tibs.field reals.realFits reals.real reals.fractionsFits
+    reals.fractions onAccepted inOrder octets.number answers.counts answers.refusal marks.begins names.nameFront names.named names.closes
+    names.afterName fields.placed kths.fieldOf kths.answerFor msgLayout.kind msgLayout.hinted msgLayout.sizeWidth msgLayout.isWidth
+    msgLayout.sizeAllowed msgLayout.octets msgReading.typeAllowed msgReading.hintAt msgReading.hintFront msgReading.valueHint msgReading.withHint
+    msgReading.fromData msgReading.fromSize msgReading.fromType msgReading.nextField msgReading.total msgReading.partsAt msgReading.afterStep
+    msgReading.fieldsFrom msgReading.reading msg.check msg.depth msg.field msg.places msg.shown msg.hintNumber msg.realShown rvLayout.depth
+    rvLayout.octets rvReading.following rvReading.own rvReading.counted rvReading.countAllowed rvReading.found rvReading.fromCount
+    rvReading.fromSize rvReading.fromType rvReading.nextField rvReading.lead rvReading.total rvReading.partsAt rvReading.nestedOf
+    rvReading.afterStep rvReading.fieldsFrom rvReading.headerFault rvReading.messageFrom rvReading.reading rv.check rv.count rv.field rv.places
+    rv.shown rv.outermost fromOctets.made fromOctets.realOf inFractions.scaled inFractions.countable inFractions.signed inFractions.refused
+    inFractions.accepted inFractions.inFractions inFractions.fractionsOf parts.negative parts.exponent parts.fraction parts.finite parts.significand
+    parts.units wide.together wide.widened
 tib = Unit {0}

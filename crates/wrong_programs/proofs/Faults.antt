@@ -16,10 +16,11 @@ use Rattle.hproto_state.specs.Sound.{falling, small, sound}
 use Rattle.hproto_state.specs.Calls.{orRefuse}
 use Rattle.hproto_state.specs.declared.State.{State}
 use Rattle.hproto_state.proofs.SoundStates.{sound-within, sound-few, last-mark}
+use Rattle.wrong_programs.specs.Kinds.{refusal-of}
 use Rattle.wrong_programs.specs.Faults.{BadTableRuledOut, BadStateRuledOut}
 use Rattle.wrong_programs.proofs.RulingOut.{accepts-some}
 
--- What holds of a table value that the code has, or of a state: one test in the chain that they pass.
+-- What a caller gives passes a chain of tests that it is in range. A test that fails makes the chain fail, so each of them holds.
 pub and-false : (a : Bool) → a && false ≡ false
 and-false true = refl
 and-false false = refl
@@ -31,6 +32,11 @@ equal m n h = go (eqb m n) refl
     go true e = eqb-true m n e
     go false e = absurd (h e)
 
+-- A test that is accepted holds.
+pub holds : (b : Bool) → refusal-of b ≡ 0 → b ≡ true
+holds true e = refl
+holds false e = absurd (omega arith)
+
 -- Where no refusal comes from a chain of tests, the first is met, and none comes from the others.
 pub met : (test : Bool) (n next : ℕ) → 0 < n → orRefuse test n next ≡ 0 → (test ≡ true) × (next ≡ 0)
 unfolding orRefuse
@@ -39,22 +45,29 @@ met false n next h e = absurd (omega arith)
 
 -- ---- states
 
+-- Of marks that fall, the first is not above the highest place, and the others fall from it.
+module _ (low high m : ℕ) (ms : List ℕ) (e : falling low high (m ∷ ms) ≡ true) where
+  fall-first : m ≤ high
+  unfolding falling
+  fall-first = leb-true m high (and-right (leb low m) (leb m high) (and-left (leb low m && leb m high) (falling low m ms) e))
+
+  fall-rest : falling low m ms ≡ true
+  unfolding falling
+  fall-rest = and-right (leb low m && leb m high) (falling low m ms) e
+
 -- No mark is above the highest place, nor above the one before it; no number is over 15.
 fall-below : (low high : ℕ) (ms : List ℕ) (i : ℕ) → falling low high ms ≡ true → getD ms i 0 ≤ high
-unfolding falling
 fall-below low high [] i e = omega arith
-fall-below low high (m ∷ ms) zero e =
-    leb-true m high (and-right (leb low m) (leb m high) (and-left (leb low m && leb m high) (falling low m ms) e))
+fall-below low high (m ∷ ms) zero e = fall-first low high m ms e
 fall-below low high (m ∷ ms) (suc i) e =
-    let h = leb-true m high (and-right (leb low m) (leb m high) (and-left (leb low m && leb m high) (falling low m ms) e)) in
-    let k = fall-below low m ms i (and-right (leb low m && leb m high) (falling low m ms) e) in
+    let h = fall-first low high m ms e in
+    let k = fall-below low m ms i (fall-rest low high m ms e) in
     omega arith
 
 fall-apart : (low high : ℕ) (ms : List ℕ) (i : ℕ) → falling low high ms ≡ true → getD ms (suc i) 0 ≤ getD ms i 0
-unfolding falling
 fall-apart low high [] i e = omega arith
-fall-apart low high (m ∷ ms) zero e = fall-below low m ms 0 (and-right (leb low m && leb m high) (falling low m ms) e)
-fall-apart low high (m ∷ ms) (suc i) e = fall-apart low m ms i (and-right (leb low m && leb m high) (falling low m ms) e)
+fall-apart low high (m ∷ ms) zero e = fall-below low m ms 0 (fall-rest low high m ms e)
+fall-apart low high (m ∷ ms) (suc i) e = fall-apart low m ms i (fall-rest low high m ms e)
 
 all-small : (ns : List ℕ) (i : ℕ) → small ns ≡ true → getD ns i 0 ≤ 15
 unfolding small

@@ -2,7 +2,7 @@
 use Prim.Native.Nat.{ℕ, _%_, _^_}
 use mathlib.Core.Path.{_≡_, refl}
 use mathlib.Core.Bool.{true}
-use lib.IntN.{ℤ, pos, _+ℤ_}
+use lib.IntN.{ℤ, pos}
 use borrow.Author.Tests.{eqb-false}
 use Rattle.tib_real.specs.InFractions.{accepted, refused, inFractions}
 use Rattle.tib_real.specs.declared.types.Fractions.{Fractions}
@@ -83,10 +83,10 @@ pub hint-ignored : RuledOut (SeesOnly (λ (x : FractionsCall). x .value .bits) n
 unfolding quarters eighths
 hint-ignored = sees-only (λ (x : FractionsCall). x .value .bits) number accepts-it quarters eighths refl refl refl (pos-differ 13 26 refl)
 
--- The product is by 2 ^ (h + 1), twice the number that there should be.
-abbrev doubled : FractionsCall → ℤ
-doubled x = fractions x .value +ℤ fractions x .value
+-- The product is by 2 ^ (h + 1): where the number should be 13, it is twice that.
+abbrev thirteen : FractionsCall → Type 0
+thirteen = due fractions number (pos 13)
 
-pub next-power : RuledOut (Invents number doubled accepts-it) fractions
+pub next-power : RuledOut (Invents number (λ (x : FractionsCall). pos 26) thirteen) fractions
 unfolding quarters
-next-power = invents number doubled accepts-it quarters refl (pos-differ 13 26 refl)
+next-power = invents number (λ (x : FractionsCall). pos 26) thirteen quarters refl (pos-differ 13 26 refl)

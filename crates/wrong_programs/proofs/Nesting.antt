@@ -2,7 +2,7 @@
 use Prim.Native.Nat.{ℕ}
 use mathlib.Core.Path.{refl}
 use mathlib.Core.List.{List, [], _∷_}
-use lib.ListN.{getD}
+use lib.ListN.{getD, take}
 use lib.Dec.{T, ltb}
 use borrow.Author.Tests.{eqb-false}
 use Rattle.hproto_table.specs.declared.Table.{Table}
@@ -65,12 +65,12 @@ unfolding open-3
 open-accepts-all = accepts open-refusal always open-3 tt (eqb-false 8 0 refl)
 
 -- It hands back the state as it was given: no more fields are open than before.
-abbrev open-before : OpenCall → ℕ
-open-before x = x .value .state .opened
+abbrev opened-before-open : OpenCall → ℕ
+opened-before-open x = x .value .state .opened
 
-pub open-state-unchanged : RuledOut (Invents (λ (r : Written). r .state .opened) open-before always) openField
+pub open-state-unchanged : RuledOut (Invents (λ (r : Written). r .state .opened) opened-before-open always) openField
 unfolding open-1
-open-state-unchanged = invents (λ (r : Written). r .state .opened) open-before always open-1 tt (eqb-false 1 0 refl)
+open-state-unchanged = invents (λ (r : Written). r .state .opened) opened-before-open always open-1 tt (eqb-false 1 0 refl)
 
 -- It notes the same tag for each field.
 abbrev all-but-the-tag : OpenCall → Table × State
@@ -154,12 +154,12 @@ unfolding close-outer
 close-stores-only-the-first = invents buffer-after buffer-before has-octets close-outer tt (differ-at 4 refl)
 
 -- The closed field stays open.
-abbrev open-first : CloseCall → ℕ
-open-first x = x .value .state .opened
+abbrev opened-before-close : CloseCall → ℕ
+opened-before-close x = x .value .state .opened
 
-pub close-stays-open : RuledOut (Invents (λ (r : Outcome). r .answer .state .opened) open-first always) closeField
+pub close-stays-open : RuledOut (Invents (λ (r : Outcome). r .answer .state .opened) opened-before-close always) closeField
 unfolding close-1
-close-stays-open = invents (λ (r : Outcome). r .answer .state .opened) open-first always close-1 tt (eqb-false 0 1 refl)
+close-stays-open = invents (λ (r : Outcome). r .answer .state .opened) opened-before-close always close-1 tt (eqb-false 0 1 refl)
 
 -- It stores the same for each tag.
 abbrev all-but-the-tags : CloseCall → Table × List ℕ × List ℕ × List ℕ
@@ -171,13 +171,15 @@ pub close-tag-ignored : RuledOut (SeesOnly all-but-the-tags buffer-after accepts
 unfolding close-1 close-2
 close-tag-ignored = sees-only all-but-the-tags buffer-after accepts-it close-1 close-2 refl refl refl (differ-at 5 refl)
 
--- The length in the control octet does not depend on what was stored since the open.
-abbrev tag-of : CloseCall → ℕ
-tag-of x = getD (x .value .state .tags) 0 0
+-- It gives each field the same length, or one made from the tag, whatever was stored since the open.
+abbrev all-but-the-octets : CloseCall → Table × List ℕ × List ℕ × List ℕ
+all-but-the-octets x =
+    let s = x .value .state in
+    (x .value .table, s .length ∷ s .opened ∷ s .numbers, take (s .opened) (s .marks), take (s .opened) (s .tags))
 
 abbrev control-octet : Outcome → ℕ
 control-octet r = getD (r .buffer) (r .answer .state .start) 0
 
-pub close-length-ignored : RuledOut (SeesOnly tag-of control-octet accepts-it) closeField
+pub close-length-ignored : RuledOut (SeesOnly all-but-the-octets control-octet accepts-it) closeField
 unfolding close-1 close-outer
-close-length-ignored = sees-only tag-of control-octet accepts-it close-1 close-outer refl refl refl (eqb-false 0x10 0x11 refl)
+close-length-ignored = sees-only all-but-the-octets control-octet accepts-it close-1 close-outer refl refl refl (eqb-false 0x10 0x11 refl)

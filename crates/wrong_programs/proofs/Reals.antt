@@ -4,6 +4,7 @@ use native.Mathlib.Omega.{arith}
 use mathlib.Core.Path.{_≡_, refl}
 use mathlib.Core.Bool.{Bool, true, false, true≢false}
 use mathlib.Core.List.{List, [], _∷_}
+use lib.ListN.{length}
 use lib.Ieee as ieee
 use lib.Ieee.{fin}
 use lib.IntN.{pos}
@@ -50,12 +51,15 @@ octets-ignored-in-value =
     (λ (e : fin false 1 (pos 0) ≡ fin false 0 (pos 0)). let d : _≡_ {A = ℕ} 1 0 = cc in absurd (omega arith))
 
 -- The bits of four octets are not widened.
+abbrev has-four-octets : RealCall → Type 0
+has-four-octets x = length (x .value .contents) ≡ 4
+
 abbrev as-they-stand : RealCall → ℕ
 as-they-stand x = number (x .value .contents)
 
-pub four-octets-as-they-are : RuledOut (Invents bits as-they-stand always) real
+pub four-octets-as-they-are : RuledOut (Invents bits as-they-stand has-four-octets) real
 unfolding one
-four-octets-as-they-are = invents bits as-they-stand always one tt (eqb-false 0x3ff0000000000000 0x3f800000 refl)
+four-octets-as-they-are = invents bits as-they-stand has-four-octets one refl (eqb-false 0x3ff0000000000000 0x3f800000 refl)
 
 -- The hint, or whether there is one, is the same each time, or is made from the octets.
 abbrev contents-of : RealCall → List ℕ

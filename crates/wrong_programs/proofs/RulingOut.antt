@@ -19,7 +19,7 @@ abbrev pub given : {A B : Type 0} {fits : A → Bool} {right : Given fits → B}
     → right (record { value = value; in-range = in-range }) ≡ answer → Sample right
 given value answer in-range fixed = record { call = record { value = value; in-range = in-range }; answer = answer; fixed = fixed }
 
--- The answer of a sample has the parts that the contract fixes for its call. With refusal number 0: the contract accepts it.
+-- The contract fixes each part of a sample's answer for its call. Where the refusal number is 0, it accepts the call.
 pub fixes : {A B C : Type 0} {right : A → B} (part : B → C) (x : Sample right) → due right part (part (x .answer)) (x .call)
 fixes part x = ap part (x .fixed)
 

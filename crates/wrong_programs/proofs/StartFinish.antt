@@ -1,6 +1,7 @@
--- Wrong programs in the place of start and finish.
+-- Wrong programs in the place of start and finish, and of hproto_state::sound.
 use Prim.Native.Nat.{ℕ}
 use mathlib.Core.Path.{refl}
+use mathlib.Core.Bool.{true}
 use mathlib.Core.List.{List, [], _∷_}
 use lib.ListN.{getD}
 use lib.Dec.{T, ltb}
@@ -10,8 +11,8 @@ use Rattle.hproto_state.specs.Calls.{begun}
 use Rattle.hproto_state.specs.declared.State.{State}
 use Rattle.hproto_state.specs.declared.Written.{Written}
 use Rattle.hproto_state.specs.declared.Finished.{Finished}
-use Rattle.wrong_programs.specs.Kinds.{RuledOut, Rejects, Accepts, SeesOnly, always, due}
-use Rattle.wrong_programs.specs.Writer.{StartInput, StartCall, FinishCall, start, finish}
+use Rattle.wrong_programs.specs.Kinds.{RuledOut, Rejects, Accepts, SeesOnly, always, due, refusal-of}
+use Rattle.wrong_programs.specs.Writer.{StartInput, StartCall, StateCall, start, finish, soundState}
 use Rattle.wrong_programs.proofs.RulingOut.{Sample, given, rejects, accepts, sees-only}
 use Rattle.wrong_programs.proofs.Computing.{writer}
 use Rattle.wrong_programs.proofs.WriterStates.{table, unused, state, state-at, accepted, refused}
@@ -106,7 +107,7 @@ still-open = given open-field (record { refusal = 12; place = 0; start = 0; stat
 abbrev refusal : Finished → ℕ
 refusal r = r .refusal
 
-abbrev accepts-it : FinishCall → Type 0
+abbrev accepts-it : StateCall → Type 0
 accepts-it = due finish refusal 0
 
 -- It rejects every call.
@@ -115,7 +116,7 @@ unfolding nothing
 finish-rejects-all = rejects refusal always nothing tt refl
 
 -- It rejects every message that has octets.
-abbrev has-octets : FinishCall → Type 0
+abbrev has-octets : StateCall → Type 0
 has-octets x = T (ltb (x .value .start) (x .value .length))
 
 pub finish-rejects-written : RuledOut (Rejects refusal has-octets) finish
@@ -128,13 +129,35 @@ unfolding still-open
 finish-accepts-all = accepts refusal always still-open tt (eqb-false 12 0 refl)
 
 -- The start of the message, or the state handed back, is the same each time, or is made from the length of the buffer.
-abbrev room : FinishCall → ℕ
-room x = x .value .length
+abbrev buffer-length : StateCall → ℕ
+buffer-length x = x .value .length
 
-pub finish-start-by-length : RuledOut (SeesOnly room (λ (r : Finished). r .start) accepts-it) finish
+pub finish-start-by-length : RuledOut (SeesOnly buffer-length (λ (r : Finished). r .start) accepts-it) finish
 unfolding nothing two-octets
-finish-start-by-length = sees-only room (λ (r : Finished). r .start) accepts-it nothing two-octets refl refl refl (eqb-false 6 4 refl)
+finish-start-by-length = sees-only buffer-length (λ (r : Finished). r .start) accepts-it nothing two-octets refl refl refl (eqb-false 6 4 refl)
 
-pub finish-state-by-length : RuledOut (SeesOnly room (λ (r : Finished). r .state .start) accepts-it) finish
+pub finish-state-by-length : RuledOut (SeesOnly buffer-length (λ (r : Finished). r .state .start) accepts-it) finish
 unfolding nothing two-octets
-finish-state-by-length = sees-only room (λ (r : Finished). r .state .start) accepts-it nothing two-octets refl refl refl (eqb-false 6 4 refl)
+finish-state-by-length = sees-only buffer-length (λ (r : Finished). r .state .start) accepts-it nothing two-octets refl refl refl (eqb-false 6 4 refl)
+
+-- ---- sound
+
+fresh : Sample soundState
+unfolding writer
+fresh = given (state-at 6) true tt refl
+
+field-open : Sample soundState
+unfolding writer
+field-open = given open-field true tt refl
+
+-- It rejects every state, or every one with an open field.
+pub sound-rejects-all : RuledOut (Rejects refusal-of always) soundState
+unfolding fresh
+sound-rejects-all = rejects refusal-of always fresh tt refl
+
+abbrev has-open-fields : StateCall → Type 0
+has-open-fields x = T (ltb 0 (x .value .opened))
+
+pub sound-rejects-open-fields : RuledOut (Rejects refusal-of has-open-fields) soundState
+unfolding field-open
+sound-rejects-open-fields = rejects refusal-of has-open-fields field-open tt refl

@@ -1,5 +1,5 @@
 -- Programs in the place of hproto_check::check, hproto_lookup::lookup and lookup_last and hproto_shorten::shorten that leave out the test of
--- the table value.
+-- the table value, and in the place of hproto_valid::valid, which is that test, that leave out a part of it.
 use Prim.Native.Nat.{ℕ}
 use native.Mathlib.Omega.{arith}
 use mathlib.Core.Path.{_≡_, refl, sym, _∙_, ap, fun-ext}
@@ -21,9 +21,12 @@ use Rattle.hproto_shorten.specs.Shorten as shortens
 use Rattle.hproto_shorten.specs.declared.Shortened.{Shortened}
 use Rattle.hproto_calls.specs.Calls.{withTable}
 use Rattle.wrong_programs.specs.Kinds as kinds
+use Rattle.wrong_programs.specs.Kinds.{refusal-of}
+use Rattle.wrong_programs.specs.Valid as validity
+use Rattle.wrong_programs.specs.Valid.{ValidCall}
 use Rattle.wrong_programs.specs.TableValues.{ValueCall, fits, check, lookup, lookupLast, shorten}
 use Rattle.wrong_programs.specs.Faults.{BadTableRuledOut}
-use Rattle.wrong_programs.proofs.Faults.{and-false, equal, bad-table}
+use Rattle.wrong_programs.proofs.Faults.{and-false, equal, holds, bad-table}
 
 check-valid : (t : Table) (n : ℕ) (s : List ℕ) → checks.check t n s .refusal ≡ 0 → valid t ≡ true
 unfolding checks.check answers.refusal
@@ -53,7 +56,7 @@ words-64 x = equal (length (x .value .table .words)) 64 (λ e. simp (e, and-fals
 abbrev table : ValueCall → Table
 table x = x .value .table
 
--- What the entries have in common: each refuses with what `refusal` gives where the check does.
+-- What they have in common: where the check refuses, they do.
 module _ {B : Type 0} {right : ValueCall → B} (refusal : B → ℕ)
     (refuses : (x : ValueCall) → refusal (right x) ≡ 0 → check x .refusal ≡ 0) where
   behind-the-check : BadTableRuledOut right refusal table
@@ -74,6 +77,12 @@ lookup-last-accepts-bad-table = behind-the-check (λ (r : Found). r .refusal) (�
 pub shorten-accepts-bad-table : BadTableRuledOut shorten (λ (r : Shortened). r .refusal) table
 unfolding check shorten shortens.answer shortens.answerTo shortens.refusal
 shorten-accepts-bad-table = behind-the-check (λ (r : Shortened). r .refusal) (λ x e. checked (λ (r : Shortened). r .refusal) (check x .refusal) _ _ refl e)
+
+pub valid-accepts-bad-table : BadTableRuledOut validity.valid refusal-of (λ (x : ValidCall). x .value)
+unfolding validity.valid kinds.table kinds.array
+valid-accepts-bad-table =
+    bad-table refusal-of (λ (x : ValidCall). x .value) (λ x. equal (length (x .value .words)) 64 (λ e. simp (e, and-false) at (x .in-range)))
+    (λ x e. holds (valid (x .value)) e)
 
 -- Behind the loader a program that meets one of these contracts meets that of the entry that is given the table's octets. So what is ruled
 -- out for that entry is ruled out for these.

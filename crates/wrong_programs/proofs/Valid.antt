@@ -1,13 +1,13 @@
 -- Wrong programs in the place of hproto_valid::valid.
 use Prim.Native.Nat.{ℕ}
 use mathlib.Core.Path.{refl}
-use mathlib.Core.Bool.{Bool, true, false, cond}
+use mathlib.Core.Bool.{true, false}
 use mathlib.Core.List.{List, _∷_}
 use lib.ListN.{take, replicate}
 use lib.Dec.{T, ltb}
 use borrow.Author.Tests.{eqb-false}
 use Rattle.hproto_table.specs.declared.Table.{Table}
-use Rattle.wrong_programs.specs.Kinds.{RuledOut, Rejects, Accepts, SeesOnly, always}
+use Rattle.wrong_programs.specs.Kinds.{RuledOut, Rejects, Accepts, SeesOnly, always, refusal-of}
 use Rattle.wrong_programs.specs.Valid.{ValidCall, valid}
 use Rattle.wrong_programs.proofs.RulingOut.{Sample, given, rejects, accepts, sees-only}
 use Rattle.wrong_programs.proofs.Computing.{hproto}
@@ -33,41 +33,37 @@ no-kind : Sample valid
 unfolding hproto
 no-kind = given (table 1 0) false tt refl
 
--- A table value that is not valid is rejected.
-abbrev refusal : Bool → ℕ
-refusal b = cond b 0 1
-
 -- It rejects every call.
-pub rejects-all : RuledOut (Rejects refusal always) valid
+pub rejects-all : RuledOut (Rejects refusal-of always) valid
 unfolding empty
-rejects-all = rejects refusal always empty tt refl
+rejects-all = rejects refusal-of always empty tt refl
 
 -- It rejects a table with an entry.
 abbrev has-entries : ValidCall → Type 0
 has-entries x = T (ltb 0 (x .value .count))
 
-pub rejects-entries : RuledOut (Rejects refusal has-entries) valid
+pub rejects-entries : RuledOut (Rejects refusal-of has-entries) valid
 unfolding one-uint
-rejects-entries = rejects refusal has-entries one-uint tt refl
+rejects-entries = rejects refusal-of has-entries one-uint tt refl
 
 -- It accepts every call.
-pub accepts-all : RuledOut (Accepts refusal always) valid
+pub accepts-all : RuledOut (Accepts refusal-of always) valid
 unfolding no-kind
-accepts-all = accepts refusal always no-kind tt (eqb-false 1 0 refl)
+accepts-all = accepts refusal-of always no-kind tt (eqb-false 1 0 refl)
 
 -- It does not look at the unused words.
 abbrev used : ValidCall → ℕ × List ℕ
 used x = (x .value .count, take (x .value .count) (x .value .words))
 
-pub unused-not-seen : RuledOut (SeesOnly used refusal always) valid
+pub unused-not-seen : RuledOut (SeesOnly used refusal-of always) valid
 unfolding empty unused-set
-unused-not-seen = sees-only used refusal always empty unused-set tt tt refl (eqb-false 0 1 refl)
+unused-not-seen = sees-only used refusal-of always empty unused-set tt tt refl (eqb-false 0 1 refl)
 
 -- It does not look at the words, or at the count.
-pub words-ignored : RuledOut (SeesOnly (λ (x : ValidCall). x .value .count) refusal always) valid
+pub words-ignored : RuledOut (SeesOnly (λ (x : ValidCall). x .value .count) refusal-of always) valid
 unfolding one-uint no-kind
-words-ignored = sees-only (λ (x : ValidCall). x .value .count) refusal always one-uint no-kind tt tt refl (eqb-false 0 1 refl)
+words-ignored = sees-only (λ (x : ValidCall). x .value .count) refusal-of always one-uint no-kind tt tt refl (eqb-false 0 1 refl)
 
-pub count-ignored : RuledOut (SeesOnly (λ (x : ValidCall). x .value .words) refusal always) valid
+pub count-ignored : RuledOut (SeesOnly (λ (x : ValidCall). x .value .words) refusal-of always) valid
 unfolding empty no-kind
-count-ignored = sees-only (λ (x : ValidCall). x .value .words) refusal always empty no-kind tt tt refl (eqb-false 0 1 refl)
+count-ignored = sees-only (λ (x : ValidCall). x .value .words) refusal-of always empty no-kind tt tt refl (eqb-false 0 1 refl)

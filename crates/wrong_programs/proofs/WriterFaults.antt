@@ -17,12 +17,12 @@ use Rattle.hproto_state.specs.declared.Written.{Written}
 use Rattle.hproto_state.specs.declared.Finished.{Finished}
 use Rattle.hproto_state.proofs.Conditions.{StartMet, start-met}
 use Rattle.wrong_programs.specs.Kinds as kinds
-use Rattle.wrong_programs.specs.Kinds.{RuledOut, AcceptsSome}
+use Rattle.wrong_programs.specs.Kinds.{RuledOut, AcceptsSome, refusal-of}
 use Rattle.wrong_programs.specs.Writer as writing
-use Rattle.wrong_programs.specs.Writer.{StartCall, start, Put, uint, int, octets, PutCall, Outcome, put, OpenCall, openField, CloseCall, closeField, FinishCall, finish}
+use Rattle.wrong_programs.specs.Writer.{StartCall, start, Put, uint, int, octets, PutCall, Outcome, put, OpenCall, openField, CloseCall, closeField, StateCall, finish, soundState}
 use Rattle.wrong_programs.specs.Faults.{BadTableRuledOut, BadStateRuledOut}
 use Rattle.wrong_programs.proofs.RulingOut.{accepts-some}
-use Rattle.wrong_programs.proofs.Faults.{and-false, equal, met, bad-table, bad-state}
+use Rattle.wrong_programs.proofs.Faults.{and-false, equal, holds, met, bad-table, bad-state}
 
 -- The tests that put, open and close share, with what comes after them.
 state-and-table : (t : Table) (s : State) (next : ℕ) → orRefuse (sound s) 10 (orRefuse (valid t) 2 next) ≡ 0 → (sound s ≡ true) × (valid t ≡ true)
@@ -44,8 +44,8 @@ passed t s len next e =
 
 -- ---- put_uint, put_int and put_octets
 
-abbrev refusal : Outcome → ℕ
-refusal r = r .answer .refusal
+abbrev outcome-refusal : Outcome → ℕ
+outcome-refusal r = r .answer .refusal
 
 module _ (p : Put) where
   abbrev table : PutCall p → Table
@@ -57,7 +57,7 @@ module _ (p : Put) where
   abbrev size : PutCall p → ℕ
   size x = length (x .value .buffer)
 
-put-passed : (p : Put) (x : PutCall p) → refusal (put p x) ≡ 0 → Passed (table p x) (state p x) (size p x)
+put-passed : (p : Put) (x : PutCall p) → outcome-refusal (put p x) ≡ 0 → Passed (table p x) (state p x) (size p x)
 unfolding put writing.callOf writing.Value writes.answer calls.put calls.answered calls.putRefusal
 put-passed uint x e = passed (table uint x) (state uint x) (size uint x) _ e
 put-passed int x e = passed (table int x) (state int x) (size int x) _ e
@@ -72,15 +72,15 @@ module _ (p : Put) where
   unfolding writing.putFits writing.stateFits kinds.array
   seven-marks x = equal (length (state p x .marks)) 7 (λ e. simp (e, and-false) at (x .in-range))
 
-  pub put-accepts-bad-table : BadTableRuledOut (put p) refusal (table p)
-  put-accepts-bad-table = bad-table refusal (table p) words-64 (λ x e. put-passed p x e .table-valid)
+  pub put-accepts-bad-table : BadTableRuledOut (put p) outcome-refusal (table p)
+  put-accepts-bad-table = bad-table outcome-refusal (table p) words-64 (λ x e. put-passed p x e .table-valid)
 
-  pub put-accepts-bad-state : BadStateRuledOut (put p) refusal (state p)
-  put-accepts-bad-state = bad-state refusal (state p) seven-marks (λ x e. put-passed p x e .state-sound)
+  pub put-accepts-bad-state : BadStateRuledOut (put p) outcome-refusal (state p)
+  put-accepts-bad-state = bad-state outcome-refusal (state p) seven-marks (λ x e. put-passed p x e .state-sound)
 
   -- It accepts a buffer of another length than `start` got.
-  pub put-accepts-other-buffer : RuledOut (AcceptsSome refusal (λ (x : PutCall p). size p x ≡ state p x .length → ⊥)) (put p)
-  put-accepts-other-buffer = accepts-some refusal _ (λ x w e. w (put-passed p x e .same-length))
+  pub put-accepts-other-buffer : RuledOut (AcceptsSome outcome-refusal (λ (x : PutCall p). size p x ≡ state p x .length → ⊥)) (put p)
+  put-accepts-other-buffer = accepts-some outcome-refusal _ (λ x w e. w (put-passed p x e .same-length))
 
 -- ---- close_field
 
@@ -93,29 +93,29 @@ close-state x = x .value .state
 abbrev close-size : CloseCall → ℕ
 close-size x = length (x .value .buffer)
 
-close-passed : (x : CloseCall) → refusal (closeField x) ≡ 0 → Passed (close-table x) (close-state x) (close-size x)
+close-passed : (x : CloseCall) → outcome-refusal (closeField x) ≡ 0 → Passed (close-table x) (close-state x) (close-size x)
 unfolding closeField calls.closing calls.answered calls.closeRefusal calls.closeEarly
 close-passed x e = passed (close-table x) (close-state x) (close-size x) _ e
 
-pub close-accepts-bad-table : BadTableRuledOut closeField refusal close-table
+pub close-accepts-bad-table : BadTableRuledOut closeField outcome-refusal close-table
 unfolding writing.closeFits kinds.table kinds.array
 close-accepts-bad-table =
-    bad-table refusal close-table (λ x. equal (length (close-table x .words)) 64 (λ e. simp (e, and-false) at (x .in-range)))
+    bad-table outcome-refusal close-table (λ x. equal (length (close-table x .words)) 64 (λ e. simp (e, and-false) at (x .in-range)))
     (λ x e. close-passed x e .table-valid)
 
-pub close-accepts-bad-state : BadStateRuledOut closeField refusal close-state
+pub close-accepts-bad-state : BadStateRuledOut closeField outcome-refusal close-state
 unfolding writing.closeFits writing.stateFits kinds.array
 close-accepts-bad-state =
-    bad-state refusal close-state (λ x. equal (length (close-state x .marks)) 7 (λ e. simp (e, and-false) at (x .in-range)))
+    bad-state outcome-refusal close-state (λ x. equal (length (close-state x .marks)) 7 (λ e. simp (e, and-false) at (x .in-range)))
     (λ x e. close-passed x e .state-sound)
 
-pub close-accepts-other-buffer : RuledOut (AcceptsSome refusal (λ (x : CloseCall). close-size x ≡ close-state x .length → ⊥)) closeField
-close-accepts-other-buffer = accepts-some refusal _ (λ x w e. w (close-passed x e .same-length))
+pub close-accepts-other-buffer : RuledOut (AcceptsSome outcome-refusal (λ (x : CloseCall). close-size x ≡ close-state x .length → ⊥)) closeField
+close-accepts-other-buffer = accepts-some outcome-refusal _ (λ x w e. w (close-passed x e .same-length))
 
 -- ---- open_field, which is given no buffer
 
-abbrev written : Written → ℕ
-written r = r .refusal
+abbrev refusal : Written → ℕ
+refusal r = r .refusal
 
 abbrev open-table : OpenCall → Table
 open-table x = x .value .table
@@ -123,48 +123,55 @@ open-table x = x .value .table
 abbrev open-state : OpenCall → State
 open-state x = x .value .state
 
-open-passed : (x : OpenCall) → written (openField x) ≡ 0 → (sound (open-state x) ≡ true) × (valid (open-table x) ≡ true)
+open-passed : (x : OpenCall) → refusal (openField x) ≡ 0 → (sound (open-state x) ≡ true) × (valid (open-table x) ≡ true)
 unfolding openField calls.opening calls.answered calls.openRefusal
 open-passed x e = state-and-table (open-table x) (open-state x) _ e
 
-pub open-accepts-bad-table : BadTableRuledOut openField written open-table
+pub open-accepts-bad-table : BadTableRuledOut openField refusal open-table
 unfolding writing.openFits kinds.table kinds.array
 open-accepts-bad-table =
-    bad-table written open-table (λ x. equal (length (open-table x .words)) 64 (λ e. simp (e, and-false) at (x .in-range)))
+    bad-table refusal open-table (λ x. equal (length (open-table x .words)) 64 (λ e. simp (e, and-false) at (x .in-range)))
     (λ x e. open-passed x e .1)
 
-pub open-accepts-bad-state : BadStateRuledOut openField written open-state
+pub open-accepts-bad-state : BadStateRuledOut openField refusal open-state
 unfolding writing.openFits writing.stateFits kinds.array
 open-accepts-bad-state =
-    bad-state written open-state (λ x. equal (length (open-state x .marks)) 7 (λ e. simp (e, and-false) at (x .in-range)))
+    bad-state refusal open-state (λ x. equal (length (open-state x .marks)) 7 (λ e. simp (e, and-false) at (x .in-range)))
     (λ x e. open-passed x e .0)
 
--- ---- finish, which is given the state alone
+-- ---- finish and sound, which are given the state alone
 
-pub finish-accepts-bad-state : BadStateRuledOut finish (λ (r : Finished). r .refusal) (λ (x : FinishCall). x .value)
+pub finish-accepts-bad-state : BadStateRuledOut finish (λ (r : Finished). r .refusal) (λ (x : StateCall). x .value)
 unfolding writing.stateFits kinds.array finish calls.finished calls.finishRefusal
 finish-accepts-bad-state =
-    bad-state (λ (r : Finished). r .refusal) (λ (x : FinishCall). x .value)
+    bad-state (λ (r : Finished). r .refusal) (λ (x : StateCall). x .value)
     (λ x. equal (length (x .value .marks)) 7 (λ e. simp (e, and-false) at (x .in-range)))
     (λ x e. met (sound (x .value)) 10 _ (omega arith) e .0)
+
+pub sound-accepts-bad-state : BadStateRuledOut soundState refusal-of (λ (x : StateCall). x .value)
+unfolding writing.stateFits kinds.array soundState
+sound-accepts-bad-state =
+    bad-state refusal-of (λ (x : StateCall). x .value)
+    (λ x. equal (length (x .value .marks)) 7 (λ e. simp (e, and-false) at (x .in-range)))
+    (λ x e. holds (sound (x .value)) e)
 
 -- ---- start
 
 module _ (x : StartCall) where
-  start-passed : written (start x) ≡ 0 → StartMet (x .value .table) (x .value .number) (length (x .value .buffer))
+  start-passed : refusal (start x) ≡ 0 → StartMet (x .value .table) (x .value .number) (length (x .value .buffer))
   unfolding start calls.started calls.answered
   start-passed e = start-met (x .value .table) (x .value .number) (length (x .value .buffer)) e
 
-pub start-accepts-bad-table : BadTableRuledOut start written (λ (x : StartCall). x .value .table)
+pub start-accepts-bad-table : BadTableRuledOut start refusal (λ (x : StartCall). x .value .table)
 unfolding writing.startFits kinds.table kinds.array
 start-accepts-bad-table =
-    bad-table written (λ (x : StartCall). x .value .table)
+    bad-table refusal (λ (x : StartCall). x .value .table)
     (λ x. equal (length (x .value .table .words)) 64 (λ e. simp (e, and-false) at (x .in-range)))
     (λ x e. start-passed x e .table)
 
 -- It accepts a buffer over 65,536 octets, or a number over 15.
-pub start-accepts-long-buffer : RuledOut (AcceptsSome written (λ (x : StartCall). 65536 < length (x .value .buffer))) start
-start-accepts-long-buffer = accepts-some written _ (λ x w e. let h = start-passed x e .short in omega arith)
+pub start-accepts-long-buffer : RuledOut (AcceptsSome refusal (λ (x : StartCall). 65536 < length (x .value .buffer))) start
+start-accepts-long-buffer = accepts-some refusal _ (λ x w e. let h = start-passed x e .short in omega arith)
 
-pub start-accepts-number-over-15 : RuledOut (AcceptsSome written (λ (x : StartCall). 15 < x .value .number)) start
-start-accepts-number-over-15 = accepts-some written _ (λ x w e. let h = start-passed x e .small in omega arith)
+pub start-accepts-number-over-15 : RuledOut (AcceptsSome refusal (λ (x : StartCall). 15 < x .value .number)) start
+start-accepts-number-over-15 = accepts-some refusal _ (λ x w e. let h = start-passed x e .small in omega arith)

@@ -1,7 +1,7 @@
 -- Kinds of wrong programs, over any entry: A is what a call gives to the program, B is its answer.
 use Prim.Native.Nat.{ℕ}
 use mathlib.Core.Path.{_≡_}
-use mathlib.Core.Bool.{Bool, true, _&&_}
+use mathlib.Core.Bool.{Bool, true, cond, _&&_}
 use mathlib.Core.List.{List, [], _∷_}
 use lib.ListN.{length}
 use lib.Dec.{T, eqb, ltb}
@@ -18,6 +18,10 @@ always x = Unit {0}
 -- The calls whose answer under the contract has a part that is `a`: with refusal number 0, the calls that the contract accepts.
 abbrev pub due : {A B C : Type 0} → (A → B) → (B → C) → C → A → Type 0
 due right part a x = part (right x) ≡ a
+
+-- The refusal number of an entry that answers whether it accepts.
+abbrev pub refusal-of : Bool → ℕ
+refusal-of b = cond b 0 1
 
 -- The program rejects the call. `refusal` is the refusal number in an answer.
 unfoldable pub Rejects : {A B : Type 0} → (B → ℕ) → (A → Type 0) → (A → B) → Type 0

@@ -6,6 +6,7 @@ use lib.Dec.{ltb}
 use lib.IntN.{ℤ, pos, negsuc}
 use lib.ListN.{length}
 use Rattle.hproto_table.specs.declared.Table.{Table}
+use Rattle.hproto_state.specs.Sound.{sound}
 use Rattle.hproto_state.specs.Answer.{Call, putUint, putInt, putOctets}
 use Rattle.hproto_state.specs.Answer as writes
 use Rattle.hproto_state.specs.Calls.{started, opening, closing, closeBuffer, finished}
@@ -128,10 +129,13 @@ closeField x =
       buffer = closeBuffer (x .value .table) (x .value .state) (x .value .buffer);
     }
 
--- ---- finish
+-- ---- finish and sound, which are given the state alone
 
-abbrev pub FinishCall : Type 0
-FinishCall = Given stateFits
+abbrev pub StateCall : Type 0
+StateCall = Given stateFits
 
-unfoldable pub finish : FinishCall → Finished
+unfoldable pub finish : StateCall → Finished
 finish x = finished (x .value)
+
+unfoldable pub soundState : StateCall → Bool
+soundState x = sound (x .value)
