@@ -63,8 +63,8 @@ first = each (λ p. asked p (state-at 6) 1 (five p) unused) (outcome (accepted (
 later : (p : Put) → Sample (put p)
 unfolding writer kind five
 later =
-    each (λ p. asked p (state-at 4) 1 (five p) (ending (0x11 ∷ 5 ∷ []))) (outcome (accepted (state-at 2)) (ending (0x11 ∷ 5 ∷ 0x11 ∷ 5 ∷ []))) tt tt tt refl
-    refl refl
+    each (λ p. asked p (state-at 4) 1 (five p) (ending (0x11 ∷ 5 ∷ [])))
+    (outcome (accepted (state-at 2)) (ending (0x11 ∷ 5 ∷ 0x11 ∷ 5 ∷ []))) tt tt tt refl refl refl
 
 -- A put of a value of no octets, and of 5 with the tag 2, and with a tag that is not in the table.
 empty : (p : Put) → Sample (put p)

@@ -56,6 +56,12 @@ words-64 x = equal (length (x .value .table .words)) 64 (λ e. simp (e, and-fals
 abbrev table : ValueCall → Table
 table x = x .value .table
 
+abbrev found-refusal : Found → ℕ
+found-refusal r = r .refusal
+
+abbrev shortened-refusal : Shortened → ℕ
+shortened-refusal r = r .refusal
+
 -- What they have in common: where the check refuses, they do.
 module _ {B : Type 0} {right : ValueCall → B} (refusal : B → ℕ)
     (refuses : (x : ValueCall) → refusal (right x) ≡ 0 → check x .refusal ≡ 0) where
@@ -63,20 +69,21 @@ module _ {B : Type 0} {right : ValueCall → B} (refusal : B → ℕ)
   unfolding check
   behind-the-check = bad-table refusal table words-64 (λ x e. check-valid (table x) (x .value .number) (x .value .message) (refuses x e))
 
+-- It accepts a table value that the loader cannot give.
 pub check-accepts-bad-table : BadTableRuledOut check (λ (r : Checked). r .refusal) table
 check-accepts-bad-table = behind-the-check (λ (r : Checked). r .refusal) (λ x e. e)
 
-pub lookup-accepts-bad-table : BadTableRuledOut lookup (λ (r : Found). r .refusal) table
+pub lookup-accepts-bad-table : BadTableRuledOut lookup found-refusal table
 unfolding check lookup lookups.lookup lookups.answer lookups.refusal
-lookup-accepts-bad-table = behind-the-check (λ (r : Found). r .refusal) (λ x e. checked (λ (r : Found). r .refusal) (check x .refusal) _ _ refl e)
+lookup-accepts-bad-table = behind-the-check found-refusal (λ x e. checked found-refusal (check x .refusal) _ _ refl e)
 
-pub lookup-last-accepts-bad-table : BadTableRuledOut lookupLast (λ (r : Found). r .refusal) table
+pub lookup-last-accepts-bad-table : BadTableRuledOut lookupLast found-refusal table
 unfolding check lookupLast lookups.lookupLast lookups.answer lookups.refusal
-lookup-last-accepts-bad-table = behind-the-check (λ (r : Found). r .refusal) (λ x e. checked (λ (r : Found). r .refusal) (check x .refusal) _ _ refl e)
+lookup-last-accepts-bad-table = behind-the-check found-refusal (λ x e. checked found-refusal (check x .refusal) _ _ refl e)
 
-pub shorten-accepts-bad-table : BadTableRuledOut shorten (λ (r : Shortened). r .refusal) table
+pub shorten-accepts-bad-table : BadTableRuledOut shorten shortened-refusal table
 unfolding check shorten shortens.answer shortens.answerTo shortens.refusal
-shorten-accepts-bad-table = behind-the-check (λ (r : Shortened). r .refusal) (λ x e. checked (λ (r : Shortened). r .refusal) (check x .refusal) _ _ refl e)
+shorten-accepts-bad-table = behind-the-check shortened-refusal (λ x e. checked shortened-refusal (check x .refusal) _ _ refl e)
 
 pub valid-accepts-bad-table : BadTableRuledOut validity.valid refusal-of (λ (x : ValidCall). x .value)
 unfolding validity.valid kinds.table kinds.array

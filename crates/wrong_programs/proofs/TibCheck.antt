@@ -89,7 +89,8 @@ module _ (f : Format) where
   -- The count of fields of what it accepts is the same each time, or is made from the length of the message.
   pub fields-by-length : RuledOut (SeesOnly size fields accepts-it) (check f)
   unfolding one two
-  fields-by-length = sees-only size fields accepts-it (one f) (two f) (fixes refusal (one f)) (fixes refusal (two f)) (same-length f) (eqb-false 1 2 refl)
+  fields-by-length =
+      sees-only size fields accepts-it (one f) (two f) (fixes refusal (one f)) (fixes refusal (two f)) (same-length f) (eqb-false 1 2 refl)
 
   -- A name that is cut short is refused with 15, as a bad one.
   abbrev ends-in-a-name : MessageCall → Type 0

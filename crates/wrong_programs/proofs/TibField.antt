@@ -14,7 +14,7 @@ use Rattle.wrong_programs.specs.Kinds.{RuledOut, Rejects, Accepts, Inven
 use Rattle.wrong_programs.specs.Tib.{Format, tibmsg, FieldInput, FieldCall, field}
 use Rattle.wrong_programs.proofs.RulingOut.{Sample, given, fixes, rejects, accepts, invents, sees-only}
 use Rattle.wrong_programs.proofs.Computing.{tib}
-use Rattle.wrong_programs.proofs.TibMessages.{both, message, stringType, one-field, two-fields, first}
+use Rattle.wrong_programs.proofs.TibMessages.{both, message, string-type, one-field, two-fields, first}
 
 -- The answer for a field with no name that begins at a place: its type, the length of its data, the type of its hint and its real.
 abbrev found : ℕ → ℕ → ℕ → ℕ → Real → Field
@@ -38,16 +38,16 @@ asked message k = record { message = message; k = k }
 
 -- The only field of a message; both fields of another, and the one after them.
 only : (f : Format) → Sample (field f)
-unfolding tib one-field stringType first
-only = both field (λ f. asked (one-field f) 0) (λ f. found (first f) (stringType f) 3 0 noReal) tt tt refl refl
+unfolding tib one-field string-type first
+only = both field (λ f. asked (one-field f) 0) (λ f. found (first f) (string-type f) 3 0 noReal) tt tt refl refl
 
 first-of-two : (f : Format) → Sample (field f)
-unfolding tib two-fields stringType first
-first-of-two = both field (λ f. asked (two-fields f) 0) (λ f. found (first f) (stringType f) 0 0 noReal) tt tt refl refl
+unfolding tib two-fields string-type first
+first-of-two = both field (λ f. asked (two-fields f) 0) (λ f. found (first f) (string-type f) 0 0 noReal) tt tt refl refl
 
 second : (f : Format) → Sample (field f)
-unfolding tib two-fields stringType first
-second = both field (λ f. asked (two-fields f) 1) (λ f. found (first f + 3) (stringType f) 0 0 noReal) tt tt refl refl
+unfolding tib two-fields string-type first
+second = both field (λ f. asked (two-fields f) 1) (λ f. found (first f + 3) (string-type f) 0 0 noReal) tt tt refl refl
 
 no-third : (f : Format) → Sample (field f)
 unfolding tib two-fields

@@ -32,9 +32,9 @@ message tibmsg s = 0xce ∷ 0x13 ∷ 0xaa ∷ 0x1f ∷ 1 ∷ 0 ∷ 0 ∷ 0 ∷ l
 message tibrv s = 0 ∷ 0 ∷ 0 ∷ (8 + length s) ∷ 0x99 ∷ 0x55 ∷ 0xee ∷ 0xaa ∷ s
 
 -- The type of a string, and a string with no name.
-unfoldable pub stringType : Format → ℕ
-stringType tibmsg = 2
-stringType tibrv = 8
+unfoldable pub string-type : Format → ℕ
+string-type tibmsg = 2
+string-type tibrv = 8
 
 unfoldable pub string : Format → List ℕ → List ℕ
 string tibmsg s = 0 ∷ 2 ∷ length s ∷ s

@@ -36,7 +36,8 @@ record Passed (t : Table) (s : State) (len : ℕ) : Type 0 where
   state-sound : sound s ≡ true
   table-valid : valid t ≡ true
 
-passed : (t : Table) (s : State) (len next : ℕ) → orRefuse (eqb len (s .length)) 10 (orRefuse (sound s) 10 (orRefuse (valid t) 2 next)) ≡ 0 → Passed t s len
+passed : (t : Table) (s : State) (len next : ℕ)
+    → orRefuse (eqb len (s .length)) 10 (orRefuse (sound s) 10 (orRefuse (valid t) 2 next)) ≡ 0 → Passed t s len
 passed t s len next e =
     let a = met (eqb len (s .length)) 10 (orRefuse (sound s) 10 (orRefuse (valid t) 2 next)) (omega arith) e in
     let b = state-and-table t s next (a .1) in

@@ -21,6 +21,8 @@ pub record BadStateRuledOut {A B : Type 0} (right : A → B) (refusal : B → �
   pub accepts-mark-beyond-length :
       RuledOut (AcceptsSome refusal (λ (x : A). (i : ℕ) × (i < state x .opened) × (state x .length < getD (state x .marks) i 0))) right
   pub accepts-rising-marks :
-      RuledOut (AcceptsSome refusal (λ (x : A). (i : ℕ) × (suc i < state x .opened) × (getD (state x .marks) i 0 < getD (state x .marks) (suc i) 0))) right
+      RuledOut
+      (AcceptsSome refusal (λ (x : A). (i : ℕ) × (suc i < state x .opened) × (getD (state x .marks) i 0 < getD (state x .marks) (suc i) 0)))
+      right
   pub accepts-number-over-15 :
       RuledOut (AcceptsSome refusal (λ (x : A). (i : ℕ) × (i ≤ state x .opened) × (15 < getD (state x .numbers) i 0))) right
