@@ -7,7 +7,7 @@ use lib.IntN.{ℤ, pos, negsuc}
 use lib.ListN.{length}
 use Rattle.hproto_table.specs.declared.Table.{Table}
 use Rattle.hproto_state.specs.Sound.{sound}
-use Rattle.hproto_state.specs.Answer.{Call, putUint, putInt, putOctets}
+use Rattle.hproto_state.specs.Call.{Call, putUint, putInt, putOctets}
 use Rattle.hproto_state.specs.Answer as writes
 use Rattle.hproto_state.specs.Calls.{started, opening, closing, closeBuffer, finished}
 use Rattle.hproto_state.specs.declared.State.{State}
