@@ -1,4 +1,6 @@
 pub mod RulingOut
+pub mod Demands
+pub mod Rejected
 pub mod Faults
 pub mod Computing
 pub mod Witnesses

@@ -1,10 +1,11 @@
 -- Wrong programs in the place of tib_real::real.
-use Prim.Native.Nat.{ℕ}
+use Prim.Native.Nat.{ℕ, _+_, _*_, _/_, _%_, _^_}
 use native.Mathlib.Omega.{arith}
 use mathlib.Core.Path.{_≡_, refl}
-use mathlib.Core.Bool.{Bool, true, false, true≢false}
+use mathlib.Core.Bool.{Bool, true, false, _&&_, true≢false}
 use mathlib.Core.List.{List, [], _∷_}
 use lib.ListN.{length}
+use lib.Dec.{T, eqb, ltb}
 use lib.Ieee as ieee
 use lib.Ieee.{fin}
 use lib.IntN.{pos}
@@ -60,6 +61,15 @@ as-they-stand x = number (x .value .contents)
 pub four-octets-as-they-are : RuledOut (Invents bits as-they-stand has-four-octets) real
 unfolding one
 four-octets-as-they-are = invents bits as-they-stand has-four-octets one refl (eqb-false 0x3ff0000000000000 0x3f800000 refl)
+
+-- The exponent of four octets becomes one too large: of a power of two, whose other bits are 0.
+abbrev power-of-two : RealCall → Type 0
+power-of-two x = has-four-octets x × T (eqb (as-they-stand x % 2 ^ 23) 0 && ltb (as-they-stand x) (2 ^ 31))
+
+pub exponent-too-large : RuledOut (Invents bits (λ (x : RealCall). (as-they-stand x / 2 ^ 23 + 897) * 2 ^ 52) power-of-two) real
+unfolding one
+exponent-too-large =
+    invents bits (λ (x : RealCall). (as-they-stand x / 2 ^ 23 + 897) * 2 ^ 52) power-of-two one (refl, tt) (eqb-false 0x3ff0000000000000 0x4000000000000000 refl)
 
 -- The hint, or whether there is one, is the same each time, or is made from the octets.
 abbrev contents-of : RealCall → List ℕ

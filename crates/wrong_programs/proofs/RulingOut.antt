@@ -7,7 +7,7 @@ use lib.ListN.{getD}
 use lib.IntN.{pos}
 use lib.Dec.{T, eqb}
 use borrow.Author.Tests.{eqb-false}
-use Rattle.wrong_programs.specs.Kinds.{RuledOut, Rejects, Accepts, AcceptsSome, Invents, SeesOnly, Follows, Given, due}
+use Rattle.wrong_programs.specs.Kinds.{RuledOut, Rejects, Accepts, AcceptsSome, Invents, Changes, SeesOnly, Follows, Given, due}
 
 -- A call and the answer that the contract fixes for it. The laws that follow are over such samples.
 pub record Sample {A B : Type 0} (right : A → B) : Type 0 where
@@ -43,6 +43,12 @@ pub invents : {A B C : Type 0} {right : A → B} (part : B → C) (invented : A 
     → when (x .call) → (part (x .answer) ≡ invented (x .call) → ⊥) → RuledOut (Invents part invented when) right
 unfolding RuledOut Invents
 invents part invented when x w d program meets wrong = d (sym (ap part (meets (x .call) ∙ x .fixed)) ∙ wrong (x .call) w)
+
+-- Nor does this one.
+pub changes : {A B C : Type 0} {right : A → B} (part : B → C) (kept : A → C) (when : A → Type 0)
+    → ((x : A) → when x → part (right x) ≡ kept x) → RuledOut (Changes part kept when) right
+unfolding RuledOut Changes
+changes part kept when leaves program meets wrong = wrong .2 (ap part (meets (wrong .0)) ∙ leaves (wrong .0) (wrong .1))
 
 pub sees-only : {A B C D : Type 0} {right : A → B} (seen : A → C) (part : B → D) (when : A → Type 0) (x y : Sample right)
     → when (x .call) → when (y .call) → seen (x .call) ≡ seen (y .call) → (part (x .answer) ≡ part (y .answer) → ⊥)

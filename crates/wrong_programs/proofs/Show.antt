@@ -1,8 +1,10 @@
 -- Wrong programs in the place of hproto_show::show.
-use Prim.Native.Nat.{ℕ}
+use Prim.Native.Nat.{ℕ, _+_, _%_}
 use mathlib.Core.Path.{_≡_, refl}
+use mathlib.Core.Bool.{_&&_}
 use mathlib.Core.List.{List, [], _∷_, _++_}
 use lib.ListN.{length, getD}
+use lib.Dec.{T, ltb}
 use borrow.Author.Tests.{eqb-false}
 use Rattle.wrong_programs.specs.Kinds.{RuledOut, Invents, SeesOnly, always, due}
 use Rattle.wrong_programs.specs.Show.{ShowInput, ShowCall, show}
@@ -59,6 +61,16 @@ digit-2 = given (shown (uint 0x2a) 34) (54, 0x32 ∷ []) tt refl
 digit-3 : Sample show
 unfolding hproto
 digit-3 = given (shown (uint 0x2b) 34) (54, 0x33 ∷ []) tt refl
+
+-- The first letter of "uint" before the 7.
+letter-u : Sample show
+unfolding hproto
+letter-u = given (shown (uint 0x07) 28) (53, 0x75 ∷ []) tt refl
+
+-- A message that is refused with 4 and one octet after it: "refused 14 at 0".
+fourteen : Sample show
+unfolding hproto
+fourteen = given (shown (0x00 ∷ 0x01 ∷ 0xc3 ∷ 0x00 ∷ []) 8) (16, 0x31 ∷ []) tt refl
 
 abbrev text-length : Answer → ℕ
 text-length a = a .0
@@ -126,3 +138,19 @@ from-ignored = sees-only all-but-from octet always letter-d letter-e tt tt refl 
 pub stores-nothing : RuledOut (Invents octet (λ (x : ShowCall). getD (x .value .out) 0 0) always) show
 unfolding letter-d
 stores-nothing = invents octet (λ (x : ShowCall). getD (x .value .out) 0 0) always letter-d tt (eqb-false 0x64 0 refl)
+
+-- It prints the value where the kind belongs.
+abbrev digit-for-kind : ShowCall → Type 0
+digit-for-kind x = (v : ℕ) × (x .value ≡ shown (uint v) 28)
+
+pub value-for-kind : RuledOut (Invents octet (λ (x : ShowCall). 0x30 + getD (x .value .input) 11 0) digit-for-kind) show
+unfolding letter-u
+value-for-kind = invents octet (λ (x : ShowCall). 0x30 + getD (x .value .input) 11 0) digit-for-kind letter-u (0x07, refl) (eqb-false 0x75 0x37 refl)
+
+-- It refuses the message before the octets after both frames.
+abbrev message-and-more : ShowCall → Type 0
+message-and-more x = (c b : ℕ) × (x .value ≡ shown (0x00 ∷ 0x01 ∷ c ∷ b ∷ []) 8) × T (ltb 0 (c % 16) && ltb (c % 16) 12)
+
+pub fourteen-after-the-message : RuledOut (Invents octet (λ (x : ShowCall). 0x34) message-and-more) show
+unfolding fourteen
+fourteen-after-the-message = invents octet (λ (x : ShowCall). 0x34) message-and-more fourteen (0xc3, 0x00, refl, tt) (eqb-false 0x31 0x34 refl)

@@ -23,6 +23,10 @@ due right part a x = part (right x) ≡ a
 abbrev pub refusal-of : Bool → ℕ
 refusal-of b = cond b 0 1
 
+-- The calls that the contract rejects.
+abbrev pub rejectedBy : {A B : Type 0} → (A → B) → (B → ℕ) → A → Type 0
+rejectedBy right refusal x = refusal (right x) ≡ 0 → ⊥
+
 -- The program rejects the call. `refusal` is the refusal number in an answer.
 unfoldable pub Rejects : {A B : Type 0} → (B → ℕ) → (A → Type 0) → (A → B) → Type 0
 Rejects {A} refusal when program = (x : A) → when x → refusal (program x) ≡ 0 → ⊥
@@ -38,6 +42,10 @@ AcceptsSome {A} refusal when program = (x : A) × when x × (refusal (program x)
 -- A part of the answer is what `invented` says, whatever else the program answers.
 unfoldable pub Invents : {A B C : Type 0} → (B → C) → (A → C) → (A → Type 0) → (A → B) → Type 0
 Invents {A} part invented when program = (x : A) → when x → part (program x) ≡ invented x
+
+-- For some call, a part of the answer is not what it has to leave.
+unfoldable pub Changes : {A B C : Type 0} → (B → C) → (A → C) → (A → Type 0) → (A → B) → Type 0
+Changes {A} part kept when program = (x : A) × when x × (part (program x) ≡ kept x → ⊥)
 
 -- A part of the answer depends only on what `seen` gives of the call.
 unfoldable pub SeesOnly : {A B C D : Type 0} → (A → C) → (B → D) → (A → Type 0) → (A → B) → Type 0

@@ -1,0 +1,119 @@
+-- Demand 3 by itself fixes what a shortener answers and stores.
+use Prim.Native.Nat.{ℕ, _≤_, _<_}
+use native.Mathlib.Omega.{arith}
+use native.Mathlib.Decide.{ℕ-discrete}
+use mathlib.Core.Path.{_≡_, refl, sym, _∙_, ap, subst}
+use mathlib.Core.Bool.{Bool, true, false, _&&_}
+use mathlib.Core.List.{List, [], _∷_, _++_}
+use mathlib.Core.List as lists
+use lib.ListN.{length, drop, getD}
+use lib.Seq.{sets}
+use lib.Dec.{leb, ltb, T}
+use borrow.Author.Tests.{leb-true, leb-false, ltb-true}
+use Rattle.reading.specs.Reading.{messageLimit}
+use Rattle.reading.specs.declared.Checked.{Checked}
+use Rattle.octets.specs.Number.{Octets}
+use Rattle.hproto_table.specs.Load.{load}
+use Rattle.hproto_table.specs.Schema.{Schema, schema}
+use Rattle.hproto_table.specs.declared.Loaded.{Loaded}
+use Rattle.hproto_message.specs.ReadTheSame.{HasCut, ShortForm, ReadTheSame, OthersMore}
+use Rattle.hproto_shorten.specs.Demand3.{Demand3Holds, Shortens}
+use Rattle.hproto_shorten.specs.declared.Shortened.{Shortened}
+use Rattle.hproto_calls.specs.Calls.{checkOctets, shortenOctets, shortenBuffer}
+use Rattle.hproto_calls.proofs.Demand3.{demand-3}
+use Rattle.wrong_programs.specs.Kinds as kinds
+use Rattle.wrong_programs.proofs.RulingOut.{differ-at}
+use Rattle.wrong_programs.proofs.Computing.{hproto}
+use Rattle.wrong_programs.proofs.Witnesses.{uints}
+
+-- Two lists of numbers are the same or not.
+same-or-not : (a b : List ℕ) → Dec (a ≡ b)
+same-or-not [] [] = yes refl
+same-or-not [] (y ∷ b) = no (λ (e : [] ≡ y ∷ b). let k : 0 ≡ length (y ∷ b) = ap length e in absurd (omega arith))
+same-or-not (x ∷ a) [] = no (λ (e : x ∷ a ≡ []). let k : length (x ∷ a) ≡ 0 = ap length e in absurd (omega arith))
+same-or-not (x ∷ a) (y ∷ b) = both (ℕ-discrete x y) (same-or-not a b)
+  where
+    both : Dec (x ≡ y) → Dec (a ≡ b) → Dec (x ∷ a ≡ y ∷ b)
+    both (yes p) (yes q) = yes (rw (p, q) refl)
+    both (no d) q = no (λ e. d (ap (λ (s : List ℕ). getD s 0 0) e))
+    both (yes p) (no d) = no (λ e. d (ap (drop 1) e))
+
+-- A message has one short form.
+one-short : (sc : Schema) (n : ℕ) (s a b : List ℕ) → ShortForm sc n s a → ShortForm sc n s b → a ≡ b
+unfolding OthersMore
+one-short sc n s a b f g = go (same-or-not a b)
+  where
+    go : Dec (a ≡ b) → a ≡ b
+    go (yes e) = e
+    go (no d) =
+        let h = f .others-more b (g .short-octets) (g .reads-the-same) (λ e. d (sym e)) in
+        let k = g .others-more a (f .short-octets) (f .reads-the-same) d in
+        absurd (omega arith)
+
+-- Two short forms of a message lead to the same answer and the same buffer.
+module _ (sc : Schema) (n : ℕ) (s : List ℕ) (check other : ℕ → List ℕ → Checked) (shorten shorten' : ℕ → List ℕ → List ℕ → Shortened)
+    (buffer buffer' : ℕ → List ℕ → List ℕ → List ℕ) (a b out : List ℕ) (x : Shortens sc check shorten buffer n s a)
+    (y : Shortens sc other shorten' buffer' n s b) where
+  same : a ≡ b
+  same = one-short sc n s a b (x .short-form) (y .short-form)
+
+  agree : (shorten n s out ≡ shorten' n s out) × (buffer n s out ≡ buffer' n s out)
+  agree = go (leb (length a) (length out)) refl
+    where
+      go : (t : Bool) → leb (length a) (length out) ≡ t → (shorten n s out ≡ shorten' n s out) × (buffer n s out ≡ buffer' n s out)
+      go true r =
+          let h = leb-true (length a) (length out) r in
+          let p = x .with-room out h in
+          let q = y .with-room out (subst (λ (l : List ℕ). length l ≤ length out) same h) in
+          (p .0 ∙ rw same (sym (q .0)), p .1 ∙ rw same (sym (q .1)))
+      go false r =
+          let h = leb-false (length a) (length out) r in
+          let p = x .without-room out h in
+          let q = y .without-room out (subst (λ (l : List ℕ). length out < length l) same h) in
+          (p .0 ∙ sym (q .0), p .1 ∙ sym (q .1))
+
+-- Whoever meets demand 3, whatever check stands beside it, answers and stores what the calls of this library do, on every message that has a cut.
+pub demand-3-fixes : (check : List ℕ → ℕ → List ℕ → Checked) (shorten : List ℕ → ℕ → List ℕ → List ℕ → Shortened)
+    (buffer : List ℕ → ℕ → List ℕ → List ℕ → List ℕ) → Demand3Holds check shorten buffer
+    → (table : List ℕ) → Octets table → load table .refusal ≡ 0 → (n : ℕ) → n ≤ 15 → (s : List ℕ) → Octets s → length s ≤ messageLimit
+    → HasCut (schema (load table .table)) n s → (out : List ℕ)
+    → (shorten table n s out ≡ shortenOctets table n s out) × (buffer table n s out ≡ shortenBuffer table n s out)
+demand-3-fixes check shorten buffer meets table o e n k s p h cut out =
+    let x = meets table o e n k s p h .shortened cut in
+    let y = demand-3 table o e n k s p h .shortened cut in
+    agree (schema (load table .table)) n s (check table) (checkOctets table) (shorten table) (shortenOctets table) (buffer table) (shortenBuffer table)
+    (x .0) (y .0) out (x .1) (y .1)
+
+-- So no shortener that copies its input meets demand 3, whatever it answers and whatever check stands beside it: the copy of a uint 5 in four
+-- octets is not the shortest.
+abbrev long : List ℕ
+long = 0x1d ∷ 0x00 ∷ 0x01 ∷ 0x05 ∷ []
+
+shortened : shortenBuffer uints 0 long (9 ∷ 9 ∷ 9 ∷ 9 ∷ []) ≡ 0x11 ∷ 0x05 ∷ 9 ∷ 9 ∷ []
+unfolding hproto
+shortened = refl
+
+accepted : (load uints .refusal ≡ 0) × (checkOctets uints 0 long .refusal ≡ 0)
+unfolding hproto
+accepted = (refl, refl)
+
+-- Numbers that pass the test are octets.
+are-octets : (s : List ℕ) → T (kinds.octets s) → Octets s
+unfolding kinds.octets kinds.below Octets
+are-octets [] w = tt
+are-octets (x ∷ s) w = go (ltb x 256) refl w (are-octets s)
+  where
+    go : (t : Bool) → ltb x 256 ≡ t → T (t && kinds.below 256 s) → (T (kinds.octets s) → Octets s) → (x < 256) × Octets s
+    go true e w f = (ltb-true x 256 e, f w)
+
+in-range : Octets uints × Octets long
+unfolding hproto
+in-range = (are-octets uints tt, are-octets long tt)
+
+pub copies-its-input : (check : List ℕ → ℕ → List ℕ → Checked) (shorten : List ℕ → ℕ → List ℕ → List ℕ → Shortened)
+    → Demand3Holds check shorten (λ table n s out. sets out 0 s) → ⊥
+copies-its-input check shorten meets =
+    let d = demand-3 uints (in-range .0) (accepted .0) 0 (omega arith) long (in-range .1) (omega arith) in
+    let f = demand-3-fixes check shorten (λ table n s out. sets out 0 s) meets uints (in-range .0) (accepted .0) 0 (omega arith) long (in-range .1) (omega arith)
+    (d .accepted-exactly-cut .0 (accepted .1)) (9 ∷ 9 ∷ 9 ∷ 9 ∷ []) in
+    differ-at 0 refl (f .1 ∙ shortened)
