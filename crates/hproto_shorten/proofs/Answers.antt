@@ -32,9 +32,9 @@ pub short-under : (sc : Schema) (n : ℕ) (s : List ℕ) → shortUnder sc n s �
 unfolding shortUnder short reading
 short-under sc n s = refl
 
-pub short-form : (t : Table) (n : ℕ) (s : List ℕ) → shortForm t n s ≡ short (schema t) 8 n s
+pub shortForm-is : (t : Table) (n : ℕ) (s : List ℕ) → shortForm t n s ≡ short (schema t) 8 n s
 unfolding shortForm
-short-form t n s = short-under (schema t) n s
+shortForm-is t n s = short-under (schema t) n s
 
 -- What is promised of the answer r and of the buffer afterwards, by the check's answer c, the shortest octets and the buffer before.
 pub record Answered (c : Checked) (xs out : List ℕ) (r : Shortened) (after : List ℕ) : Type 0 where

@@ -28,8 +28,7 @@ use Rattle.hproto_check.proofs.Counts.{read-through}
 use Rattle.hproto_shorten.specs.Shorten.{shortForm, answer, buffer}
 use Rattle.hproto_shorten.specs.Demand3.{Demand3}
 use Rattle.hproto_shorten.proofs.Passing.{short-is}
-use Rattle.hproto_shorten.proofs.Answers as answers
-use Rattle.hproto_shorten.proofs.Answers.{no-room, shortened}
+use Rattle.hproto_shorten.proofs.Answers.{shortForm-is, no-room, shortened}
 use Rattle.hproto_check.proofs.Passed.{check-passed}
 
 module _ (t : Table) (n : ℕ) (v : valid t ≡ true) (k : n ≤ 15) where
@@ -45,7 +44,7 @@ module _ (t : Table) (n : ℕ) (v : valid t ≡ true) (k : n ≤ 15) where
 
   -- The short form is the shortest form of the tree of the cut.
   short-of : (s : List ℕ) (cut : Cut) → Good (schema t) depthLimit n s cut → shortForm t n s ≡ shortest (tree (schema t) n cut)
-  short-of s cut g = answers.short-form t n s ∙ short-is (schema t) depthLimit n s cut g
+  short-of s cut g = shortForm-is t n s ∙ short-is (schema t) depthLimit n s cut g
 
   module _ (s : List ℕ) (o : Octets s) (h : length s ≤ 65536) (c : HasCut (schema t) n s) where
     passes : check t n s .refusal ≡ 0
