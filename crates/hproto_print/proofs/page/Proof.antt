@@ -1,7 +1,7 @@
 -- `hproto_print::page` meets its contract.
 use borrow.Author.Needs.{needs}
 use native.Mathlib.Omega.{arith}
-use mathlib.Core.List.{List, [], _∷_, map}
+use mathlib.Core.List.{[], _∷_, map}
 use lib.ListN.{length, take, length-append}
 use denote.Ref.{now}
 use Rattle.hproto_table.specs.Entry.{entry}

@@ -1,7 +1,7 @@
 -- `hproto_print::lines::direct` meets its contract: the fields before i are counted.
 use native.Mathlib.Omega.{arith}
 use mathlib.Core.Path.{_≡_, _∙_}
-use mathlib.Core.List.{List, map}
+use mathlib.Core.List.{map}
 use Prim.Native.Nat.{_+_, _-_, _<_, _≤_}
 use lib.ListN.{length, take, drop}
 use denote.Ref.{now}
