@@ -11,3 +11,4 @@ pub mod Fields
 pub mod Kths
 pub mod Answers
 pub mod Turns
+pub mod WrongNames

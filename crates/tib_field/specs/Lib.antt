@@ -3,3 +3,4 @@ pub mod Name
 pub mod Refused
 pub mod Fields
 pub mod Kth
+pub mod WrongName

@@ -155,7 +155,7 @@ hint-found c size s h g e = go (hinted c) refl e
         record { hint = []; rest = s; divides = refl; sized = m; allowed = none (g .array f) (g .partial f) }
 
 -- A hint that the layout allows is what the reading finds.
-front-of-hint : (kind size : ℕ) (hint rest : List ℕ) → Hint kind size true hint → hintFront kind size (hint ++ rest) ≡ Size (length hint)
+pub front-of-hint : (kind size : ℕ) (hint rest : List ℕ) → Hint kind size true hint → hintFront kind size (hint ++ rest) ≡ Size (length hint)
 unfolding hintFront arrayHint partialHint valueHint
 front-of-hint kind size hint rest (array t n k a b w d) =
     rw (eq-eqb kind 8 k, le-leb 4 t a, le-leb t 7 b, true-is (isWidth n) w, eq-eqb (size % n) 0 d)

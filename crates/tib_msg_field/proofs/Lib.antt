@@ -3,3 +3,5 @@ pub mod Steps
 pub mod Accepted
 pub mod Fronts
 pub mod Refusals
+pub mod WrongFields
+pub mod FirstFault
