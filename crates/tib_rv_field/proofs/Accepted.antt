@@ -35,7 +35,7 @@ pub record GoodMessage (levels : ℕ) (s : List ℕ) (fs : Fields) : Type 0 wher
   pub fields : Good levels (joined fs) fs
 
 -- The parts and the rest that a step's sizes name.
-leaf-parts : (s : List ℕ) (z : Sizes) (f : Found s z) → (partsAt s z ≡ f .field) × (drop (total z) s ≡ f .rest)
+pub leaf-parts : (s : List ℕ) (z : Sizes) (f : Found s z) → (partsAt s z ≡ f .field) × (drop (total z) s ≡ f .rest)
 leaf-parts s z f =
     let p : partsAt (octets (f .field) ++ f .rest) (sizes (f .field)) ≡ f .field = parts-of-field (f .field) (f .rest) in
     let q : drop (total (sizes (f .field))) (octets (f .field) ++ f .rest) ≡ f .rest = rest-of-field (f .field) (f .rest) in (
@@ -43,7 +43,7 @@ leaf-parts s z f =
       ap₂ (λ (n : ℕ) (r : List ℕ). drop n r) (ap total (sym (f .sized))) (f .divides) ∙ q,
     )
 
-held-parts : (s : List ℕ) (z : Sizes) (f : Held s z) → (partsAt s z ≡ holder (f .name) (f .octets-held)) × (drop (total z) s ≡ f .rest)
+pub held-parts : (s : List ℕ) (z : Sizes) (f : Held s z) → (partsAt s z ≡ holder (f .name) (f .octets-held)) × (drop (total z) s ≡ f .rest)
 held-parts s z f =
     let h = holder (f .name) (f .octets-held) in (
       ap₂ partsAt (f .divides) (sym (f .sized)) ∙ parts-of-field h (f .rest),
@@ -131,7 +131,7 @@ header-good s e =
     let r = fails 0 (not c) 14 0 (omega arith) (q .1) in
     record { whole = ltb-false n 8 (p .0); marked = not-false m (q .0); counted = eqb-true (number (take 4 s)) n (not-false c (r .0)) }
 
-good-header : (s : List ℕ) → GoodHeader s → headerFault s ≡ 0
+pub good-header : (s : List ℕ) → GoodHeader s → headerFault s ≡ 0
 unfolding headerFault
 good-header s g =
     rw (le-ltb (length s) 8 (g .whole), g .marked, eq-eqb (number (take 4 s)) (length s) (g .counted))

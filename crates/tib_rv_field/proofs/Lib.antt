@@ -4,3 +4,5 @@ pub mod Accepted
 pub mod Fronts
 pub mod Announced
 pub mod Refusals
+pub mod WrongFields
+pub mod FirstFault
