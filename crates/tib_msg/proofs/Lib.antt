@@ -4,3 +4,4 @@ pub mod Kths
 pub mod Shows
 pub mod Places
 pub mod Checks
+pub mod Faults

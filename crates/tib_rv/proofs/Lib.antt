@@ -4,3 +4,4 @@ pub mod Turns
 pub mod Kths
 pub mod Places
 pub mod Checks
+pub mod Faults
