@@ -11,7 +11,6 @@ use Rattle.reading.specs.declared.Checked.{Checked}
 use Rattle.octets.specs.Number.{Octets}
 use Rattle.hproto_table.specs.Load.{load}
 use Rattle.hproto_table.specs.Schema.{Schema, schema}
-use Rattle.hproto_table.specs.declared.Loaded.{Loaded}
 use Rattle.hproto_message.specs.Cut.{Cut, Good}
 use Rattle.hproto_message.specs.Tree.{tree, fields, depth}
 use Rattle.hproto_message.specs.ReadTheSame.{HasCut}

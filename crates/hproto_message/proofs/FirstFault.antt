@@ -1,12 +1,12 @@
 -- A message is refused exactly with its first fault; it has at most one; and it has one exactly where it has no good cut.
 use Prim.Native.Nat.{ℕ, suc, _+_}
 use native.Mathlib.Omega.{arith}
-use mathlib.Core.Path.{_≡_, refl, ap, ap₂, _∙_}
+use mathlib.Core.Path.{_≡_, ap, ap₂, _∙_}
 use mathlib.Core.List.{List}
 use mathlib.Core.Logic.{_↔_, _⊎_, inl, inr, ⊎-elim}
 use Rattle.octets.specs.Number.{Octets}
 use Rattle.hproto_table.specs.Schema.{Schema}
-use Rattle.reading.specs.Reading.{Reading, accepted, refused, depthLimit}
+use Rattle.reading.specs.Reading.{refused, depthLimit}
 use Rattle.hproto_message.specs.Cut.{Cut, Good}
 use Rattle.hproto_message.specs.FirstFault.{Fault, faultNumber, faultPlace, FirstFault}
 use Rattle.hproto_message.specs.Reading.{messageFrom, reading}

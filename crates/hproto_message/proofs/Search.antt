@@ -12,7 +12,7 @@ use Rattle.octets.proofs.CutControl.{cut-read}
 use Rattle.hproto_table.specs.Schema.{Schema}
 use Rattle.hproto_message.specs.declared.Step.{Step}
 use Rattle.hproto_message.specs.declared.Step.the-variants as steps
-use Rattle.hproto_message.specs.Cut.{Cut, end, leaf, nested, joined, WholeField, LeafField, NestedField, Good}
+use Rattle.hproto_message.specs.Cut.{Cut, end, leaf, nested, joined, LeafField, NestedField, Good}
 use Rattle.hproto_message.specs.FirstFault.{
   Wrong,
   endsEarly,
@@ -38,7 +38,7 @@ use Rattle.reading.specs.Reading.{Reading, accepted, refused, onAccepted, inOrd
 use Rattle.hproto_message.specs.Reading.{step, tagAt, Inner, afterStep, fieldsFrom, messageFrom}
 use Rattle.hproto_message.proofs.Steps.{StepMeans, step-means, step-of-leaf, step-of-nested, field-tag, split-in-three, in-three}
 use Rattle.hproto_message.proofs.Accepted.{accepted-good, good-accepted, depth-positive}
-use Rattle.hproto_message.proofs.WrongFields.{wrongAt, Blames, step-blames, Refused, early-refused, past-refused, wide-refused, text-refused}
+use Rattle.hproto_message.proofs.WrongFields.{wrongAt, step-blames, Refused, early-refused, past-refused, wide-refused, text-refused}
 
 -- What it comes to: no fault, and a cut; or a fault.
 pub data Search : Type 0 where

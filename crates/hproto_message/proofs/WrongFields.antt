@@ -1,9 +1,9 @@
 -- A step of the reading refuses exactly the fields that are wrong, apart from those that are too deep.
-use Prim.Native.Nat.{ℕ, _+_, _-_, _≤_, _<_}
+use Prim.Native.Nat.{ℕ, _+_, _-_, _<_}
 use native.Mathlib.Omega.{arith}
-use mathlib.Core.Path.{_≡_, refl, sym, ap, _∙_, subst}
+use mathlib.Core.Path.{_≡_, refl, sym, _∙_, subst}
 use mathlib.Core.Bool.{Bool, true, false, cond}
-use mathlib.Core.List.{List, _++_, append-assoc}
+use mathlib.Core.List.{List, _++_}
 use mathlib.Core.Logic.{_⊎_, inl, inr, ⊎-elim}
 use lib.ListN.{length, take, drop, length-append, length-drop, take-append-drop}
 use lib.Seq.{take-at, drop-at, length-take-le}
@@ -16,8 +16,8 @@ use Rattle.octets.specs.Control.{control}
 use Rattle.octets.specs.declared.Control.{Control}
 use Rattle.octets.specs.declared.Control.the-variants.{Absent, Partial, Whole}
 use Rattle.octets.specs.ControlPart.{ControlPart}
-use Rattle.octets.proofs.ControlPart.{control-size, part-of-control, part-read}
-use Rattle.octets.proofs.CutControl.{cut-exactly, cut-read}
+use Rattle.octets.proofs.ControlPart.{part-of-control, part-read}
+use Rattle.octets.proofs.CutControl.{cut-exactly}
 use Rattle.octets.proofs.Text.{text-exactly}
 use Rattle.hproto_table.specs.Schema.{Schema}
 use Rattle.hproto_table.specs.declared.Meaning.{Meaning}
@@ -25,9 +25,9 @@ use Rattle.hproto_table.specs.declared.Meaning.the-variants.{Raw, Uint, Int, St
 use Rattle.hproto_message.specs.declared.Step.{Step}
 use Rattle.hproto_message.specs.declared.Step.the-variants as steps
 use Rattle.hproto_message.specs.Cut.{WholeField}
-use Rattle.hproto_message.specs.FirstFault.{Wrong, endsEarly, pastTheEnd, tooDeep, tooWide, noText, wrongNumber, wrongOctets, IsWrong}
+use Rattle.hproto_message.specs.FirstFault.{Wrong, endsEarly, pastTheEnd, tooWide, noText, wrongNumber, wrongOctets, IsWrong}
 use Rattle.hproto_message.specs.Reading.{stepByKind, stepFrom, step}
-use Rattle.hproto_message.proofs.Steps.{split-in-three, found, field-control, InThree, in-three}
+use Rattle.hproto_message.proofs.Steps.{split-in-three, found, field-control, in-three}
 
 -- The field at the front of octets that a step refuses with a number.
 unfoldable pub wrongIn : List ℕ → ℕ → Control → Wrong

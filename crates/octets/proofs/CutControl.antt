@@ -1,5 +1,5 @@
 -- Just the control parts that end too early are read as such.
-use Prim.Native.Nat.{ℕ, suc, _+_, _-_, _/_, _%_, _≤_, _<_}
+use Prim.Native.Nat.{ℕ, _+_, _-_, _/_, _%_}
 use native.Mathlib.Omega.{arith}
 use mathlib.Core.Path.{_≡_, refl, sym, ap, _∙_, subst}
 use mathlib.Core.Bool.{Bool, true, false, cond}
@@ -10,7 +10,7 @@ use lib.Seq.{length-take-le}
 use lib.Dec.{ltb}
 use borrow.Author.Tests.{ltb-true, lt-ltb, le-ltb}
 use Rattle.octets.specs.Number.{Octets}
-use Rattle.octets.specs.ControlPart.{tagCode, lengthCode, ControlPart}
+use Rattle.octets.specs.ControlPart.{tagCode, lengthCode}
 use Rattle.octets.specs.CutControl.{CutControl}
 use Rattle.octets.specs.Control.{following, coded, controlOf, control}
 use Rattle.octets.specs.declared.Control.{Control}

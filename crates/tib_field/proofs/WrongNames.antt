@@ -1,7 +1,7 @@
 -- What a step refuses by the name at the front of octets is wrong, and the other way round, over what a format makes of the octets after it.
-use Prim.Native.Nat.{ℕ, suc, _+_, _<_}
+use Prim.Native.Nat.{ℕ, suc, _+_}
 use native.Mathlib.Omega.{arith}
-use mathlib.Core.Path.{_≡_, refl, sym, ap, _∙_, subst}
+use mathlib.Core.Path.{_≡_, refl, _∙_, subst}
 use mathlib.Core.Bool.{Bool, true, false, cond}
 use mathlib.Core.List.{List, [], _∷_, _++_}
 use lib.ListN.{length, take, drop, length-append, take-append-drop}
@@ -11,8 +11,7 @@ use borrow.Author.Tests.{ltb-true, ltb-false, lt-ltb, le-ltb}
 use Rattle.tib_field.specs.Name as names
 use Rattle.tib_field.specs.Name.{Name, nameFront, afterName}
 use Rattle.tib_field.specs.WrongName.{WrongNamed, nameCut, nameBad, named}
-use Rattle.tib_field.specs.declared.Front.{Front}
-use Rattle.tib_field.specs.declared.Front.the-variants.{End, Fault, Name as Sized}
+use Rattle.tib_field.specs.declared.Front.the-variants.{Fault, Name as Sized}
 use Rattle.tib_field.proofs.Names.{named-name, name-named}
 use Rattle.tib_field.proofs.Fronts.{next, next-of-name}
 

@@ -3,22 +3,22 @@ use Prim.Native.Nat.{ℕ, zero, suc, _+_, _-_, _≤_, _<_}
 use native.Mathlib.Omega.{arith}
 use mathlib.Core.Path.{_≡_, refl, sym, ap, ap₂, _∙_, subst}
 use mathlib.Core.Bool.{Bool, true, false, cond}
-use mathlib.Core.List.{List, [], _∷_, _++_}
+use mathlib.Core.List.{List, _++_}
 use mathlib.Core.Logic.{_↔_}
 use lib.ListN.{length, take, drop, length-append, length-drop, take-append-drop}
 use lib.Seq.{take-at, drop-at, length-take-le, drop-drop}
 use lib.Dec.{eqb, ltb}
 use borrow.Author.Tests.{ltb-true, ltb-false, lt-ltb, le-ltb, eqb-true, eqb-false, ne-eqb}
 use Rattle.octets.specs.Number.{number}
-use Rattle.reading.specs.Reading.{Reading, accepted, refused, onAccepted, inOrder, messageLimit, depthLimit}
+use Rattle.reading.specs.Reading.{Reading, accepted, refused, onAccepted, inOrder, messageLimit}
 use Rattle.tib_field.specs.Name.{Name}
 use Rattle.tib_field.specs.Mark.{begins}
 use Rattle.tib_field.proofs.Marks.{mark-begins, begins-mark}
 use Rattle.tib_rv_field.specs.declared.Sizes.{Sizes}
 use Rattle.tib_rv_field.specs.declared.Step.{Step}
 use Rattle.tib_rv_field.specs.declared.Step.the-variants.{Done, Fault, Over, Into}
-use Rattle.tib_rv_field.specs.Layout.{Parts, octets, Leaf, holder, magic, Fields, leaf, message, depth, Header, Allowed, Whole}
-use Rattle.tib_rv_field.specs.FirstFault.{WrongField, WrongHeader, Opens, Holds, FaultIn, here, over, past, tooDeep, header, inside, FirstFault}
+use Rattle.tib_rv_field.specs.Layout.{Parts, octets, holder, magic, Fields, leaf, message, depth, Header, Whole}
+use Rattle.tib_rv_field.specs.FirstFault.{WrongHeader, Opens, Holds, FaultIn, here, over, past, tooDeep, header, inside, FirstFault}
 use Rattle.tib_rv_field.specs.FirstFault as faults
 use Rattle.tib_rv_field.specs.Reading.{nextField, sizes, lead, total, partsAt, Inner, nestedOf, afterStep, fieldsFrom, headerFault, messageFrom, reading}
 use Rattle.tib_rv_field.proofs.Steps.{Found, Held, Counted, step-found, step-held, step-of-leaf, step-of-held, parts-of-field, rest-of-field, length-octets}

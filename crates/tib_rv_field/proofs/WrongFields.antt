@@ -1,13 +1,13 @@
 -- A step of the reading refuses exactly the fields that are wrong, with the same number; and so does the test of a header.
-use Prim.Native.Nat.{ℕ, suc, _+_, _-_, _≤_, _<_}
+use Prim.Native.Nat.{ℕ, _+_, _-_, _≤_, _<_}
 use native.Mathlib.Omega.{arith}
 use mathlib.Core.Path.{_≡_, refl, sym, ap, ap₂, _∙_, subst}
-use mathlib.Core.Bool.{Bool, true, false, cond, not, _&&_, _||_}
+use mathlib.Core.Bool.{Bool, true, false, cond, not, _||_}
 use mathlib.Core.List.{List, [], _∷_, _++_}
 use lib.ListN.{length, take, drop, replicate, length-append, length-drop, length-replicate, take-append-drop}
 use lib.Seq.{take-at, drop-at, length-take-le, drop-drop}
-use lib.Dec.{eqb, leb, ltb}
-use borrow.Author.Tests.{leb-true, leb-false, le-leb, eqb-true, eqb-false, eq-eqb, ne-eqb, ltb-true, ltb-false, lt-ltb, le-ltb}
+use lib.Dec.{eqb, ltb}
+use borrow.Author.Tests.{le-leb, eqb-true, eqb-false, eq-eqb, ne-eqb, ltb-true, ltb-false, lt-ltb, le-ltb}
 use Rattle.octets.specs.Number.{number}
 use Rattle.tib_field.specs.Mark.{begins}
 use Rattle.tib_field.specs.WrongName.{named}
@@ -20,7 +20,7 @@ use Rattle.tib_rv_field.specs.Layout.{Size, magic}
 use Rattle.tib_rv_field.specs.FirstFault as faults
 use Rattle.tib_rv_field.specs.FirstFault.{SizeOctets, one, two, four, Announces, WrongSize, WrongType, WrongField, WrongHeader}
 use Rattle.tib_rv_field.specs.Reading.{following, own, counted, countAllowed, found, fromCount, fromSize, fromType, nextField, headerFault}
-use Rattle.tib_rv_field.proofs.Counts.{Form, short, middle, long, form, following-short, own-short, counted-short, size-found, Announced, announced, GoodCount, good-count}
+use Rattle.tib_rv_field.proofs.Counts.{Form, short, middle, long, form, following-short, size-found, announced, good-count}
 
 -- The octets of a size by its marker.
 octets-of : (m : ℕ) (s : List ℕ) → m ≤ 0x7a → length s ≡ following m → SizeOctets (m ∷ s)
