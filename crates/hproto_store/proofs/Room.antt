@@ -20,7 +20,3 @@ room t at n len e f = leb-true (at + n) len (sym e ∙ f)
 
 pub no-room : (t : Bool) (at n len : ℕ) → t ≡ leb (at + n) len → t ≡ false → len < at + n
 no-room t at n len e f = leb-false (at + n) len (sym e ∙ f)
-
--- The room for n octets and `by` more, from `by` on.
-pub room-further : (at n by len : ℕ) → at + n + by ≤ len → at + by + n ≤ len
-room-further at n by len h = omega arith

@@ -4,8 +4,8 @@ use native.Mathlib.Nat.{add-zero, add-suc, suc-add}
 use native.Mathlib.Omega.{arith}
 use mathlib.Core.Path.{_≡_, refl, sym, ap, _∙_}
 use mathlib.Core.List.{List, [], _∷_, _++_}
-use lib.ListN.{length, getD, set, take, drop}
-use lib.Seq.{sets, set-comm, set-set, getD-set-other, take-set-le, drop-set-lt}
+use lib.ListN.{length, set, take, drop}
+use lib.Seq.{sets, set-comm, set-set, take-set-le, drop-set-lt, take-add, drop-at, length-take-le}
 
 -- Stores from one end on, then stores from where they end.
 pub sets-append : (d : List ℕ) (i : ℕ) (xs ys : List ℕ) → sets d i (xs ++ ys) ≡ sets (sets d i xs) (i + length xs) ys
@@ -28,12 +28,6 @@ sets-before-sets d i j (y ∷ ys) xs h =
     ap (λ (l : List ℕ). sets l (suc j) ys) (set-before-sets d i j y xs (omega arith))
     ∙ sets-before-sets (set d j y) i (suc j) ys xs (omega arith)
 
--- What stands before a run of stores stays.
-pub getD-before-sets : (d : List ℕ) (i j : ℕ) (xs : List ℕ) → j < i → getD (sets d i xs) j 0 ≡ getD d j 0
-getD-before-sets d i j [] h = refl
-getD-before-sets d i j (x ∷ xs) h =
-    getD-before-sets (set d i x) (suc i) j xs (omega arith) ∙ getD-set-other d i j x 0 (λ e. omega arith)
-
 -- Stores over shorter ones at the same place leave nothing of them.
 pub sets-over : (d : List ℕ) (i : ℕ) (xs ys : List ℕ) → length xs ≤ length ys → sets (sets d i xs) i ys ≡ sets d i ys
 sets-over d i [] ys h = refl
@@ -50,3 +44,10 @@ take-before-sets d i n (x ∷ xs) h = take-before-sets (set d i x) (suc i) n xs 
 pub drop-after-sets : (d : List ℕ) (i n : ℕ) (xs : List ℕ) → i + length xs ≤ n → drop n (sets d i xs) ≡ drop n d
 drop-after-sets d i n [] h = refl
 drop-after-sets d i n (x ∷ xs) h = drop-after-sets (set d i x) (suc i) n xs (omega arith) ∙ drop-set-lt n d i x (omega arith)
+
+-- The same part of two lists whose fronts are the same.
+pub same-part : (l m : List ℕ) (i n : ℕ) → i ≤ length l → i ≤ length m → take (i + n) l ≡ take (i + n) m → take n (drop i l) ≡ take n (drop i m)
+same-part l m i n h k e = sym (part l h) ∙ ap (drop i) e ∙ part m k
+  where
+    part : (x : List ℕ) → i ≤ length x → drop i (take (i + n) x) ≡ take n (drop i x)
+    part x b = rw (take-add i n x) (drop-at (take i x) (take n (drop i x)) i (length-take-le i x b))

@@ -1,15 +1,16 @@
--- What the loops of this crate have stored, and that a turn stores one octet more.
-use Prim.Native.Nat.{ℕ, suc, _+_, _-_, _≤_, _<_}
+-- What the loops of this crate have stored, and that a turn stores one octet more or a block.
+use Prim.Native.Nat.{ℕ, suc, _+_, _≤_, _<_}
+use native.Mathlib.Nat.{add-zero}
 use native.Mathlib.Numerals.{add-one}
 use native.Mathlib.Omega.{arith}
-use mathlib.Core.Path.{_≡_, refl, sym, ap, ap₂, _∙_, subst}
+use mathlib.Core.Path.{_≡_, refl, sym, ap, ap₂, _∙_}
 use mathlib.Core.List.{List, [], _∷_, _++_}
-use lib.ListN.{length, getD, set, take, drop, length-append}
-use lib.Seq.{sets, length-sets, take-suc, drop-cons, length-take-le}
+use lib.ListN.{length, getD, set, take, drop, length-append, length-drop, take-append-drop, drop-of-length-le}
+use lib.Seq.{sets, length-sets, take-suc, length-take-le, take-take, drop-drop}
 use Rattle.hproto_store.specs.Store.{stored, moved}
-use Rattle.hproto_store.proofs.Sets.{sets-append, set-before-sets, getD-before-sets}
+use Rattle.hproto_store.proofs.Sets.{sets-append, sets-before-sets, take-before-sets, same-part}
 use Rattle.hproto_store.proofs.Stores.{stored-fits}
-use Rattle.hproto_store.proofs.Moves.{moved-fits}
+use Rattle.hproto_store.proofs.Moves.{moved-fits, part-length}
 
 -- The buffer d with xs from `at` on, where they fit.
 pub record Written (d : List ℕ) (at : ℕ) (xs out : List ℕ) : Type 0 where
@@ -25,15 +26,18 @@ written-stored d at xs out w = w .is ∙ sym (stored-fits d at xs (w .room))
 pub none-written : (d : List ℕ) (at : ℕ) → at ≤ length d → Written d at [] d
 none-written d at h = record { room = omega arith; is = refl }
 
-pub one-before : (d : List ℕ) (i j x : ℕ) (xs out : List ℕ) → suc j ≡ i → Written d i xs out → Written d j (x ∷ xs) (set out j x)
-one-before d i j x xs out e w =
+pub more-before : (d : List ℕ) (i j : ℕ) (ys xs out : List ℕ) → j + length ys ≡ i → Written d i xs out → Written d j (ys ++ xs) (sets out j ys)
+more-before d i j ys xs out e w =
     let r = w .room in
     record {
-      room = omega arith;
+      room = rw (length-append ys xs) (omega arith);
       is =
-          ap (λ (l : List ℕ). set l j x) (w .is) ∙ set-before-sets d i j x xs (omega arith)
-          ∙ ap (λ (k : ℕ). sets (set d j x) k xs) (sym e);
+          ap (λ (l : List ℕ). sets l j ys) (w .is) ∙ sets-before-sets d i j ys xs (omega arith)
+          ∙ ap (λ (k : ℕ). sets (sets d j ys) k xs) (sym e) ∙ sym (sets-append d j ys xs);
     }
+
+pub one-before : (d : List ℕ) (i j x : ℕ) (xs out : List ℕ) → suc j ≡ i → Written d i xs out → Written d j (x ∷ xs) (set out j x)
+one-before d i j x xs out e w = more-before d i j (x ∷ []) xs out (omega arith) w
 
 pub one-after : (d : List ℕ) (at j x : ℕ) (xs out : List ℕ) → at + length xs ≡ j → j < length d → Written d at xs out
     → Written d at (xs ++ (x ∷ [])) (set out j x)
@@ -77,43 +81,71 @@ copy-ended d at s n out i h p =
     let e : i ≡ n = omega arith in
     written-stored d at (take i s) out (p .written) ∙ rw e
 
--- The last k of n octets from `at` on are stored again, `by` places further up.
-pub record MovedDown (d : List ℕ) (at n by : ℕ) (out : List ℕ) (k : ℕ) : Type 0 where
-  pub inside : k ≤ n
-  pub room : at + n + by ≤ length d
+-- Of the n octets s all but the first `left` are stored.
+pub record StoredDown (d : List ℕ) (to : ℕ) (s : List ℕ) (n : ℕ) (out : List ℕ) (left : ℕ) : Type 0 where
+  pub inside : left ≤ n
+  pub there : length s ≡ n
+  pub room : to + n ≤ length d
   pub long : length out ≡ length d
-  pub written : Written d (at + by + (n - k)) (take k (drop (at + (n - k)) d)) out
+  pub written : Written d (to + left) (drop left s) out
 
-pub move-begun : (d : List ℕ) (at n by : ℕ) → at + n + by ≤ length d → MovedDown d at n by d 0
-move-begun d at n by h =
-    record { inside = omega arith; room = h; long = refl; written = none-written d (at + by + (n - 0)) (omega arith) }
+pub put-begun : (d : List ℕ) (to : ℕ) (s : List ℕ) (n : ℕ) → length s ≡ n → to + n ≤ length d → StoredDown d to s n d n
+put-begun d to s n e h =
+    let z : drop n s ≡ [] = drop-of-length-le s {i = n} (omega arith) in
+    record { inside = omega arith; there = e; room = h; long = refl; written = rw z (none-written d (to + n) h) }
 
-pub move-turn : (d : List ℕ) (at n by : ℕ) (out : List ℕ) (k : ℕ) → k < n → MovedDown d at n by out k
-    → MovedDown d at n by (set out (at + by + (n - (k + 1))) (getD out (at + (n - (k + 1))) 0)) (k + 1)
-move-turn d at n by out k h p =
+-- A turn stores the last k of those that are left; m stay.
+pub put-turn : (d : List ℕ) (to : ℕ) (s : List ℕ) (n : ℕ) (out : List ℕ) (left k m : ℕ) (after : List ℕ) → m + k ≡ left
+    → after ≡ stored out (to + m) (take k (drop m s)) → StoredDown d to s n out left → StoredDown d to s n after m
+put-turn d to s n out left k m after h e p =
+    let q = p .inside in
     let r = p .room in
-    let i = n - (k + 1) in
-    let j = at + i in
-    let e : suc j ≡ at + (n - k) = omega arith in
-    let x : getD out j 0 ≡ getD d j 0 =
-    ap (λ (l : List ℕ). getD l j 0) (p .written .is) ∙ getD-before-sets d (at + by + (n - k)) j (take k (drop (at + (n - k)) d)) (omega arith) in
-    let t : take (suc k) (drop j d) ≡ getD d j 0 ∷ take k (drop (at + (n - k)) d) = rw (drop-cons d j 0 (omega arith), e) in
-    let w : Written d (at + by + i) (take (k + 1) (drop j d)) (set out (at + by + i) (getD out j 0)) =
-    subst (λ (m : ℕ). Written d (at + by + i) (take m (drop j d)) (set out (at + by + i) (getD out j 0))) (sym (add-one k))
-    (rw (x, t) (one-before d (at + by + (n - k)) (at + by + i) (getD d j 0) (take k (drop (at + (n - k)) d)) out (omega arith) (p .written))) in
-    record {
-      inside = omega arith;
-      room = r;
-      long = written-length d (at + by + i) (take (k + 1) (drop j d)) (set out (at + by + i) (getD out j 0)) w;
-      written = w;
-    }
+    let t = p .there in
+    let l = p .long in
+    let ys = take k (drop m s) in
+    let z = part-length s m k (omega arith) in
+    let f : drop m s ≡ ys ++ drop left s = sym (take-append-drop k (drop m s)) ∙ rw (drop-drop k m s, h) in
+    let w : Written d (to + m) (drop m s) after =
+    rw (f, e ∙ stored-fits out (to + m) ys (omega arith)) (more-before d (to + left) (to + m) ys (drop left s) out (omega arith) (p .written)) in
+    record { inside = omega arith; there = t; room = r; long = written-length d (to + m) (drop m s) after w; written = w }
 
-pub move-ended : (d : List ℕ) (at n by : ℕ) (out : List ℕ) (k : ℕ) → n ≤ k → MovedDown d at n by out k → out ≡ moved d at n by
-move-ended d at n by out k h p =
-    let a = p .inside in
+pub put-ended : (d : List ℕ) (to : ℕ) (s : List ℕ) (n : ℕ) (out : List ℕ) (left : ℕ) → left ≤ 0 → StoredDown d to s n out left → out ≡ stored d to s
+put-ended d to s n out left h p =
+    let e : left ≡ 0 = omega arith in
+    written-stored d (to + left) (drop left s) out (p .written) ∙ rw (e, add-zero to)
+
+-- The same of n octets of the buffer itself, those from `at` on, that are stored again `by` places further up.
+abbrev pub MovedDown : (d : List ℕ) (at n by : ℕ) (out : List ℕ) (left : ℕ) → Type 0
+MovedDown d at n by out left = StoredDown d (at + by) (take n (drop at d)) n out left
+
+pub move-begun : (d : List ℕ) (at n by : ℕ) → at + n + by ≤ length d → MovedDown d at n by d n
+move-begun d at n by h = put-begun d (at + by) (take n (drop at d)) n (part-length d at n (omega arith)) (omega arith)
+
+-- What a turn moves stands before what is stored, so it is as it was.
+move-stored : (d : List ℕ) (at n by : ℕ) (out : List ℕ) (left k m : ℕ) → m + k ≡ left → MovedDown d at n by out left
+    → moved out (at + m) k by ≡ stored out (at + by + m) (take k (drop m (take n (drop at d))))
+move-stored d at n by out left k m e p =
+    let q = p .inside in
     let r = p .room in
-    let e : at + by + (n - k) ≡ at + by = omega arith in
-    let f : at + (n - k) ≡ at = omega arith in
-    let g : k ≡ n = omega arith in
-    written-stored d (at + by + (n - k)) (take k (drop (at + (n - k)) d)) out (p .written)
-    ∙ rw (e, f, g) (sym (moved-fits d at n by (omega arith)))
+    let t = p .there in
+    let l = p .long in
+    let v = length-drop at d in
+    let xs = take n (drop at d) in
+    let f : take (at + m + k) out ≡ take (at + m + k) d =
+    ap (take (at + m + k)) (p .written .is) ∙ take-before-sets d (at + by + left) (at + m + k) (drop left xs) (omega arith) in
+    let x : take k (drop (at + m) out) ≡ take k (drop m (drop at d)) =
+    same-part out d (at + m) k (omega arith) (omega arith) f ∙ ap (take k) (sym (drop-drop m at d)) in
+    let y : take k (drop m (drop at d)) ≡ take k (drop m xs) =
+    same-part (drop at d) xs m k (omega arith) (omega arith) (sym (take-take (m + k) n (drop at d) (omega arith))) in
+    let z : at + m + by ≡ at + by + m = omega arith in
+    moved-fits out (at + m) k by (omega arith) ∙ rw (x, y, z)
+
+pub move-turn : (d : List ℕ) (at n by : ℕ) (out : List ℕ) (left k m : ℕ) (after : List ℕ) → m + k ≡ left → after ≡ moved out (at + m) k by
+    → MovedDown d at n by out left → MovedDown d at n by after m
+move-turn d at n by out left k m after e f p =
+    put-turn d (at + by) (take n (drop at d)) n out left k m after e (f ∙ move-stored d at n by out left k m e p) p
+
+pub move-ended : (d : List ℕ) (at n by : ℕ) (out : List ℕ) (left : ℕ) → left ≤ 0 → MovedDown d at n by out left → out ≡ moved d at n by
+move-ended d at n by out left h p =
+    let r = p .room in
+    put-ended d (at + by) (take n (drop at d)) n out left h p ∙ sym (moved-fits d at n by (omega arith))

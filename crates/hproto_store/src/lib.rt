@@ -29,50 +29,62 @@ fn copy(out: &mut [u8], at: usize, s: &[u8], n: usize)
     }
 }
 
-// Stores octets as they are. An array between the two buffers lets the compiler see that they do not overlap: both copies together
-// become one call of memmove, and the array is left out.
+// Stores a block of at most 8,192 octets. An array between the two buffers lets the compiler see that they do not overlap: both copies
+// together become one call of memmove, and the array is left out. A longer array would take the prover longer.
+fn put_block(out: &mut [u8], at: usize, s: &[u8])
+    requires { ⌜ at + length-of (now s) ≤ length-of (now out) ⌝ }
+    requires { ⌜ length-of (now s) ≤ 8192 ⌝ }
+    ensures { λ _. ⌜ now (out .exit) ≡ stored (now (out .entry)) at (now (s .entry)) ⌝ }
+{
+    let n = s.len();
+    let mut kept = [0u8; 8192];
+    copy(&mut kept, 0, s, n);
+    copy(out, at, &kept, n);
+}
+
+// Stores octets as they are. Up to 8,192 are one block and need no loop. More are stored block by block, from the back as in `move_up`;
+// the first `left` octets have yet to be stored.
 pub fn put_octets(out: &mut [u8], at: usize, s: &[u8])
     ensures { λ _. ⌜ now (out .exit) ≡ stored (now (out .entry)) at (now (s .entry)) ⌝ }
 {
     let n = s.len();
     if has_room(out.len(), at, n) {
-        if n <= 65536 {
-            let mut kept = [0u8; 65536];
-            copy(&mut kept, 0, s, n);
-            copy(out, at, &kept, n);
-        } else {
-            copy(out, at, s, n);
+        if n <= 8192 {
+            put_block(out, at, s);
+            return;
+        }
+        let mut left = n;
+        while 0 < left {
+            let k = numbers::smaller(left, 8192);
+            left -= k;
+            put_block(out, at + left, &s[left..left + k]);
         }
     }
 }
 
-// Stores n octets of the buffer again, further up. The last one moves first, so that each is read before another takes its place; k
-// of them are moved.
-fn move_back(out: &mut [u8], at: usize, n: usize, by: usize)
+// Stores a block of the buffer again, further up, by an array between as above.
+fn move_block(out: &mut [u8], at: usize, n: usize, by: usize)
     requires { ⌜ at + n + by ≤ length-of (now out) ⌝ }
+    requires { ⌜ n ≤ 8192 ⌝ }
     ensures { λ _. ⌜ now (out .exit) ≡ moved (now (out .entry)) at n by ⌝ }
 {
-    let to = at + by;
-    let mut k = 0;
-    while k < n {
-        k += 1;
-        let i = n - k;
-        out[to + i] = out[at + i];
-    }
+    let mut kept = [0u8; 8192];
+    copy(&mut kept, 0, &out[at..at + n], n);
+    copy(out, at + by, &kept, n);
 }
 
-// Stores n octets of the buffer again, further up, by an array between as above.
+// Stores n octets of the buffer again, further up, block by block. The last block moves first, so that each is read before another takes
+// its place; the first `left` octets have yet to be moved.
 pub fn move_up(out: &mut [u8], at: usize, n: usize, by: usize)
     ensures { λ _. ⌜ now (out .exit) ≡ moved (now (out .entry)) at n by ⌝ }
 {
     if has_room(out.len(), at, n) {
         if has_room(out.len(), at + n, by) {
-            if n <= 65536 {
-                let mut kept = [0u8; 65536];
-                copy(&mut kept, 0, &out[at..at + n], n);
-                copy(out, at + by, &kept, n);
-            } else {
-                move_back(out, at, n, by);
+            let mut left = n;
+            while 0 < left {
+                let k = numbers::smaller(left, 8192);
+                left -= k;
+                move_block(out, at + left, k, by);
             }
         }
     }
