@@ -5,7 +5,7 @@ use native.Mathlib.Omega.{arith}
 use mathlib.Core.Path.{_≡_, refl, sym, ap, _∙_}
 use mathlib.Core.List.{List, [], _∷_, _++_}
 use lib.ListN.{length, set, take, drop}
-use lib.Seq.{sets, set-comm, set-set, take-set-le, drop-set-lt, take-add, drop-at, length-take-le}
+use lib.Seq.{sets, set-comm, set-set, take-set-le, take-add, drop-at, length-take-le}
 
 -- Stores from one end on, then stores from where they end.
 pub sets-append : (d : List ℕ) (i : ℕ) (xs ys : List ℕ) → sets d i (xs ++ ys) ≡ sets (sets d i xs) (i + length xs) ys
@@ -36,14 +36,10 @@ sets-over d i (x ∷ xs) (y ∷ ys) h =
     ap (λ (l : List ℕ). sets l (suc i) ys) (set-before-sets (set d i x) (suc i) i y xs (omega arith) ∙ rw (set-set d i x y))
     ∙ sets-over (set d i y) (suc i) xs ys (omega arith)
 
--- The octets before a run of stores, and those after it, stay.
+-- The octets before a run of stores stay.
 pub take-before-sets : (d : List ℕ) (i n : ℕ) (xs : List ℕ) → n ≤ i → take n (sets d i xs) ≡ take n d
 take-before-sets d i n [] h = refl
 take-before-sets d i n (x ∷ xs) h = take-before-sets (set d i x) (suc i) n xs (omega arith) ∙ take-set-le n d i x h
-
-pub drop-after-sets : (d : List ℕ) (i n : ℕ) (xs : List ℕ) → i + length xs ≤ n → drop n (sets d i xs) ≡ drop n d
-drop-after-sets d i n [] h = refl
-drop-after-sets d i n (x ∷ xs) h = drop-after-sets (set d i x) (suc i) n xs (omega arith) ∙ drop-set-lt n d i x (omega arith)
 
 -- The same part of two lists whose fronts are the same.
 pub same-part : (l m : List ℕ) (i n : ℕ) → i ≤ length l → i ≤ length m → take (i + n) l ≡ take (i + n) m → take n (drop i l) ≡ take n (drop i m)

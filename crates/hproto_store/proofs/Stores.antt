@@ -9,7 +9,7 @@ use lib.Seq.{sets, length-sets, sets-eq, take-at, drop-at, length-take-le}
 use lib.Dec.{leb}
 use borrow.Author.Tests.{le-leb, lt-leb}
 use Rattle.hproto_store.specs.Store.{stored}
-use Rattle.hproto_store.proofs.Sets.{sets-append, sets-before-sets, sets-over, take-before-sets, drop-after-sets}
+use Rattle.hproto_store.proofs.Sets.{sets-append, sets-before-sets, sets-over, take-before-sets}
 
 pub stored-fits : (d : List ℕ) (at : ℕ) (xs : List ℕ) → at + length xs ≤ length d → stored d at xs ≡ sets d at xs
 unfolding stored
@@ -84,15 +84,6 @@ take-before-stored d at n xs h = go (leb (at + length xs) (length d))
   where
     go : (t : Bool) → take n (cond t (sets d at xs) d) ≡ take n d
     go true = take-before-sets d at n xs h
-    go false = refl
-
--- The octets after a store stay.
-pub drop-after-stored : (d : List ℕ) (at n : ℕ) (xs : List ℕ) → at + length xs ≤ n → drop n (stored d at xs) ≡ drop n d
-unfolding stored
-drop-after-stored d at n xs h = go (leb (at + length xs) (length d))
-  where
-    go : (t : Bool) → drop n (cond t (sets d at xs) d) ≡ drop n d
-    go true = drop-after-sets d at n xs h
     go false = refl
 
 module _ (d : List ℕ) (at : ℕ) (xs : List ℕ) (h : at + length xs ≤ length d) where
