@@ -13,7 +13,7 @@ use Rattle.hproto_table.specs.Valid.{valid}
 use Rattle.hproto_table.specs.declared.Table.{Table}
 use Rattle.hproto_table.specs.declared.Loaded.{Loaded}
 use Rattle.hproto_table.proofs.Placed.{loaded-valid}
-use Rattle.hproto_index.specs.Slots.{notedBefore, takenFrom, indexed}
+use Rattle.hproto_index.specs.internal.Slots.{notedBefore, takenFrom, indexed}
 use Rattle.hproto_index.proofs.Loaded.{taken-few, octets-accepted, octets-schema}
 use Rattle.hproto_check.proofs.Counts.{under-valid}
 use Rattle.hproto_shorten.proofs.Answers.{answer-under, buffer-under}
@@ -22,7 +22,8 @@ use Rattle.reading.specs.Reading.{messageLimit}
 use Rattle.reading.specs.Checks as answers
 use Rattle.hproto_check.specs.Check.{checkUnder, check}
 use Rattle.hproto_shorten.specs.Shorten as shortens
-use Rattle.hproto_shorten.specs.Shorten.{answerUnder, bufferUnder, answer, buffer}
+use Rattle.hproto_shorten.specs.Shorten.{answer, buffer}
+use Rattle.hproto_shorten.specs.internal.Under.{answerUnder, bufferUnder}
 
 module _ {A : Type 0} (octets s : List ℕ) (under : Table → A) (refuse : ℕ → ℕ → A) where
   pub message-too-long : 65536 < length s → refuse 1 0 ≡ withTable octets s under refuse

@@ -7,7 +7,7 @@ use Rattle.reading.specs.declared.Walk.the-variants.{Accepted, Refused}
 use Rattle.reading.proofs.Adding as adding
 use Rattle.reading.proofs.Adding.{after}
 use Rattle.hproto_message.specs.Cut.{Cut, leaf, nested, depth}
-use Rattle.hproto_check.specs.Walks.{fields, walk}
+use Rattle.hproto_check.specs.internal.Walks.{fields, walk}
 
 pub walk-leaf : (tag : ℕ) (c b : List ℕ) (r : Reading Cut) → walk (onAccepted (leaf tag c b) r) ≡ after 1 0 (walk r)
 unfolding fields depth

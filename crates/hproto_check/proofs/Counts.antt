@@ -13,11 +13,12 @@ use Rattle.hproto_message.specs.Cut.{Cut}
 use Rattle.hproto_message.specs.Tree as trees
 use Rattle.hproto_message.specs.Tree.{tree}
 use Rattle.reading.specs.Reading.{Reading, accepted, refused, messageLimit}
-use Rattle.reading.specs.Checks.{refusal, counts, walkOf, answerBy}
+use Rattle.reading.specs.Checks.{refusal, counts}
+use Rattle.reading.specs.internal.Walks.{walkOf, answerBy}
 use Rattle.reading.specs.declared.Walk.{Walk}
 use Rattle.hproto_message.specs.Reading.{reading, messageFrom}
 use Rattle.hproto_message.proofs.Shortened.{tree-depth}
-use Rattle.hproto_check.specs.Walks.{fields, walk}
+use Rattle.hproto_check.specs.internal.Walks.{fields, walk}
 use Rattle.hproto_check.specs.Check.{treeCounts, check, checkUnder}
 
 tree-fields : (sc : Schema) (cut : Cut) (n : ℕ) → trees.fields (tree sc n cut) ≡ fields cut

@@ -15,10 +15,10 @@ use Rattle.hproto_message.specs.Reading.{Inner, step, tagAt, afterStep, fieldsF
 use Rattle.hproto_message.proofs.Steps.{StepMeans, step-means}
 use Rattle.octets.proofs.ControlPart.{part-size}
 use Rattle.hproto_message.proofs.Accepted.{accepted-good, depth-positive}
-use Rattle.hproto_check.specs.Walks.{fields, walk}
+use Rattle.hproto_check.specs.internal.Walks.{fields, walk}
 use Rattle.reading.specs.declared.Walk.{Walk}
 use Rattle.reading.specs.declared.Walk.the-variants.{Accepted, Refused}
-use Rattle.reading.specs.Checks.{walkOf}
+use Rattle.reading.specs.internal.Walks.{walkOf}
 use Rattle.reading.proofs.Adding.{after, after-after, after-none}
 use Rattle.hproto_check.proofs.Adding.{walk-leaf, walk-nested, walk-refused}
 

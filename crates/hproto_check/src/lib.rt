@@ -7,10 +7,10 @@ ghost use mathlib.Core.Path.{_≡_};
 ghost use Prim.Native.Nat.{_+_, _≤_};
 ghost use lib.ListN.{length};
 ghost use Rattle.reading.specs.Reading.{messageLimit};
-ghost use Rattle.hproto_index.specs.Slots.{indexed};
+ghost use Rattle.hproto_index.specs.internal.Slots.{indexed};
 ghost use Rattle.hproto_message.specs.Reading.{messageFrom};
 ghost use Rattle.hproto_check.specs.Check.{check as check-of, checkUnder};
-ghost use Rattle.hproto_check.specs.Walks.{walk as walk-of};
+ghost use Rattle.hproto_check.specs.internal.Walks.{walk as walk-of};
 
 // A message of number `n` whose octets start at a place, in the field that starts at `from`. `levels` is how many messages deep it may
 // be, itself counted; a nested message has one less. A tag that has no slot is looked for in `rest`, which has words of the table.

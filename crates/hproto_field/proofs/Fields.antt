@@ -13,7 +13,7 @@ use Rattle.octets.specs.declared.Control.the-variants.{Absent, Partial, Whole}
 use Rattle.octets.proofs.ControlPart.{control-size}
 use Rattle.hproto_table.specs.Schema.{Schema}
 use Rattle.hproto_table.specs.declared.Meaning.{Meaning}
-use Rattle.hproto_field.specs.Fronts.{nothing, partFrom, part, fieldOf, front}
+use Rattle.hproto_field.specs.internal.Fronts.{nothing, partFrom, part, fieldOf, front}
 use Rattle.hproto_field.specs.declared.Extent.the-variants.{None, Found}
 use Rattle.hproto_message.specs.Reading.{step, stepFrom, stepByKind}
 use Rattle.hproto_message.specs.declared.Step.the-variants.{Done, Fault}

@@ -5,7 +5,7 @@ use mathlib.Core.Path.{_≡_, ap}
 use Rattle.hproto_table.specs.declared.Meaning.{Meaning}
 use Rattle.hproto_table.specs.declared.Meaning.the-variants.{Raw, Uint, Int, String, Text, Message}
 use Rattle.hproto_message.proofs.Next.{Plain}
-use Rattle.hproto_field.specs.Held.{heldIn}
+use Rattle.hproto_field.specs.internal.Held.{heldIn}
 use Rattle.hproto_field.specs.declared.Holds.the-variants.{None, Number}
 
 -- A kind that holds no message is plain, one that holds one is that message's.

@@ -14,7 +14,7 @@ use Rattle.hproto_message.specs.Cut.{Cut, end, Contents, Good}
 use Rattle.hproto_message.specs.Tree.{Tree, value, tree}
 use Rattle.hproto_message.proofs.Accepted.{depth-positive}
 use Rattle.hproto_message.proofs.Next.{Plain, next-leaf, next-nested, fronted, nothing-left}
-use Rattle.hproto_field.specs.Fronts.{front}
+use Rattle.hproto_field.specs.internal.Fronts.{front}
 use Rattle.hproto_field.proofs.Fields.{front-whole}
 use Rattle.hproto_field.specs.declared.Field.{Field}
 

@@ -11,9 +11,9 @@ ghost use Rattle.octets.specs.Text.{text};
 ghost use Rattle.hproto_table.specs.Entry.{entry};
 ghost use Rattle.hproto_table.specs.Schema.{schemaOf};
 ghost use Rattle.hproto_message.specs.Reading.{step as step-of, stepByKind};
-ghost use Rattle.hproto_field.specs.Fronts.{front as front-of, part as part-of, nothing as nothing-of};
-ghost use Rattle.hproto_field.specs.Held.{heldIn};
-ghost use Rattle.hproto_index.specs.Slots.{indexed};
+ghost use Rattle.hproto_field.specs.internal.Fronts.{front as front-of, part as part-of, nothing as nothing-of};
+ghost use Rattle.hproto_field.specs.internal.Held.{heldIn};
+ghost use Rattle.hproto_index.specs.internal.Slots.{indexed};
 
 // The tag, the kind and the sizes of the control part and of the contents of a whole field; raw and zeros where there is none.
 pub struct Field {

@@ -9,31 +9,17 @@ use lib.ListN.{length, take, drop, length-append, length-drop, take-append-drop}
 use lib.Seq.{take-at, length-take-le}
 use lib.Dec.{ltb}
 use borrow.Author.Tests.{ltb-false}
-use Rattle.reading.specs.Reading.{messageLimit}
 use Rattle.octets.specs.Number.{Octets}
 use Rattle.octets.specs.Control.{following, coded}
 use Rattle.octets.proofs.Number.{octets-before}
 use Rattle.octets.specs.ControlPart.{Form}
 use Rattle.octets.proofs.Codes.{form-following, form-coded, form-of, leastCode-least}
-use Rattle.octets.proofs.Shorter.{NoShorter}
+use Rattle.octets.specs.NoShorter.{NoShorter}
 use Rattle.hproto_frame.specs.declared.FrameRead.{FrameRead}
-use Rattle.hproto_frame.specs.Frame.{frameCode, bufferLimit, readRefused, readAccepted, announced, prefixed, frontRead, frameRead, shortestPrefix}
+use Rattle.hproto_frame.specs.Frame.{frameCode, readRefused, readAccepted, announced, prefixed, frontRead, frameRead, shortestPrefix}
 use Rattle.hproto_frame.proofs.Prefixes.{frame-rising}
 use Rattle.hproto_frame.proofs.Reading.{read-whole}
-
--- A buffer within its limit with a prefix of any form, whose size is within its limit, and as many octets after it or more.
-pub record WholeFrame (s : List ℕ) (from to : ℕ) : Type 0 where
-  pub octet : ℕ
-  pub sized : List ℕ
-  pub rest : List ℕ
-  pub size : ℕ
-  pub is : s ≡ octet ∷ sized ++ rest
-  pub form : Form frameCode size octet sized
-  pub start-is : from ≡ 1 + length sized
-  pub end-is : to ≡ from + size
-  pub inside : size ≤ length rest
-  pub message-limit : size ≤ messageLimit
-  pub buffer-limit : length s ≤ bufferLimit
+use Rattle.hproto_frame.specs.WholeFrame.{WholeFrame}
 
 -- A prefix of any form is read.
 pub read-form : (x size : ℕ) (t r : List ℕ) → Form frameCode size x t → size ≤ 65536 → size ≤ length r → 1 + length t + length r ≤ 65545

@@ -12,7 +12,7 @@ use Rattle.octets.specs.ControlPart.{Form}
 use Rattle.octets.proofs.Codes.{Rising, leastCode-form}
 use Rattle.hproto_put.proofs.Least.{leastCode-octetsOf}
 use Rattle.hproto_frame.specs.Frame.{frameCode, shortestPrefix, framed}
-use Rattle.hproto_frame.specs.Lead.{LeastPrefix}
+use Rattle.hproto_frame.specs.internal.Lead.{LeastPrefix}
 
 -- A size that is the prefix itself.
 pub prefix-direct : (size : ℕ) → size < 0xfc → LeastPrefix size size 0

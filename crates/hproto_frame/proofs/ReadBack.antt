@@ -15,6 +15,7 @@ use Rattle.hproto_store.proofs.Stores.{stored-parts}
 use Rattle.hproto_frame.specs.Frame.{frameCode, bufferLimit, readAccepted, frameRead, messagePart, shortestPrefix, framed, writeRefused, frameWritten, frameStored}
 use Rattle.hproto_frame.proofs.Prefixes.{prefix-form}
 use Rattle.hproto_frame.proofs.Accepted.{read-form}
+use Rattle.hproto_frame.specs.ReadBack.{ReadBack}
 
 -- A frame is read whatever stands after it.
 pub framed-read : (m r : List ℕ) → length m ≤ messageLimit → length (framed m ++ r) ≤ bufferLimit
@@ -46,13 +47,6 @@ pub stored-frame : (m out : List ℕ) → length m ≤ messageLimit → length (
 unfolding frameStored
 stored-frame m out h k =
     rw (le-ltb 65536 (length m) h) (stored-parts out 0 (framed m) (omega arith) ∙ rw (zero-add (length (framed m))))
-
--- A buffer b that the reader accepts, whose message part is m, with the place after it where the writer's octets end and the rest of `out` after that.
-pub record ReadBack (m out b : List ℕ) : Type 0 where
-  pub accepted : frameRead b .refusal ≡ 0
-  pub message : messagePart b (frameRead b) ≡ m
-  pub after : frameRead b .end ≡ frameWritten m (length out) .length
-  pub beyond : drop (frameRead b .end) b ≡ drop (frameRead b .end) out
 
 -- Where the writer accepts, message and frame are within their limits.
 pub record WrittenWhole (m : List ℕ) (room : ℕ) : Type 0 where

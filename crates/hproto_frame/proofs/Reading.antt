@@ -5,7 +5,7 @@ use mathlib.Core.Path.{_≡_, sym, _∙_}
 use mathlib.Core.List.{List, [], _∷_}
 use lib.ListN.{length, getD, take, drop, length-drop}
 use borrow.Author.Tests.{lt-ltb, le-ltb}
-use Rattle.octets.specs.Number.{unsigned}
+use Rattle.octets.specs.internal.Bounded.{unsigned}
 use Rattle.octets.specs.Control.{following, coded}
 use Rattle.octets.proofs.Number.{unsigned-is}
 use Rattle.hproto_frame.specs.Frame.{frameCode, readRefused, readAccepted, announced, prefixed, frontRead, frameRead}

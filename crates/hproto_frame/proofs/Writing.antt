@@ -12,7 +12,7 @@ use Rattle.octets.proofs.Number.{length-octetsOf}
 use Rattle.hproto_store.specs.Store.{stored}
 use Rattle.hproto_store.proofs.Stores.{stored-too-long, stored-three}
 use Rattle.hproto_frame.specs.Frame.{writeRefused, framed, frameWritten, frameStored}
-use Rattle.hproto_frame.specs.Lead.{LeastPrefix}
+use Rattle.hproto_frame.specs.internal.Lead.{LeastPrefix}
 use Rattle.hproto_frame.specs.declared.FrameWritten.{FrameWritten}
 use Rattle.hproto_frame.proofs.Prefixes.{prefix-parts, framed-length}
 

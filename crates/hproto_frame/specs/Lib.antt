@@ -1,2 +1,4 @@
 pub mod Frame
-pub mod Lead
+pub mod WholeFrame
+pub mod ReadBack
+pub mod internal

@@ -5,7 +5,7 @@ ghost use lib.ListN.{length};
 ghost use Rattle.reading.specs.Reading.{messageLimit};
 ghost use Rattle.octets.specs.Control.{following, coded};
 ghost use Rattle.hproto_frame.specs.Frame.{frameCode, readRefused, writeRefused, frameRead, frameWritten, frameStored};
-ghost use Rattle.hproto_frame.specs.Lead.{LeastPrefix};
+ghost use Rattle.hproto_frame.specs.internal.Lead.{LeastPrefix};
 
 // The frame reader's answer: a refusal number (0 where the frame is accepted), its place, and where it is accepted the places where the
 // message starts and ends.

@@ -5,7 +5,7 @@ use mathlib.Core.Bool.{true, false}
 use mathlib.Core.List.{List, map}
 use lib.ListN.{getD}
 use Rattle.hproto_table.specs.Entry.{entry, find, meaning}
-use Rattle.hproto_index.specs.Slots.{hasSlot, indexed}
+use Rattle.hproto_index.specs.internal.Slots.{hasSlot, indexed}
 
 module _ (slots ws : List ℕ) (n t : ℕ) where
   pub indexed-slot : hasSlot n t ≡ true → indexed slots ws .means n t ≡ meaning (entry (getD slots (n * 16 + t) 0))

@@ -13,7 +13,8 @@ use Rattle.octets.specs.Number.{number}
 use Rattle.hproto_table.specs.Entry.{entry, entries, find, meaning}
 use Rattle.hproto_table.specs.Schema.{schemaOf, schema}
 use Rattle.hproto_table.specs.Load.{inRange, recordAt, wordAt, wellFormed, wordsBefore, accepted, load}
-use Rattle.hproto_table.specs.Repeat.{distinct, firstRepeat}
+use Rattle.hproto_table.specs.Repeat.{distinct}
+use Rattle.hproto_table.specs.internal.FirstRepeat.{firstRepeat}
 use Rattle.hproto_table.specs.Valid.{allInRange, valid}
 use Rattle.hproto_table.specs.declared.Table.{Table}
 use Rattle.hproto_table.specs.declared.Meaning.the-variants.{Raw}
@@ -24,7 +25,7 @@ use Rattle.hproto_table.proofs.Repeat.{distinct-is}
 use Rattle.hproto_table.proofs.Schemas.{same-schema, words-schema}
 use Rattle.hproto_table.proofs.Valid.{distinct-snoc, range-at, parts}
 use Rattle.hproto_find.proofs.Finding.{fits}
-use Rattle.hproto_index.specs.Slots.{hasSlot, small, slotOf, free, notedBefore, taken, takenFrom, indexed}
+use Rattle.hproto_index.specs.internal.Slots.{hasSlot, small, slotOf, free, notedBefore, taken, takenFrom, indexed}
 use Rattle.hproto_index.proofs.Noting.{slot-numbers, slot-not}
 use Rattle.hproto_index.proofs.Finding.{indexed-slot, indexed-rest}
 use Rattle.hproto_index.proofs.Showing.{code-finds, wordsOf, shown, Shows, shows, free-unseen}

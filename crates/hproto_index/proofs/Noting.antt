@@ -10,10 +10,10 @@ use lib.Dec.{ltb}
 use borrow.Author.Tests.{ltb-true, lt-ltb, le-ltb, eq-eqb, ne-eqb}
 use Rattle.hproto_table.specs.Load.{recordAt, wordAt, wellFormed}
 use Rattle.hproto_table.proofs.Bools.{and-left, and-right}
-use Rattle.hproto_record.specs.Record.{recordOf}
+use Rattle.hproto_record.specs.internal.Record.{recordOf}
 use Rattle.hproto_record.specs.declared.Record.the-variants.{Word, Wrong}
 use Rattle.hproto_record.proofs.RecordLaws.{place-is, recordOf-word, recordOf-wrong}
-use Rattle.hproto_index.specs.Slots.{hasSlot, small, slotOf, free, noted, notedBefore, taken, takenFrom}
+use Rattle.hproto_index.specs.internal.Slots.{hasSlot, small, slotOf, free, noted, notedBefore, taken, takenFrom}
 
 -- ---- one word
 

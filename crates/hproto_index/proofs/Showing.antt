@@ -15,7 +15,7 @@ use Rattle.hproto_table.proofs.Bools.{and-left, and-right, or-left, or-right, o
 use Rattle.hproto_table.proofs.Repeat.{seen-append, seen-one}
 use Rattle.hproto_table.proofs.Valid.{numbers-small}
 use Rattle.hproto_find.proofs.Finding.{fits-key, fits-not, find-here, find-past}
-use Rattle.hproto_index.specs.Slots.{hasSlot, small, slotOf, free, noted, notedBefore}
+use Rattle.hproto_index.specs.internal.Slots.{hasSlot, small, slotOf, free, noted, notedBefore}
 
 -- ---- the kind and the inner number of the first word with a pair, as one number
 

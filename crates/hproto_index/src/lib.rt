@@ -5,7 +5,7 @@ use hproto_table::Meaning;
 ghost use mathlib.Core.Path.{_≡_};
 ghost use lib.ListN.{length, getD};
 ghost use Rattle.hproto_table.specs.Load.{wordAt};
-ghost use Rattle.hproto_index.specs.Slots.{hasSlot, free, noted, notedBefore, takenFrom, indexed};
+ghost use Rattle.hproto_index.specs.internal.Slots.{hasSlot, free, noted, notedBefore, takenFrom, indexed};
 
 // Whether there is a slot for a message number and a tag.
 fn has_slot(number: u64, tag: u64) -> bool

@@ -11,14 +11,14 @@ use lib.Seq.{set-at, take-at, append-snoc}
 use borrow.Author.Count.{below-more}
 use Rattle.octets.specs.Number.{number}
 use Rattle.hproto_table.specs.Load.{wellFormed, recordAt, wordAt, wordsBefore, refused, accepted, tableOf, load}
-use Rattle.hproto_table.specs.Repeat.{firstRepeat}
+use Rattle.hproto_table.specs.internal.FirstRepeat.{firstRepeat}
 use Rattle.hproto_table.specs.declared.Loaded.{Loaded}
 use Rattle.hproto_table.proofs.Load.{length-words, faulty-form, faulty-late, load-repeat, load-whole, load-fault}
 use Rattle.hproto_table.proofs.Repeat.{repeat-least}
-use Rattle.hproto_record.specs.Record.{recordOf}
+use Rattle.hproto_record.specs.internal.Record.{recordOf}
 use Rattle.hproto_record.specs.declared.Record.the-variants.{Word, Wrong}
 use Rattle.hproto_record.proofs.RecordLaws.{place-is, recordOf-word, recordOf-wrong}
-use Rattle.hproto_load.specs.Pass.{Passed}
+use Rattle.hproto_load.specs.internal.Pass.{Passed}
 
 -- ---- the words that are read
 

@@ -4,7 +4,7 @@ use hproto_table::Loaded;
 use hproto_table::Table;
 ghost use mathlib.Core.Path.{_≡_};
 ghost use Rattle.hproto_table.specs.Load.{load as load-of, refused as refused-at};
-ghost use Rattle.hproto_load.specs.Pass.{Passed};
+ghost use Rattle.hproto_load.specs.internal.Pass.{Passed};
 
 // The table of the records before the first one that is not of the right form, or before the 65th.
 fn records(s: &[u8]) -> Table

@@ -9,8 +9,7 @@ use lib.ListN.{length, take, drop, length-drop}
 use lib.Seq.{length-take-le}
 use lib.Dec.{eqb}
 use borrow.Author.Tests.{le-leb, eq-eqb, ne-eqb}
-use Rattle.octets.specs.Number.{unsigned}
-use Rattle.octets.specs.Signed.{signed}
+use Rattle.octets.specs.internal.Bounded.{unsigned, signed}
 use Rattle.hproto_table.specs.Entry.{kindNumber}
 use Rattle.hproto_table.specs.Schema.{Schema, schema}
 use Rattle.hproto_table.specs.declared.Meaning.{Meaning}
@@ -24,13 +23,14 @@ use Rattle.hproto_message.proofs.Accepted.{accepted-good}
 use Rattle.hproto_check.specs.Check.{check}
 use Rattle.reading.specs.declared.Checked.{Checked}
 use Rattle.hproto_lookup.specs.Lookup.{Item, Outer, outermost, itemTag, withTag, chosen, itemKind, uintOf, intOf, refusal, found, foundIn, answer}
-use Rattle.hproto_lookup.specs.Spots.{places, spotOf, nthSpot, lastSpot, chosenSpot, uintIn, intIn, read}
+use Rattle.hproto_lookup.specs.internal.Spots.{places, spotOf, nthSpot, lastSpot, chosenSpot, uintIn, intIn, read}
 use Rattle.hproto_lookup.specs.declared.Occurrence.{Occurrence}
 use Rattle.hproto_lookup.specs.declared.Occurrence.the-variants.{Nth, Last}
 use Rattle.hproto_lookup.specs.declared.Spot.{Spot}
 use Rattle.hproto_lookup.specs.declared.Spot.the-variants.{Absent, At}
 use Rattle.hproto_lookup.proofs.Choosing.{Of, chosen-map, chosen-each, withTag-each}
-use Rattle.hproto_lookup.proofs.Outers.{itemOf, Shows, Held, each-held, placeOf, places-are}
+use Rattle.hproto_lookup.proofs.Outers.{itemOf, Held, each-held, placeOf, places-are}
+use Rattle.hproto_lookup.specs.InTree.{Shows}
 use Rattle.hproto_check.proofs.Passed.{check-passed}
 
 -- Contents that are allowed for a kind are answered with the kind's number and their value.

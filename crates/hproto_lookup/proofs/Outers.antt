@@ -14,16 +14,16 @@ use Rattle.octets.proofs.Number.{octets-before, octets-after}
 use Rattle.octets.proofs.ControlPart.{control-nil, part-size, part-bounds}
 use Rattle.hproto_table.specs.Entry.{innerOf}
 use Rattle.hproto_table.specs.Schema.{Schema}
-use Rattle.hproto_table.specs.declared.Meaning.the-variants.{Message}
 use Rattle.hproto_message.specs.Cut as cuts
-use Rattle.hproto_message.specs.Cut.{Cut, joined, WholeField, Contents, Allowed, Good}
+use Rattle.hproto_message.specs.Cut.{Cut, joined, WholeField, Allowed, Good}
 use Rattle.hproto_message.specs.Tree.{value, tree}
 use Rattle.hproto_message.proofs.Steps.{field-control, in-three}
 use Rattle.hproto_lookup.specs.Lookup.{Item, items, Outer, outermost, itemTag, withTag}
-use Rattle.hproto_lookup.specs.Spots.{Span, afterPart, placesFrom, places}
-use Rattle.hproto_field.specs.Fronts.{partFrom, part}
+use Rattle.hproto_lookup.specs.internal.Spots.{Span, afterPart, placesFrom, places}
+use Rattle.hproto_field.specs.internal.Fronts.{partFrom, part}
 use Rattle.hproto_field.specs.declared.Extent.the-variants.{Found}
 use Rattle.hproto_lookup.proofs.Choosing.{Each, map-withTag}
+use Rattle.hproto_lookup.specs.InTree.{Shows}
 
 -- The field of the tree that an outermost field is.
 abbrev pub itemOf : Outer → Item
@@ -39,13 +39,6 @@ items-are sc n at (Cut.leaf tag c s rest) =
 items-are sc n at (Cut.nested tag c inside rest) =
     ap (λ (l : List Item). Item.nested tag (tree sc (innerOf (sc .means n tag)) inside) ∷ l)
     (items-are sc n (at + length c + length (joined inside)) rest)
-
--- What octets say of a field of the tree whose contents they are. A field that is no message has the value that they have by the kind of
--- its tag. A nested message has them as its octets: they are joined from a good cut under the inner number, and its tree is the field's.
-unfoldable pub Shows : Schema → ℕ → ℕ → List ℕ → Item → Type 0
-Shows sc levels n b (Item.leaf t v) = (v ≡ value (sc .means n t) b) × Contents (sc .means n t) b
-Shows sc levels n b (Item.nested t inside) =
-    (m : ℕ) × (inner : Cut) × (sc .means n t ≡ Message m) × Good sc levels m b inner × (inside ≡ tree sc m inner)
 
 -- The contents of an outermost field stand within the message, at its place.
 pub record Held (sc : Schema) (levels n : ℕ) (s : List ℕ) (o : Outer) : Type 0 where

@@ -1,42 +1,25 @@
 -- What a lookup answers is the k-th, or the last, of the tree's outermost fields with the tag.
-use Prim.Native.Nat.{ℕ, _+_, _≤_, _<_, _^_}
+use Prim.Native.Nat.{ℕ, _<_, _^_}
 use native.Mathlib.Omega.{arith}
 use mathlib.Core.Path.{_≡_, refl, sym, ap, _∙_, subst}
 use mathlib.Core.List.{List}
 use mathlib.Core.Logic.{_↔_}
 use mathlib.Core.Option.{Option, none, some, Option·map}
-use lib.ListN.{length, take, drop}
 use Rattle.octets.specs.Number.{Octets}
-use Rattle.hproto_table.specs.Schema.{Schema, schema}
+use Rattle.hproto_table.specs.Schema.{schema}
 use Rattle.hproto_table.specs.declared.Table.{Table}
 use Rattle.hproto_message.specs.Cut.{Cut, Good}
 use Rattle.hproto_message.specs.Tree.{tree}
 use Rattle.hproto_message.specs.Reading.{reading}
 use Rattle.hproto_message.proofs.Accepted.{good-accepted}
 use Rattle.hproto_check.specs.Check.{check}
-use Rattle.hproto_lookup.specs.Lookup.{Item, Outer, outermost, itemTag, withTag, chosen, itemKind, uintOf, intOf, refusal, found, answer, occurrence}
+use Rattle.hproto_lookup.specs.Lookup.{Item, Outer, outermost, itemTag, withTag, chosen, refusal, found, answer, occurrence}
 use Rattle.hproto_lookup.specs.declared.Occurrence.{Occurrence}
 use Rattle.hproto_lookup.specs.declared.Found.{Found}
 use Rattle.hproto_lookup.proofs.Choosing.{Of, chosen-map, chosen-none, withTag-map, withTag-none}
-use Rattle.hproto_lookup.proofs.Outers.{itemOf, items-are, Shows, Held, small-tags}
+use Rattle.hproto_lookup.proofs.Outers.{itemOf, items-are, Held, small-tags}
 use Rattle.hproto_lookup.proofs.Answers.{refused-first, wanted, answered, wanted-held}
-
--- An answer that gives a field of the tree: its kind and its value. The octets at the answer's place are the field's contents; of a
--- nested message they are the joined octets of its cut.
-pub record Gives (sc : Schema) (n : ℕ) (s : List ℕ) (tag : ℕ) (i : Item) (r : Found) : Type 0 where
-  pub accepted : r .refusal ≡ 0
-  pub nowhere : r .place ≡ 0
-  pub tagged : itemTag i ≡ tag
-  pub kind : r .kind ≡ itemKind i
-  pub number : r .number ≡ uintOf i
-  pub signed : r .signed ≡ intOf i
-  pub inside : r .start + r .length ≤ length s
-  pub contents : Shows sc 7 n (take (r .length) (drop (r .start) s)) i
-
--- The answer for what the tree has: 18 where it has nothing.
-unfoldable pub Answers : Schema → ℕ → List ℕ → ℕ → Option Item → Found → Type 0
-Answers sc n s tag none r = r ≡ refusal 18 0
-Answers sc n s tag (some i) r = Gives sc n s tag i r
+use Rattle.hproto_lookup.specs.InTree.{Answers}
 
 module _ (t : Table) (n : ℕ) (s : List ℕ) (tag : ℕ) (which : Occurrence) where
   -- What the check refuses is refused with the check's number and place.

@@ -7,11 +7,11 @@ use mathlib.Core.Option.{Option, none, some}
 use lib.ListN.{length, drop, getElem?, length-drop}
 use lib.Seq.{drop-drop}
 use borrow.Author.Tests.{eq-eqb, ne-eqb}
-use Rattle.hproto_field.specs.Fronts.{part}
+use Rattle.hproto_field.specs.internal.Fronts.{part}
 use Rattle.hproto_field.specs.declared.Extent.the-variants.{None, Found}
 use Rattle.hproto_field.proofs.Fields.{part-bounds}
 use Rattle.hproto_lookup.specs.Lookup.{lastOr}
-use Rattle.hproto_lookup.specs.Spots.{Span, afterPart, placesFrom, places, spotOf, nthSpot, lastSpot}
+use Rattle.hproto_lookup.specs.internal.Spots.{Span, afterPart, placesFrom, places, spotOf, nthSpot, lastSpot}
 use Rattle.hproto_lookup.specs.declared.Spot.{Spot}
 use Rattle.hproto_lookup.specs.declared.Spot.the-variants as spot
 

@@ -1,2 +1,3 @@
 pub mod Lookup
-pub mod Spots
+pub mod InTree
+pub mod internal

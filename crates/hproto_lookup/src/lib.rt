@@ -4,9 +4,9 @@ use hproto_table::Table;
 use octets::Control;
 ghost use mathlib.Core.Path.{_≡_};
 ghost use lib.ListN.{length, take, drop};
-ghost use Rattle.hproto_field.specs.Fronts.{part};
+ghost use Rattle.hproto_field.specs.internal.Fronts.{part};
 ghost use Rattle.hproto_lookup.specs.Lookup.{refusal, answer, lookup as lookup-of, lookupLast};
-ghost use Rattle.hproto_lookup.specs.Spots.{nthSpot, lastSpot, chosenSpot, uintIn, intIn, read};
+ghost use Rattle.hproto_lookup.specs.internal.Spots.{nthSpot, lastSpot, chosenSpot, uintIn, intIn, read};
 
 // Which of the fields with a tag is wanted.
 enum Occurrence {

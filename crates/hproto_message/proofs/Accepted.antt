@@ -10,8 +10,10 @@ use Rattle.hproto_table.specs.Schema.{Schema}
 use Rattle.hproto_message.specs.declared.Step.{Step}
 use Rattle.hproto_message.specs.declared.Step.the-variants.{Done, Fault, Over, Into}
 use Rattle.hproto_message.specs.Cut.{Cut, end, leaf, nested, joined, depth, LeafField, NestedField, Allowed, Good}
-use Rattle.reading.specs.Reading.{Reading, accepted, refused, onAccepted, inOrder, IsAccepted, depthLimit}
-use Rattle.hproto_message.specs.Reading.{step, tagAt, Inner, afterStep, fieldsFrom, messageFrom, reading, Accepts}
+use Rattle.reading.specs.Reading.{Reading, accepted, refused, onAccepted, inOrder, depthLimit}
+use Rattle.reading.specs.internal.Walks.{IsAccepted}
+use Rattle.hproto_message.specs.Reading.{step, tagAt, Inner, afterStep, fieldsFrom, messageFrom, reading}
+use Rattle.hproto_message.specs.internal.Accepts.{Accepts}
 use Rattle.hproto_message.proofs.Steps.{StepMeans, step-means, step-of-leaf, step-of-nested, step-of-end, field-tag, split-in-three, in-three}
 
 module _ (sc : Schema) (levels n : ℕ) (s : List ℕ) where

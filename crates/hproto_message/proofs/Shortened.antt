@@ -10,7 +10,8 @@ use Rattle.octets.specs.Signed.{integer}
 use Rattle.octets.specs.Control.{leastControl}
 use Rattle.octets.proofs.Number.{octets-append, octets-before, octets-after, number-leastUint, number-below-most, octets-leastUint}
 use Rattle.octets.proofs.Integer.{integer-leastInt, integer-in-range, octets-leastInt, leastInt-no-shorter}
-use Rattle.octets.proofs.Shorter.{NoShorter, no-shorter-self, no-shorter-append, no-shorter-other, leastUint-no-shorter}
+use Rattle.octets.proofs.Shorter.{no-shorter-self, no-shorter-append, no-shorter-other, leastUint-no-shorter}
+use Rattle.octets.specs.NoShorter.{NoShorter}
 use Rattle.octets.proofs.ControlPart.{part-bounds, least-part, octets-leastControl, leastControl-least}
 use Rattle.hproto_table.specs.Entry.{innerOf}
 use Rattle.hproto_table.specs.Schema.{Schema}

@@ -5,3 +5,4 @@ pub mod Reading
 pub mod Shortest
 pub mod Samples
 pub mod FirstFault
+pub mod internal

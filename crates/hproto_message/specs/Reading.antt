@@ -11,7 +11,7 @@ use Rattle.octets.specs.declared.Control.the-variants.{Absent, Partial, Whole}
 use Rattle.hproto_table.specs.Schema.{Schema}
 use Rattle.hproto_table.specs.declared.Meaning.{Meaning}
 use Rattle.hproto_table.specs.declared.Meaning.the-variants.{Raw, Uint, Int, String, Text, Message}
-use Rattle.reading.specs.Reading.{Reading, accepted, refused, onAccepted, inOrder, IsAccepted, depthLimit}
+use Rattle.reading.specs.Reading.{Reading, accepted, refused, onAccepted, inOrder, depthLimit}
 use Rattle.hproto_message.specs.declared.Step.{Step}
 use Rattle.hproto_message.specs.declared.Step.the-variants.{Done, Fault, Over, Into}
 use Rattle.hproto_message.specs.Cut.{Cut, end, leaf, nested}
@@ -70,7 +70,3 @@ messageFrom sc (suc levels) n field at s = fieldsFrom sc (messageFrom sc levels)
 -- The outermost message: its cut, or the first refusal.
 unfoldable pub reading : Schema → ℕ → List ℕ → Reading Cut
 reading sc n s = messageFrom sc depthLimit n 0 0 s
-
--- A message of a number, at most `levels` messages deep, is accepted.
-unfoldable pub Accepts : Schema → ℕ → ℕ → List ℕ → Type 0
-Accepts sc levels n s = IsAccepted (messageFrom sc levels n 0 0 s)

@@ -5,18 +5,17 @@ use mathlib.Core.Path.{_≡_, refl, sym, ap, _∙_}
 use mathlib.Core.List.{List}
 use lib.ListN.{length, take, drop, length-drop}
 use lib.Seq.{take-all}
-use Rattle.hproto_field.specs.Held.{heldIn}
-use Rattle.hproto_message.specs.Reading.{Accepts}
-use Rattle.hproto_message.proofs.Accepted.{accepts-good}
+use Rattle.hproto_field.specs.internal.Held.{heldIn}
+use Rattle.hproto_message.specs.internal.Accepts.{Accepts}
+use Rattle.hproto_message.proofs.Accepted.{accepts-good, good-accepted}
 use Rattle.hproto_field.proofs.HeldKinds.{message-of, plain-of}
 use Rattle.hproto_table.specs.Schema.{Schema}
 use Rattle.hproto_message.specs.Cut.{Cut, Good}
 use Rattle.hproto_message.specs.Tree.{tree}
-use Rattle.hproto_message.proofs.Accepted.{good-accepted}
-use Rattle.hproto_field.specs.Fronts.{front}
+use Rattle.hproto_field.specs.internal.Fronts.{front}
 use Rattle.hproto_field.specs.declared.Field.{Field}
 use Rattle.hproto_print.specs.Text.{direct}
-use Rattle.hproto_print.specs.Walk.{directRead, directOf}
+use Rattle.hproto_print.specs.internal.Walk.{directRead, directOf}
 use Rattle.hproto_field.specs.declared.Holds.{Holds}
 use Rattle.hproto_field.specs.declared.Holds.the-variants.{None, Number}
 use Rattle.hproto_field.proofs.Passing.{Left, all-left, none-left, ends, leaf-next, nested-next}

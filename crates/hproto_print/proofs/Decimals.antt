@@ -10,11 +10,7 @@ use lib.IntN.{negsuc}
 use borrow.Author.Tests.{lt-ltb, ltb-true}
 use Rattle.hproto_print.specs.Ascii.{ascii}
 use Rattle.hproto_print.specs.Digits.{glyph, decimalWithin, decimal, signedDecimal}
-
--- The number that decimal digits stand for, after digits that stand for v.
-unfoldable pub readAfter : ℕ → List ℕ → ℕ
-readAfter v [] = v
-readAfter v (d ∷ s) = readAfter (v * 10 + (d - 0x30)) s
+use Rattle.hproto_print.specs.ReadDecimal.{readAfter}
 
 read-append : (v : ℕ) (xs ys : List ℕ) → readAfter v (xs ++ ys) ≡ readAfter (readAfter v xs) ys
 unfolding readAfter

@@ -4,7 +4,7 @@ use native.Mathlib.Omega.{arith}
 use mathlib.Core.Path.{_≡_, refl, ap}
 use mathlib.Core.List.{List, [], _∷_}
 use lib.ListN.{length, length-append}
-use Rattle.hproto_message.specs.Reading.{Accepts}
+use Rattle.hproto_message.specs.internal.Accepts.{Accepts}
 use Rattle.hproto_message.proofs.Accepted.{accepts-good}
 use Rattle.octets.specs.Number.{number}
 use Rattle.octets.specs.Signed.{integer}
@@ -17,9 +17,9 @@ use Rattle.hproto_table.specs.declared.Meaning.the-variants.{Raw, Uint, Int, St
 use Rattle.octets.proofs.ControlPart.{part-size}
 use Rattle.hproto_print.specs.Ascii.{ascii}
 use Rattle.hproto_print.specs.Digits.{decimal, fourDigits, hex, hexOrDash}
-use Rattle.hproto_print.specs.Window.{FitsU64}
+use Rattle.hproto_print.specs.internal.Pieces.{FitsU64}
 use Rattle.hproto_print.specs.Text.{kindName, valueText, front, line, direct, lines, page, refusal}
-use Rattle.hproto_print.specs.Walk.{linesOf}
+use Rattle.hproto_print.specs.internal.Walk.{linesOf}
 use Rattle.hproto_print.proofs.Numbers.{decimal-length, signed-length}
 use Rattle.hproto_print.proofs.Writing.{lines-is}
 

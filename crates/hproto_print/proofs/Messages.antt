@@ -7,21 +7,22 @@ use mathlib.Core.List.{List}
 use lib.ListN.{length}
 use lib.Dec.{ltb}
 use borrow.Author.Tests.{eq-eqb, ne-eqb}
-use Rattle.hproto_message.specs.Reading.{Accepts}
+use Rattle.hproto_message.specs.internal.Accepts.{Accepts}
 use Rattle.hproto_table.specs.Schema.{schema}
 use Rattle.hproto_table.specs.Valid.{valid}
 use Rattle.hproto_table.specs.declared.Table.{Table}
 use Rattle.hproto_message.specs.Cut.{Cut}
 use Rattle.hproto_message.specs.Tree as trees
 use Rattle.hproto_message.specs.Tree.{tree}
-use Rattle.reading.specs.Reading.{accepted, IsAccepted, messageLimit}
+use Rattle.reading.specs.Reading.{accepted, messageLimit}
+use Rattle.reading.specs.internal.Walks.{IsAccepted}
 use Rattle.hproto_message.specs.Reading.{reading}
 use Rattle.reading.specs.Checks as answers
 use Rattle.hproto_check.specs.Check.{check, checkUnder, treeCounts}
 use Rattle.hproto_check.proofs.Passed.{check-passed}
 use Rattle.reading.specs.declared.Checked.{Checked}
 use Rattle.hproto_print.specs.Text.{page, shown, refusal, readText, messageText}
-use Rattle.hproto_print.specs.Walk.{linesRead, linesOf}
+use Rattle.hproto_print.specs.internal.Walk.{linesRead, linesOf}
 
 -- What is printed for a message that was read.
 shown-is : (t : Table) (s : List ℕ) (c : Checked) → c ≡ check t 0 s → c .refusal ≡ 0 → (cut : Cut) → reading (schema t) 0 s ≡ accepted cut

@@ -10,7 +10,7 @@ use lib.IntN.{ℤ, pos, negsuc}
 use lib.Dec.{ltb}
 use borrow.Author.Tests.{lt-ltb, le-ltb}
 use Rattle.hproto_print.specs.Digits.{glyph, decimalWithin, decimal, signedDecimal}
-use Rattle.hproto_print.specs.Window.{Printed, FitsU64}
+use Rattle.hproto_print.specs.internal.Pieces.{Printed, FitsU64}
 use Rattle.hproto_print.proofs.Windows.{then, one-is, same-place, printed-nothing, fits-less, fits-after, fits-first, fits-second}
 
 within-none : (most n : ℕ) → most ≡ 0 → [] ≡ decimalWithin most n

@@ -7,7 +7,7 @@ use mathlib.Core.List.{List, [], _∷_, _++_}
 use lib.ListN.{length, take, drop, getD, length-append}
 use lib.Seq.{take-suc, take-all, split-at}
 use Rattle.hproto_print.specs.Digits.{glyph, hex, hexOrDash}
-use Rattle.hproto_print.specs.Window.{Printed, FitsU64}
+use Rattle.hproto_print.specs.internal.Pieces.{Printed, FitsU64}
 use Rattle.hproto_print.proofs.Windows.{then, printed-nothing, printed-length, fits-after, same-place}
 
 pub hex-append : (xs ys : List ℕ) → hex (xs ++ ys) ≡ hex xs ++ hex ys

@@ -7,7 +7,7 @@ use Rattle.hproto_table.specs.declared.Meaning.the-variants.{Raw, Uint, Int, St
 use Rattle.hproto_message.specs.Cut.{Contents}
 use Rattle.hproto_message.specs.Tree.{value}
 use Rattle.hproto_print.specs.Text.{kindName}
-use Rattle.hproto_print.specs.Walk.{meaningName}
+use Rattle.hproto_print.specs.internal.Walk.{meaningName}
 
 pub name-is : (k : Meaning) (s : List ℕ) → Contents k s → meaningName k ≡ kindName (value k s)
 unfolding meaningName kindName value Contents

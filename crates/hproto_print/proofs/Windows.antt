@@ -9,7 +9,8 @@ use lib.ListN.{length, take, drop, set, length-append, length-drop, drop-of-leng
 use lib.Seq.{sets, length-sets, drop-nil, set-out, drop-append-le, drop-append-add, take-all, take-at}
 use lib.Dec.{leb}
 use borrow.Author.Tests.{leb-true, leb-false}
-use Rattle.hproto_print.specs.Window.{window, overlay, Printed, FitsU64}
+use Rattle.hproto_print.specs.Window.{window}
+use Rattle.hproto_print.specs.internal.Pieces.{overlay, Printed, FitsU64}
 
 -- Stores from one end on, then stores from where they end.
 sets-append : (d : List ℕ) (i : ℕ) (xs ys : List ℕ) → sets d i (xs ++ ys) ≡ sets (sets d i xs) (i + length xs) ys

@@ -4,21 +4,20 @@ use native.Mathlib.Omega.{arith}
 use mathlib.Core.Path.{_≡_, sym, ap, _∙_, subst}
 use mathlib.Core.List.{List, [], _++_, append-assoc, append-nil}
 use lib.ListN.{length, drop, length-append}
-use Rattle.hproto_message.specs.Reading.{Accepts}
-use Rattle.hproto_message.proofs.Accepted.{accepts-good, accepts-levels, good-accepts}
+use Rattle.hproto_message.specs.internal.Accepts.{Accepts}
+use Rattle.hproto_message.proofs.Accepted.{accepts-good, accepts-levels, good-accepts, good-accepted}
 use Rattle.hproto_table.specs.Schema.{Schema}
 use Rattle.hproto_table.specs.declared.Meaning.the-variants.{Message}
 use Rattle.hproto_message.specs.Cut.{Cut, Contents, Good}
 use Rattle.hproto_message.specs.Tree.{Tree, value, tree}
-use Rattle.hproto_message.proofs.Accepted.{good-accepted}
 use Rattle.hproto_message.proofs.Next.{Plain}
-use Rattle.hproto_field.specs.Fronts.{front}
+use Rattle.hproto_field.specs.internal.Fronts.{front}
 use Rattle.hproto_field.specs.declared.Field.{Field}
 use Rattle.hproto_print.specs.Ascii.{ascii}
 use Rattle.hproto_print.specs.Digits.{decimal}
-use Rattle.hproto_print.specs.Window.{Printed, FitsU64}
+use Rattle.hproto_print.specs.internal.Pieces.{Printed, FitsU64}
 use Rattle.hproto_print.specs.Text.{kindName, valueText, line, lines}
-use Rattle.hproto_print.specs.Walk.{linesRead, linesOf, directOf}
+use Rattle.hproto_print.specs.internal.Walk.{linesRead, linesOf, directOf}
 use Rattle.hproto_print.proofs.Windows.{then, printed-nothing, printed-length, same-place, fits-after}
 use Rattle.hproto_field.proofs.Passing.{Left, all-left, none-left, part, ends, leaf-next, nested-next, good-deeper}
 use Rattle.hproto_print.proofs.Counting.{direct-is}

@@ -2,4 +2,5 @@ pub mod Ascii
 pub mod Digits
 pub mod Window
 pub mod Text
-pub mod Walk
+pub mod internal
+pub mod ReadDecimal

@@ -11,10 +11,11 @@ ghost use lib.ListN.{length, take};
 ghost use Rattle.reading.specs.Reading.{messageLimit};
 ghost use Rattle.hproto_table.specs.Entry.{entry};
 ghost use Rattle.hproto_table.specs.Schema.{schemaOf};
-ghost use Rattle.hproto_print.specs.Window.{window, Printed};
+ghost use Rattle.hproto_print.specs.Window.{window};
+ghost use Rattle.hproto_print.specs.internal.Pieces.{Printed};
 ghost use Rattle.hproto_print.specs.Text.{page as page-of, refusal as refusal-of, messageText};
-ghost use Rattle.hproto_message.specs.Reading.{Accepts};
-ghost use Rattle.hproto_print.specs.Walk.{linesOf};
+ghost use Rattle.hproto_message.specs.internal.Accepts.{Accepts};
+ghost use Rattle.hproto_print.specs.internal.Walk.{linesOf};
 
 // The text of a message with number 0 that was checked before, its count of fields given.
 fn page(words: &[u64], count: usize, fields: u64, s: &[u8], from: u64, out: &mut [u8]) -> u64

@@ -12,13 +12,13 @@ ghost use Rattle.octets.specs.Signed.{integer};
 ghost use Rattle.hproto_table.specs.Entry.{entry};
 ghost use Rattle.hproto_table.specs.Schema.{schemaOf};
 ghost use Rattle.hproto_message.specs.Cut.{Contents};
-ghost use Rattle.hproto_message.specs.Reading.{Accepts};
+ghost use Rattle.hproto_message.specs.internal.Accepts.{Accepts};
 ghost use Rattle.hproto_message.specs.Tree.{value as value-of};
 ghost use Rattle.hproto_print.specs.Ascii.{ascii};
 ghost use Rattle.hproto_print.specs.Digits.{decimal, signedDecimal};
-ghost use Rattle.hproto_print.specs.Window.{FitsU64, Printed};
+ghost use Rattle.hproto_print.specs.internal.Pieces.{FitsU64, Printed};
 ghost use Rattle.hproto_print.specs.Text.{kindName, valueText, front as front-of, line};
-ghost use Rattle.hproto_print.specs.Walk.{meaningName, directOf, linesOf};
+ghost use Rattle.hproto_print.specs.internal.Walk.{meaningName, directOf, linesOf};
 
 fn kind_name(out: &mut [u8], from: u64, at: u64, kind: Meaning) -> u64
     requires { ⌜ FitsU64 at (meaningName kind) ⌝ }

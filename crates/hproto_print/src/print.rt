@@ -5,7 +5,7 @@ ghost use mathlib.Core.List.{[], _∷_};
 ghost use Prim.Native.Nat.{_<_, _^_};
 ghost use lib.IntN.{negsuc};
 ghost use Rattle.hproto_print.specs.Digits.{glyph, decimalWithin, decimal as decimal-of, signedDecimal, fourDigits, hex as hex-of, hexOrDash};
-ghost use Rattle.hproto_print.specs.Window.{FitsU64, Printed};
+ghost use Rattle.hproto_print.specs.internal.Pieces.{FitsU64, Printed};
 
 // One octet. Those before the window and those beyond it are counted and not stored.
 pub(crate) fn put(out: &mut [u8], from: u64, at: u64, x: u8) -> u64

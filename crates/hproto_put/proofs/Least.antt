@@ -8,7 +8,8 @@ use lib.ListN.{length, set, length-append}
 use lib.Dec.{ltb}
 use Rattle.octets.specs.Number.{octetsOf}
 use Rattle.octets.specs.ControlPart.{Code, tagCode, lengthCode}
-use Rattle.octets.specs.Control.{firstFit, leastCode, leastControl, controlWidths}
+use Rattle.octets.specs.Control.{firstFit, leastCode, leastControl}
+use Rattle.octets.specs.internal.Least.{controlWidths}
 use Rattle.octets.specs.declared.LeastControl.{LeastControl}
 use Rattle.octets.proofs.Number.{length-octetsOf}
 use Rattle.hproto_store.specs.Store.{stored}

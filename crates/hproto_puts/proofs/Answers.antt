@@ -13,7 +13,7 @@ use Rattle.hproto_state.specs.declared.State.{State}
 use Rattle.hproto_state.specs.declared.Written.{Written}
 use Rattle.hproto_state.proofs.Answers.{refused-answer, accepted-answer, refused-buffer, accepted-buffer}
 use Rattle.hproto_message.proofs.Fields.{field-length}
-use Rattle.hproto_puts.specs.Stores.{Before}
+use Rattle.hproto_puts.specs.internal.Stores.{Before}
 
 module _ (t : Table) (s : State) (tag : ℕ) (agrees reads : Bool) (xs d : List ℕ) where
   -- What is promised of the answer r and of the buffer afterwards.

@@ -9,7 +9,7 @@ use Rattle.hproto_message.specs.Shortest.{field}
 use Rattle.hproto_store.specs.Store.{stored}
 use Rattle.hproto_store.proofs.Stores.{stored-after}
 use Rattle.hproto_message.proofs.Fields.{field-length}
-use Rattle.hproto_puts.specs.Stores.{Before}
+use Rattle.hproto_puts.specs.internal.Stores.{Before}
 
 field-joined : (d : List ℕ) (at tag : ℕ) (xs : List ℕ) → at + length (field tag xs) ≤ length d
     → stored (stored d at (leastControl tag (length xs))) (at + length (leastControl tag (length xs))) xs ≡ stored d at (field tag xs)

@@ -14,7 +14,7 @@ ghost use Rattle.hproto_message.specs.Shortest.{field};
 ghost use Rattle.hproto_state.specs.Call.{putUint, putInt, putOctets};
 ghost use Rattle.hproto_state.specs.Answer.{answer, buffer};
 ghost use Rattle.hproto_state.specs.Calls.{ofOctets, readable as readable-of, put, putBuffer, putRefusal};
-ghost use Rattle.hproto_puts.specs.Stores.{Before};
+ghost use Rattle.hproto_puts.specs.internal.Stores.{Before};
 
 // Whether a field of n octets of contents fits into the free octets. Their sum could be out of range, so n is compared first.
 fn has_room(free: usize, tag: u16, n: usize) -> bool

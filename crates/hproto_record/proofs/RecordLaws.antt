@@ -13,7 +13,7 @@ use borrow.Author.Tests.{ne-eqb}
 use Rattle.octets.specs.Number.{number}
 use Rattle.hproto_table.specs.Entry.{entry}
 use Rattle.hproto_table.specs.Load.{inRange, wellFormed, recordAt}
-use Rattle.hproto_record.specs.Record.{recordOf}
+use Rattle.hproto_record.specs.internal.Record.{recordOf}
 use Rattle.hproto_record.specs.declared.Record.{Record}
 use Rattle.hproto_record.specs.declared.Record.the-variants.{Word, Wrong}
 

@@ -5,7 +5,7 @@ ghost use lib.ListN.{length, take, drop, getD};
 ghost use Rattle.octets.specs.Number.{number};
 ghost use Rattle.hproto_table.specs.Entry.{entry};
 ghost use Rattle.hproto_table.specs.Load.{inRange};
-ghost use Rattle.hproto_record.specs.Record.{recordOf};
+ghost use Rattle.hproto_record.specs.internal.Record.{recordOf};
 
 // A record's word, or that the record is not of the right form.
 pub enum Record {

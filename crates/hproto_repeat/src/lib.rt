@@ -3,7 +3,7 @@ ghost use mathlib.Core.Path.{_≡_};
 ghost use Prim.Native.Nat.{ℕ, _+_, _/_, _≤_, _<_};
 ghost use lib.Bits.{bitXor};
 ghost use lib.ListN.{length, take, getD};
-ghost use Rattle.hproto_table.specs.Repeat.{firstRepeat, rising};
+ghost use Rattle.hproto_table.specs.internal.FirstRepeat.{firstRepeat, rising};
 
 // Whether the pairs of the first n words rise. Then none is repeated, and most tables are written so.
 fn rises(words: &[u64], n: usize) -> bool

@@ -7,19 +7,20 @@ use mathlib.Core.List.{List}
 use lib.ListN.{length}
 use lib.Dec.{eqb}
 use borrow.Author.Tests.{le-leb, lt-leb, eq-eqb, ne-eqb}
-use Rattle.hproto_message.specs.Reading.{Accepts}
+use Rattle.hproto_message.specs.internal.Accepts.{Accepts}
 use Rattle.hproto_table.specs.Schema.{Schema, schema}
 use Rattle.hproto_table.specs.Valid.{valid}
 use Rattle.hproto_table.specs.declared.Table.{Table}
-use Rattle.reading.specs.Reading.{IsAccepted}
+use Rattle.reading.specs.internal.Walks.{IsAccepted}
 use Rattle.hproto_message.specs.Reading.{reading}
 use Rattle.hproto_check.specs.Check.{check, checkUnder}
 use Rattle.reading.specs.declared.Checked.{Checked}
 use Rattle.hproto_check.proofs.Counts.{under-valid}
 use Rattle.hproto_store.specs.Store.{stored}
 use Rattle.hproto_store.proofs.Stores.{stored-fits}
-use Rattle.hproto_shorten.specs.Written.{short}
-use Rattle.hproto_shorten.specs.Shorten.{refusal, shortUnder, shortForm, roomy, answerTo, bufferTo, answer, buffer, answerUnder, bufferUnder}
+use Rattle.hproto_shorten.specs.internal.Stores.{short}
+use Rattle.hproto_shorten.specs.Shorten.{refusal, shortUnder, shortForm, roomy, answerTo, bufferTo, answer, buffer}
+use Rattle.hproto_shorten.specs.internal.Under.{answerUnder, bufferUnder}
 use Rattle.hproto_shorten.specs.declared.Shortened.{Shortened}
 use Rattle.hproto_check.proofs.Passed.{under-passed}
 

@@ -7,7 +7,8 @@ use mathlib.Core.Path.{_≡_, sym, ap, ap₂, _∙_}
 use mathlib.Core.List.{List, [], _∷_, _++_}
 use lib.ListN.{length, set, take, drop, length-append, take-append-drop}
 use lib.Seq.{sets, drop-drop}
-use Rattle.hproto_store.specs.Store.{stored, moved}
+use Rattle.hproto_store.specs.Store.{stored}
+use Rattle.hproto_store.specs.internal.Moved.{moved}
 use Rattle.hproto_store.proofs.Sets.{set-before-sets, sets-over}
 use Rattle.hproto_store.proofs.Stores.{stored-fits, length-stored, stored-parts, stored-before, part-stored}
 use Rattle.hproto_store.proofs.Moves.{part-length, moved-fits}

@@ -5,9 +5,10 @@ use mathlib.Core.Path.{_≡_, refl, sym, ap, _∙_, subst}
 use mathlib.Core.Bool.{true}
 use mathlib.Core.List.{List, _++_}
 use lib.ListN.{length, drop}
-use Rattle.reading.specs.Reading.{IsAccepted, depthLimit}
-use Rattle.hproto_message.specs.Reading.{Accepts}
-use Rattle.hproto_message.proofs.Accepted.{accepts-good}
+use Rattle.reading.specs.Reading.{depthLimit}
+use Rattle.reading.specs.internal.Walks.{IsAccepted}
+use Rattle.hproto_message.specs.internal.Accepts.{Accepts}
+use Rattle.hproto_message.proofs.Accepted.{accepts-good, accepted-exactly, good-cut-unique}
 use Rattle.hproto_store.specs.Store.{stored}
 use Rattle.hproto_store.proofs.Stores.{stored-parts}
 use Rattle.octets.specs.Number.{Octets}
@@ -19,7 +20,6 @@ use Rattle.hproto_message.specs.ReadTheSame.{HasCut, ShortForm}
 use Rattle.hproto_message.specs.Tree.{tree}
 use Rattle.hproto_message.specs.Reading.{reading}
 use Rattle.hproto_message.specs.Shortest.{shortest}
-use Rattle.hproto_message.proofs.Accepted.{accepted-exactly, good-cut-unique}
 use Rattle.hproto_message.proofs.Shortened.{shortest-no-longer, short-form}
 use Rattle.reading.specs.Checks.{counts}
 use Rattle.reading.specs.declared.Checked.{Checked}

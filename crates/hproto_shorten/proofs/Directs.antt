@@ -10,7 +10,7 @@ use Rattle.octets.specs.declared.Control.the-variants.{Whole}
 use Rattle.octets_read.proofs.Leads.{control-split, whole-direct}
 use Rattle.hproto_table.specs.Schema.{Schema}
 use Rattle.hproto_table.specs.declared.Meaning.{Meaning}
-use Rattle.hproto_field.specs.Fronts.{front}
+use Rattle.hproto_field.specs.internal.Fronts.{front}
 use Rattle.hproto_field.specs.declared.Field.{Field}
 use Rattle.hproto_field.proofs.Fields.{front-whole}
 

@@ -5,11 +5,12 @@ use mathlib.Core.Path.{_≡_, refl, sym, ap, _∙_, subst}
 use mathlib.Core.List.{List, [], _++_}
 use lib.ListN.{length, drop, length-append}
 use lib.IntN.{ℤ, pos, negsuc}
-use Rattle.hproto_message.specs.Reading.{Accepts}
+use Rattle.hproto_message.specs.internal.Accepts.{Accepts}
 use Rattle.hproto_message.proofs.Accepted.{accepts-good}
 use Rattle.octets.specs.Number.{Octets, number}
 use Rattle.octets.specs.Signed.{integer, signedWidth}
-use Rattle.octets.specs.Control.{leastControl, controlWidths}
+use Rattle.octets.specs.Control.{leastControl}
+use Rattle.octets.specs.internal.Least.{controlWidths}
 use Rattle.octets.proofs.Number.{length-leastUint, width-bound}
 use Rattle.octets.proofs.Integer.{length-leastInt}
 use Rattle.hproto_table.specs.Schema.{Schema}
@@ -19,10 +20,10 @@ use Rattle.hproto_message.specs.Tree.{value}
 use Rattle.hproto_message.specs.Shortest.{field, leastContents}
 use Rattle.hproto_message.proofs.Next.{Plain}
 use Rattle.hproto_message.proofs.Shortened.{shortest-no-longer}
-use Rattle.hproto_field.specs.Fronts.{front}
+use Rattle.hproto_field.specs.internal.Fronts.{front}
 use Rattle.hproto_field.specs.declared.Field.{Field}
 use Rattle.hproto_put.proofs.Least.{leastControl-size, leastControl-widths}
-use Rattle.hproto_shorten.specs.Written.{short}
+use Rattle.hproto_shorten.specs.internal.Stores.{short}
 use Rattle.hproto_shorten.proofs.Passing.{Passed, nothing-passed, all-passed, passed-length, part, ends, leaf-passed, nested-passed, short-is}
 use Rattle.hproto_message.proofs.Fields.{field-length}
 

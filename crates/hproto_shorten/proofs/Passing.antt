@@ -12,15 +12,16 @@ use Rattle.hproto_table.specs.Schema.{Schema}
 use Rattle.hproto_table.specs.declared.Meaning.the-variants.{Message}
 use Rattle.hproto_message.specs.Cut.{Cut, Contents, Good}
 use Rattle.hproto_message.specs.Tree.{Tree, value, tree}
-use Rattle.hproto_message.specs.Reading.{Accepts}
+use Rattle.hproto_message.specs.internal.Accepts.{Accepts}
 use Rattle.hproto_message.specs.Shortest.{leastContents, field, shortest}
 use Rattle.hproto_message.proofs.Accepted.{good-accepted, accepts-good, good-accepts}
 use Rattle.hproto_message.proofs.Next.{Plain}
-use Rattle.hproto_field.specs.Fronts.{front}
+use Rattle.hproto_field.specs.internal.Fronts.{front}
 use Rattle.hproto_field.specs.declared.Field.{Field}
 use Rattle.hproto_field.proofs.Passing as fields
 use Rattle.hproto_field.proofs.Passing.{Left, all-left, none-left, front-is, leaf-next, nested-next}
-use Rattle.hproto_shorten.specs.Written.{shortestOf, short}
+use Rattle.hproto_shorten.specs.Written.{shortestOf}
+use Rattle.hproto_shorten.specs.internal.Stores.{short}
 
 -- The cut of an accepted message, and its shortest form.
 pub short-is : (sc : Schema) (levels n : ℕ) (s : List ℕ) (cut : Cut) → Good sc levels n s cut → short sc levels n s ≡ shortest (tree sc n cut)

@@ -7,17 +7,20 @@ use mathlib.Core.List.{List, [], _∷_}
 use lib.ListN.{length, set}
 use lib.IntN.{ℤ}
 use borrow.Author.Tests.{lt-ltb}
-use Rattle.octets.specs.Number.{number, octetsOf, unsigned, leastUint, uintWidthBits}
-use Rattle.octets.specs.Signed.{integer, signed, leastInt, intWidthBits}
+use Rattle.octets.specs.Number.{number, octetsOf, leastUint}
+use Rattle.octets.specs.internal.Least.{uintWidthBits, intWidthBits}
+use Rattle.octets.specs.internal.Bounded.{unsigned, signed}
+use Rattle.octets.specs.Signed.{integer, leastInt}
 use Rattle.octets.specs.declared.Least.{Least}
 use Rattle.octets.specs.Control.{leastCode, leastControl}
 use Rattle.octets.proofs.Number.{length-octetsOf, unsigned-is, uint-octets}
 use Rattle.octets.proofs.Integer.{signed-is, int-octets}
-use Rattle.hproto_store.specs.Store.{stored, moved}
+use Rattle.hproto_store.specs.Store.{stored}
+use Rattle.hproto_store.specs.internal.Moved.{moved}
 use Rattle.hproto_store.proofs.Stores.{stored-fits, stored-after}
 use Rattle.hproto_message.specs.Shortest.{field}
 use Rattle.hproto_message.proofs.Fields.{field-length}
-use Rattle.hproto_shorten.specs.Written.{Put}
+use Rattle.hproto_shorten.specs.internal.Stores.{Put}
 use Rattle.hproto_shorten.proofs.Behind.{moved-nowhere}
 
 -- A control part takes at least one octet.

@@ -4,7 +4,7 @@ use native.Mathlib.Omega.{arith}
 use mathlib.Core.Path.{_≡_, sym, ap, _∙_, subst}
 use mathlib.Core.List.{List, [], _++_}
 use lib.ListN.{length, drop, length-append}
-use Rattle.hproto_message.specs.Reading.{Accepts}
+use Rattle.hproto_message.specs.internal.Accepts.{Accepts}
 use Rattle.octets.specs.Number.{Octets}
 use Rattle.octets.specs.Control.{leastControl}
 use Rattle.hproto_table.specs.Schema.{Schema}
@@ -12,11 +12,12 @@ use Rattle.hproto_table.specs.declared.Meaning.the-variants.{Message}
 use Rattle.hproto_message.specs.Tree.{value}
 use Rattle.hproto_message.specs.Shortest.{field, leastContents}
 use Rattle.hproto_message.proofs.Next.{Plain}
-use Rattle.hproto_field.specs.Fronts.{front}
+use Rattle.hproto_field.specs.internal.Fronts.{front}
 use Rattle.hproto_field.specs.declared.Field.{Field}
-use Rattle.hproto_store.specs.Store.{stored, moved}
+use Rattle.hproto_store.specs.Store.{stored}
+use Rattle.hproto_store.specs.internal.Moved.{moved}
 use Rattle.hproto_store.proofs.Stores.{stored-nothing, stored-after, length-stored}
-use Rattle.hproto_shorten.specs.Written.{short, Put}
+use Rattle.hproto_shorten.specs.internal.Stores.{short, Put}
 use Rattle.hproto_shorten.proofs.Passing.{Passed, nothing-passed, all-passed, passed-length, part, ends, leaf-passed, nested-passed}
 use Rattle.hproto_message.proofs.Fields.{field-length}
 use Rattle.hproto_shorten.proofs.Puts.{control-some}

@@ -8,7 +8,7 @@ use lib.Dec.{leb, eqb}
 use Rattle.hproto_table.specs.Schema.{Schema, schema}
 use Rattle.hproto_table.specs.declared.Table.{Table}
 use Rattle.hproto_message.specs.Reading.{reading}
-use Rattle.hproto_check.specs.Check.{check, checkUnder}
+use Rattle.hproto_check.specs.Check.{check}
 use Rattle.reading.specs.declared.Checked.{Checked}
 use Rattle.hproto_shorten.specs.Written.{shortestOf}
 use Rattle.hproto_shorten.specs.declared.Shortened.{Shortened}
@@ -44,9 +44,3 @@ answer t n s out = answerTo (check t n s) (shortForm t n s) out
 
 unfoldable pub buffer : Table → ℕ → List ℕ → List ℕ → List ℕ
 buffer t n s out = bufferTo (check t n s) (shortForm t n s) out
-
-unfoldable pub answerUnder : Schema → ℕ → List ℕ → List ℕ → Shortened
-answerUnder sc n s out = answerTo (checkUnder sc n s) (shortUnder sc n s) out
-
-unfoldable pub bufferUnder : Schema → ℕ → List ℕ → List ℕ → List ℕ
-bufferUnder sc n s out = bufferTo (checkUnder sc n s) (shortUnder sc n s) out

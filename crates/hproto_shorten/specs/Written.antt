@@ -1,26 +1,13 @@
 -- What the shortener writes for a message that is accepted.
-use Prim.Native.Nat.{ℕ, _+_}
-use mathlib.Core.Path.{_≡_}
+use Prim.Native.Nat.{ℕ}
 use mathlib.Core.List.{List, []}
-use lib.ListN.{length}
-use Rattle.hproto_store.specs.Store.{stored}
 use Rattle.hproto_table.specs.Schema.{Schema}
 use Rattle.hproto_message.specs.Cut.{Cut}
 use Rattle.hproto_message.specs.Tree.{tree}
 use Rattle.reading.specs.Reading.{Reading, accepted, refused}
-use Rattle.hproto_message.specs.Reading.{messageFrom}
 use Rattle.hproto_message.specs.Shortest.{shortest}
 
 -- The shortest form of the tree that a reading gives; nothing for a refusal.
 unfoldable pub shortestOf : Schema → ℕ → Reading Cut → List ℕ
 shortestOf sc n (accepted cut) = shortest (tree sc n cut)
 shortestOf sc n (refused number place) = []
-
--- The shortest form of a message of a number, at most `levels` messages deep.
-unfoldable pub short : Schema → ℕ → ℕ → List ℕ → List ℕ
-short sc levels n s = shortestOf sc n (messageFrom sc levels n 0 0 s)
-
--- A store of octets from a place on: the place after them, and the buffer afterwards.
-pub record Put (before : List ℕ) (to : ℕ) (octets : List ℕ) (end : ℕ) (after : List ℕ) : Type 0 where
-  pub place : end ≡ to + length octets
-  pub buffer : after ≡ stored before to octets

@@ -11,16 +11,18 @@ ghost use Rattle.reading.specs.Reading.{messageLimit};
 ghost use Rattle.octets.specs.Number.{Octets, number as number-of, octetsOf, leastUint};
 ghost use Rattle.octets.specs.Signed.{integer, leastInt};
 ghost use Rattle.octets.specs.Control.{leastControl};
-ghost use Rattle.hproto_store.specs.Store.{stored, moved};
-ghost use Rattle.hproto_index.specs.Slots.{indexed};
-ghost use Rattle.hproto_field.specs.Fronts.{front as front-of};
+ghost use Rattle.hproto_store.specs.Store.{stored};
+ghost use Rattle.hproto_store.specs.internal.Moved.{moved};
+ghost use Rattle.hproto_index.specs.internal.Slots.{indexed};
+ghost use Rattle.hproto_field.specs.internal.Fronts.{front as front-of};
 ghost use Rattle.hproto_message.specs.Cut.{Contents};
-ghost use Rattle.hproto_message.specs.Reading.{Accepts};
+ghost use Rattle.hproto_message.specs.internal.Accepts.{Accepts};
 ghost use Rattle.hproto_message.specs.Tree.{value};
 ghost use Rattle.hproto_message.specs.Shortest.{field, leastContents};
 ghost use lib.Dec.{leb};
-ghost use Rattle.hproto_shorten.specs.Shorten.{answer, buffer, answerUnder, bufferUnder, refusal};
-ghost use Rattle.hproto_shorten.specs.Written.{short, Put};
+ghost use Rattle.hproto_shorten.specs.Shorten.{answer, buffer, refusal};
+ghost use Rattle.hproto_shorten.specs.internal.Under.{answerUnder, bufferUnder};
+ghost use Rattle.hproto_shorten.specs.internal.Stores.{short, Put};
 
 // The shortener's answer: a refusal number (0 where the message was shortened), the place of the fault, and the length written.
 pub struct Shortened {

@@ -1,7 +1,6 @@
 -- Worked samples of what is printed: each side of each equation computes to the same.
-use Prim.Native.Nat.{ℕ}
 use mathlib.Core.Path.{_≡_, refl}
-use mathlib.Core.List.{List, [], _∷_, _++_}
+use mathlib.Core.List.{[], _∷_, _++_}
 use Rattle.octets.specs.Number as octets
 use Rattle.octets.specs.Signed as signs
 use Rattle.octets.specs.Control as controls
@@ -22,18 +21,7 @@ use Rattle.hproto_print.specs.Digits as digits
 use Rattle.hproto_print.specs.Text as prints
 use Rattle.hproto_show.specs.Output as shows
 use Rattle.hproto_show.specs.Output.{output}
-
--- Document 01's input: a framed table of five records, and a framed message.
-unfoldable pub input : List ℕ
-input =
-    0x28 ∷
-    0x01 ∷ 0x00 ∷ 0x05 ∷ 0x00 ∷ 0x00 ∷ 0x01 ∷ 0x01 ∷ 0x00 ∷
-    0x01 ∷ 0x00 ∷ 0x05 ∷ 0x00 ∷ 0x00 ∷ 0x02 ∷ 0x02 ∷ 0x00 ∷
-    0x01 ∷ 0x00 ∷ 0x05 ∷ 0x00 ∷ 0x00 ∷ 0x23 ∷ 0x05 ∷ 0x01 ∷
-    0x01 ∷ 0x00 ∷ 0x05 ∷ 0x01 ∷ 0x00 ∷ 0x00 ∷ 0x04 ∷ 0x00 ∷
-    0x01 ∷ 0x00 ∷ 0x05 ∷ 0x01 ∷ 0x00 ∷ 0x01 ∷ 0x01 ∷ 0x00 ∷
-    0x0d ∷
-    0x11 ∷ 0x2a ∷ 0x21 ∷ 0x8b ∷ 0xe6 ∷ 0x23 ∷ 0x02 ∷ 0x4b ∷ 0x57 ∷ 0x12 ∷ 0x01 ∷ 0xf4 ∷ 0x30 ∷ []
+use Rattle.hproto_show.specs.Samples.{input}
 
 pub samples-hold :
     (output input

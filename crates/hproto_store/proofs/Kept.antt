@@ -5,7 +5,8 @@ use mathlib.Core.Path.{_≡_, sym, ap, _∙_}
 use mathlib.Core.List.{List}
 use lib.ListN.{length, take, drop}
 use lib.Seq.{take-all, length-take-le}
-use Rattle.hproto_store.specs.Store.{stored, moved}
+use Rattle.hproto_store.specs.Store.{stored}
+use Rattle.hproto_store.specs.internal.Moved.{moved}
 use Rattle.hproto_store.proofs.Stores.{take-stored}
 use Rattle.hproto_store.proofs.Moves.{moved-fits, part-length}
 

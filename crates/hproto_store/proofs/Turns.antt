@@ -7,7 +7,8 @@ use mathlib.Core.Path.{_≡_, refl, sym, ap, ap₂, _∙_}
 use mathlib.Core.List.{List, [], _∷_, _++_}
 use lib.ListN.{length, getD, set, take, drop, length-append, length-drop, take-append-drop, drop-of-length-le}
 use lib.Seq.{sets, length-sets, take-suc, length-take-le, take-take, drop-drop}
-use Rattle.hproto_store.specs.Store.{stored, moved}
+use Rattle.hproto_store.specs.Store.{stored}
+use Rattle.hproto_store.specs.internal.Moved.{moved}
 use Rattle.hproto_store.proofs.Sets.{sets-append, sets-before-sets, take-before-sets, same-part}
 use Rattle.hproto_store.proofs.Stores.{stored-fits}
 use Rattle.hproto_store.proofs.Moves.{moved-fits, part-length}

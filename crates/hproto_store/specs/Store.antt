@@ -2,14 +2,10 @@
 use Prim.Native.Nat.{ℕ, _+_}
 use mathlib.Core.Bool.{cond}
 use mathlib.Core.List.{List}
-use lib.ListN.{length, take, drop}
+use lib.ListN.{length}
 use lib.Seq.{sets}
 use lib.Dec.{leb}
 
 -- d with the octets xs from index `at` on; d itself where they do not all lie inside it.
 unfoldable pub stored : List ℕ → ℕ → List ℕ → List ℕ
 stored d at xs = cond (leb (at + length xs) (length d)) (sets d at xs) d
-
--- d with its n octets from `at` on stored again, `by` places further up; d itself where it has no such n octets, or no room for them there.
-unfoldable pub moved : List ℕ → ℕ → ℕ → ℕ → List ℕ
-moved d at n by = cond (leb (at + n) (length d)) (stored d (at + by) (take n (drop at d))) d

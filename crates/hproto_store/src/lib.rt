@@ -4,7 +4,8 @@ ghost use mathlib.Core.Path.{_≡_};
 ghost use Prim.Native.Nat.{_+_, _≤_};
 ghost use lib.Dec.{leb};
 ghost use lib.ListN.{length as length-of, take};
-ghost use Rattle.hproto_store.specs.Store.{stored, moved};
+ghost use Rattle.hproto_store.specs.Store.{stored};
+ghost use Rattle.hproto_store.specs.internal.Moved.{moved};
 
 // Whether n octets from `at` on lie within `len`. The sum of the two could be out of range, so n is compared with what is left.
 pub fn has_room(len: usize, at: usize, n: usize) -> bool

@@ -13,7 +13,7 @@ use Rattle.octets.specs.Number.{number}
 use Rattle.hproto_table.specs.Entry.{entry}
 use Rattle.hproto_table.specs.Load.{inRange, recordAt, wordAt, wellFormed, wordsBefore, pair, seen, faulty, accepted, refused, loadFrom, load}
 use Rattle.hproto_table.specs.declared.Loaded.{Loaded}
-use Rattle.hproto_table.specs.Repeat.{repeatAfter, firstRepeat}
+use Rattle.hproto_table.specs.internal.FirstRepeat.{repeatAfter, firstRepeat}
 use Rattle.hproto_table.proofs.Bools.{and-four, or-second}
 
 -- The words of k records from the one at i on.

@@ -11,7 +11,8 @@ use lib.Seq.{length-take-le, getD-take}
 use lib.Dec.{eqb, leb}
 use borrow.Author.Tests.{eq-eqb, ne-eqb, leb-true, le-leb, lt-leb}
 use Rattle.hproto_table.specs.Load.{pair, seen}
-use Rattle.hproto_table.specs.Repeat.{distinct, repeatAfter, firstRepeat, rising}
+use Rattle.hproto_table.specs.Repeat.{distinct}
+use Rattle.hproto_table.specs.internal.FirstRepeat.{repeatAfter, firstRepeat, rising}
 use Rattle.hproto_table.proofs.Bools.{and-left, and-right, or-neither, or-first, or-second, eqb-swap}
 use Rattle.hproto_table.proofs.Lists.{front, front-end, take-more, take-min}
 

@@ -13,7 +13,8 @@ use Rattle.octets.specs.Number.{Octets, number, octetsOf}
 use Rattle.octets.proofs.Number.{octets-append, octets-octetsOf, number-octetsOf, length-octetsOf}
 use Rattle.hproto_table.specs.Entry.{Entry, entry}
 use Rattle.hproto_table.specs.Load.{inRange, recordAt, wordAt, wellFormed, wordsBefore, pair, seen, faulty, tableOf, accepted, refused, loadFrom, load, Loadable}
-use Rattle.hproto_table.specs.Repeat.{distinct, firstRepeat}
+use Rattle.hproto_table.specs.Repeat.{distinct}
+use Rattle.hproto_table.specs.internal.FirstRepeat.{firstRepeat}
 use Rattle.hproto_table.specs.Valid.{allInRange, allZero, valid}
 use Rattle.hproto_table.specs.Records.{recordFor, recordsFor}
 use Rattle.hproto_table.specs.declared.Table.{Table}

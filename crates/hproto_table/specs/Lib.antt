@@ -4,3 +4,4 @@ pub mod Load
 pub mod Repeat
 pub mod Valid
 pub mod Records
+pub mod internal

@@ -12,13 +12,14 @@ use lib.Bits.{bitAnd, bitOr, or-add-and, and-le-l, and-le-r}
 use borrow.Author.Tests.{eqb-true, eqb-false, eq-eqb, ne-eqb, le-leb, lt-leb}
 use Rattle.hproto_table.specs.Entry.{entry}
 use Rattle.hproto_table.specs.Load.{inRange, pair}
-use Rattle.hproto_table.specs.Repeat.{distinct, firstRepeat, rising}
+use Rattle.hproto_table.specs.Repeat.{distinct}
+use Rattle.hproto_table.specs.internal.FirstRepeat.{firstRepeat, rising}
 use Rattle.hproto_table.specs.Valid.{allInRange, allZero, valid}
 use Rattle.hproto_table.specs.declared.Table.{Table}
 use Rattle.hproto_table.proofs.Bools.{and-left, and-right, and-both}
 use Rattle.hproto_table.proofs.Lists.{front, front-end}
 use Rattle.hproto_table.proofs.Repeat.{rising-none, distinct-is}
-use Rattle.hproto_valid.specs.Rising.{risingInRange}
+use Rattle.hproto_valid.specs.internal.Rising.{risingInRange}
 
 -- ---- word by word
 

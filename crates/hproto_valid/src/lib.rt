@@ -6,7 +6,7 @@ ghost use Prim.Native.Nat.{_≤_};
 ghost use lib.ListN.{length, take, drop};
 ghost use Rattle.hproto_table.specs.Repeat.{distinct};
 ghost use Rattle.hproto_table.specs.Valid.{allInRange, allZero, valid as valid-of};
-ghost use Rattle.hproto_valid.specs.Rising.{risingInRange};
+ghost use Rattle.hproto_valid.specs.internal.Rising.{risingInRange};
 
 // Whether the first n words are in range and their pairs rise. One pass settles a table whose entries rise by number and tag.
 fn rises_in_range(words: &[u64], n: usize) -> bool

@@ -16,11 +16,7 @@ use Rattle.hproto_state.specs.declared.State.{State}
 use Rattle.hproto_state.specs.Call.{Call, putUint, putInt, putOctets, openField, closeField}
 use Rattle.hproto_state.specs.Answer.{answer, buffer}
 use Rattle.hproto_table.specs.Entry.{kindNumber}
-
--- What a refused call leaves.
-pub record Unchanged (s : State) (d : List ℕ) (state : State) (after : List ℕ) : Type 0 where
-  pub same-state : state ≡ s
-  pub same-buffer : after ≡ d
+use Rattle.hproto_written.specs.Unchanged.{Unchanged}
 
 module _ (t : Table) (s : State) (d : List ℕ) where
   put-unchanged : (tag : ℕ) (agrees reads : Bool) (xs : List ℕ) → (put t s tag agrees reads xs (length d) .refusal ≡ 0 → ⊥)

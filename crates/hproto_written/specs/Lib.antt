@@ -4,3 +4,4 @@ pub mod Run
 pub mod Demand2
 pub mod Refusal
 pub mod Writable
+pub mod Unchanged

@@ -10,7 +10,7 @@ use mir.Syntax.{w64}
 use mir.Val.{Fits, SFits, toZ, ofZ}
 use mir.ValLaws.{toZ-ofZ, toZ-pos}
 use borrow.Author.Tests.{le-ltb}
-use Rattle.numbers.specs.Signed.{belowZero}
+use Rattle.numbers.specs.internal.Signed.{belowZero}
 
 -- ---- a number below zero
 

@@ -2,7 +2,7 @@
 // a comparison, or that a magnitude is in range.
 ghost use mathlib.Core.Path.{_≡_};
 ghost use Prim.Native.Nat.{min, max};
-ghost use Rattle.numbers.specs.Signed.{belowZero};
+ghost use Rattle.numbers.specs.internal.Signed.{belowZero};
 
 // An octet as a number.
 pub fn wide(x: u8) -> u64

@@ -15,9 +15,12 @@ use lib.Dec.{leb}
 use borrow.Author.Tests.{leb-true, leb-false, le-leb}
 use Rattle.octets.specs.declared.Least.{Least}
 use Rattle.octets.specs.Number.{Octets, number, octetsOf, width, widthWithin}
-use Rattle.octets.specs.Signed.{lowest, withSign, integer, signed, signedWidth, signedBits, leastInt, intWidthBits}
+use Rattle.octets.specs.Signed.{lowest, withSign, integer, signedWidth, signedBits, leastInt}
+use Rattle.octets.specs.internal.Least.{intWidthBits}
+use Rattle.octets.specs.internal.Bounded.{signed}
 use Rattle.octets.proofs.Number.{power-positive, power-grows, number-below, number-octetsOf, octets-octetsOf, length-octetsOf, number-injective, width-least, width-holds}
-use Rattle.octets.proofs.Shorter.{NoShorter, no-shorter-self}
+use Rattle.octets.proofs.Shorter.{no-shorter-self}
+use Rattle.octets.specs.NoShorter.{NoShorter}
 
 two-to-eights : (n : ℕ) → 2 ^ (8 * n) ≡ 256 ^ n
 two-to-eights zero = refl

@@ -11,7 +11,9 @@ use lib.Pow.{pow-add}
 use lib.Dec.{leb}
 use borrow.Author.Tests.{leb-true, leb-false, le-leb}
 use Rattle.octets.specs.declared.Least.{Least}
-use Rattle.octets.specs.Number.{Octets, number, unsigned, octetsOf, width, widthWithin, leastUint, uintWidthBits}
+use Rattle.octets.specs.Number.{Octets, number, octetsOf, width, widthWithin, leastUint}
+use Rattle.octets.specs.internal.Least.{uintWidthBits}
+use Rattle.octets.specs.internal.Bounded.{unsigned}
 
 pub power-positive : (n : ℕ) → 0 < 256 ^ n
 power-positive zero = omega arith

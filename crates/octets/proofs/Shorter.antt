@@ -8,11 +8,7 @@ use mathlib.Core.List.{List, _++_}
 use lib.ListN.{length, length-append}
 use Rattle.octets.specs.Number.{Octets, number, leastUint}
 use Rattle.octets.proofs.Number.{number-injective, number-below, number-below-most, width-least, length-leastUint, octets-leastUint, number-leastUint}
-
--- s is at least as long as l, and is l where it is just as long.
-pub record NoShorter (l s : List ℕ) : Type 0 where
-  pub long : length l ≤ length s
-  pub same : length l ≡ length s → l ≡ s
+use Rattle.octets.specs.NoShorter.{NoShorter}
 
 pub no-shorter-self : (s : List ℕ) → NoShorter s s
 no-shorter-self s = record { long = omega arith; same = λ e. refl }

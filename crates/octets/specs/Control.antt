@@ -7,7 +7,6 @@ use lib.ListN.{length, getD, take, drop}
 use lib.Dec.{ltb}
 use Rattle.octets.specs.Number.{number, octetsOf}
 use Rattle.octets.specs.ControlPart.{Code, tagCode, lengthCode}
-use Rattle.octets.specs.declared.LeastControl.{LeastControl}
 use Rattle.octets.specs.declared.Control.{Control}
 use Rattle.octets.specs.declared.Control.the-variants.{Absent, Partial, Whole}
 
@@ -47,10 +46,3 @@ leastControl tag len =
     let t = leastCode tagCode tag in
     let l = leastCode lengthCode len in
     (t .0 * 16 + l .0) ∷ t .1 ++ l .1
-
--- The same as three numbers: the control octet, and how many octets of the tag and of the length follow it.
-unfoldable pub controlWidths : ℕ → ℕ → LeastControl
-controlWidths tag len =
-    let t = leastCode tagCode tag in
-    let l = leastCode lengthCode len in
-    record { octet = t .0 * 16 + l .0; «tag_width» = length (t .1); «length_width» = length (l .1) }

@@ -5,3 +5,5 @@ pub mod Groups
 pub mod Text
 pub mod Control
 pub mod CutControl
+pub mod internal
+pub mod NoShorter

@@ -4,7 +4,6 @@ use mathlib.Core.Bool.{cond}
 use mathlib.Core.List.{List, [], _∷_}
 use lib.ListN.{length}
 use lib.Dec.{leb}
-use Rattle.octets.specs.declared.Least.{Least}
 
 -- Octets are numbers below 256.
 unfoldable pub Octets : List ℕ → Type 0
@@ -15,10 +14,6 @@ Octets (x ∷ s) = (x < 256) × Octets s
 unfoldable pub number : List ℕ → ℕ
 number [] = 0
 number (x ∷ s) = x * 256 ^ length s + number s
-
--- The number that at most eight octets hold, 0 for more: no number of any format takes more.
-unfoldable pub unsigned : List ℕ → ℕ
-unsigned s = cond (leb (length s) 8) (number s) 0
 
 -- A number's last n octets.
 unfoldable pub octetsOf : ℕ → ℕ → List ℕ
@@ -37,7 +32,3 @@ width v = widthWithin 8 v
 -- The least octets of a uint.
 unfoldable pub leastUint : ℕ → List ℕ
 leastUint v = octetsOf (width v) v
-
--- The same as a pair of numbers.
-unfoldable pub uintWidthBits : ℕ → Least
-uintWidthBits v = record { width = width v; bits = v }

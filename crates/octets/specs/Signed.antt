@@ -1,11 +1,10 @@
 -- Signed numbers as octets: the leftmost bit is the sign, the other bits the magnitude.
 use Prim.Native.Nat.{ℕ, zero, suc, _+_, _*_, _-_, _%_, _^_}
-use mathlib.Core.Bool.{Bool, true, false, cond}
+use mathlib.Core.Bool.{Bool, true, false}
 use mathlib.Core.List.{List, [], _∷_}
 use lib.ListN.{length}
 use lib.Dec.{leb}
 use lib.IntN.{ℤ, pos, negsuc, negℤ}
-use Rattle.octets.specs.declared.Least.{Least}
 use Rattle.octets.specs.Number.{number, octetsOf, width}
 
 -- Where the sign is set and all other bits are clear, n octets mean minus this.
@@ -23,10 +22,6 @@ unfoldable pub integer : List ℕ → ℤ
 integer [] = pos 0
 integer (x ∷ s) = withSign (length (x ∷ s)) (leb 128 x) (number (x % 128 ∷ s))
 
--- The same for at most eight octets, 0 for more: no field of kind int has more.
-unfoldable pub signed : List ℕ → ℤ
-signed s = cond (leb (length s) 8) (integer s) (pos 0)
-
 -- How many octets a signed number needs: none for 0, else a bit for the sign beside the magnitude. One less than the magnitude counts
 -- below zero, since minus `lowest n` takes n octets.
 unfoldable pub signedWidth : ℤ → ℕ
@@ -41,7 +36,3 @@ signedBits n (negsuc k) = lowest n + suc k % lowest n
 -- The least octets of an int.
 unfoldable pub leastInt : ℤ → List ℕ
 leastInt z = octetsOf (signedWidth z) (signedBits (signedWidth z) z)
-
--- The same as a pair of numbers.
-unfoldable pub intWidthBits : ℤ → Least
-intWidthBits z = record { width = signedWidth z; bits = signedBits (signedWidth z) z }

@@ -6,10 +6,11 @@ use mathlib.Core.Path.{_≡_}
 use borrow.Author.Tests.{lt-ltb, le-ltb}
 use Rattle.octets.specs.Number.{octetsOf}
 use Rattle.octets.specs.ControlPart.{Code, tagCode, lengthCode}
-use Rattle.octets.specs.Control.{firstFit, leastCode, controlWidths}
+use Rattle.octets.specs.Control.{firstFit, leastCode}
+use Rattle.octets.specs.internal.Least.{controlWidths}
 use Rattle.octets.specs.declared.LeastControl.{LeastControl}
 use Rattle.octets.proofs.Number.{length-octetsOf}
-use Rattle.octets_least.specs.Lead.{LeastLead}
+use Rattle.octets_least.specs.internal.Lead.{LeastLead}
 
 -- A lead that is the number itself.
 pub direct : (code : Code) (v : ℕ) → v < code .direct → code .direct ≤ 16 → LeastLead code v v 0

@@ -6,7 +6,8 @@ use mathlib.Core.Path.{_≡_, _∙_}
 use lib.Bits.{bitAnd, and-mask, and-le-r}
 use lib.IntN.{ℤ, pos, negsuc}
 use Rattle.octets.specs.Number.{width}
-use Rattle.octets.specs.Signed.{lowest, signedWidth, signedBits, intWidthBits}
+use Rattle.octets.specs.Signed.{lowest, signedWidth, signedBits}
+use Rattle.octets.specs.internal.Least.{intWidthBits}
 use Rattle.octets.specs.declared.Least.{Least}
 
 -- The sign bit and what the mask leaves fit.

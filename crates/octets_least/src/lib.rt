@@ -4,11 +4,11 @@ use octets::LeastControl;
 ghost use mathlib.Core.Path.{_≡_};
 ghost use Prim.Native.Nat.{_<_, _≤_, _^_};
 ghost use lib.IntN.{negsuc};
-ghost use Rattle.octets.specs.Number.{uintWidthBits, width as width-of};
-ghost use Rattle.octets.specs.Signed.{intWidthBits, lowest};
+ghost use Rattle.octets.specs.Number.{width as width-of};
+ghost use Rattle.octets.specs.internal.Least.{uintWidthBits, intWidthBits, controlWidths};
+ghost use Rattle.octets.specs.Signed.{lowest};
 ghost use Rattle.octets.specs.ControlPart.{tagCode, lengthCode};
-ghost use Rattle.octets.specs.Control.{controlWidths};
-ghost use Rattle.octets_least.specs.Lead.{LeastLead};
+ghost use Rattle.octets_least.specs.internal.Lead.{LeastLead};
 
 // How many octets a number needs.
 fn width(v: u64) -> u64

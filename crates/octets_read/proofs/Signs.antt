@@ -13,7 +13,8 @@ use mir.Val.{SFits, toZ, ofZ}
 use mir.ValLaws.{toZ-ofZ, toZ-pos}
 use borrow.Author.Tests.{le-leb, lt-leb}
 use Rattle.octets.specs.Number.{Octets, number}
-use Rattle.octets.specs.Signed.{lowest, withSign, integer, signed}
+use Rattle.octets.specs.Signed.{lowest, withSign, integer}
+use Rattle.octets.specs.internal.Bounded.{signed}
 use Rattle.octets.proofs.Number.{number-below, power-grows}
 use Rattle.octets.proofs.Integer.{lowest-half}
 

@@ -5,8 +5,9 @@ ghost use mathlib.Core.Path.{_≡_};
 ghost use Prim.Native.Nat.{_+_, _<_, _≤_, _^_};
 ghost use lib.ListN.{length, take};
 ghost use lib.IntN.{pos, negℤ};
-ghost use Rattle.octets.specs.Number.{number, unsigned};
-ghost use Rattle.octets.specs.Signed.{signed, lowest};
+ghost use Rattle.octets.specs.Number.{number};
+ghost use Rattle.octets.specs.internal.Bounded.{unsigned, signed};
+ghost use Rattle.octets.specs.Signed.{lowest};
 ghost use Rattle.octets.specs.ControlPart.{tagCode, lengthCode};
 ghost use Rattle.octets.specs.Control.{control as control-of, controlOf, following, coded};
 

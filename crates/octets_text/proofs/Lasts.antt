@@ -9,7 +9,7 @@ use lib.Dec.{leb, ltb}
 use lib.ListN.{length, getD, drop, drop-of-length-le}
 use borrow.Author.Tests.{ltb-true, ltb-false, leb-true, leb-false, lt-ltb, le-ltb, le-leb, lt-leb}
 use Rattle.octets.specs.Text.{followers, follower, textAfter, text}
-use Rattle.octets_text.specs.Last.{wants, toCome}
+use Rattle.octets_text.specs.internal.Last.{wants, toCome}
 use Rattle.octets_text.proofs.Groups.{Here, cut}
 
 -- Whether an octet wants more than none, one or two octets shows at its size.

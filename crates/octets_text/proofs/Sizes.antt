@@ -10,7 +10,7 @@ use lib.ListN.{length, getD, drop, length-drop, drop-of-length-le}
 use lib.Seq.{drop-drop}
 use borrow.Author.Tests.{lt-ltb, le-ltb}
 use Rattle.octets.specs.Text.{followers, follower, textAfter, text}
-use Rattle.octets_text.specs.Group.{follow, sizeWith, groupSize}
+use Rattle.octets_text.specs.internal.Group.{follow, sizeWith, groupSize}
 use Rattle.octets_text.proofs.Groups.{Here, cut}
 use Rattle.octets_text.proofs.Lasts.{no-lead, lead-of}
 

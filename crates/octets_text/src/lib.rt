@@ -6,8 +6,8 @@ ghost use Prim.Native.Nat.{ℕ, _<_, _≤_};
 ghost use lib.Dec.{ltb};
 ghost use lib.ListN.{length, drop};
 ghost use Rattle.octets.specs.Text.{text as text-of, textAfter};
-ghost use Rattle.octets_text.specs.Last.{toCome};
-ghost use Rattle.octets_text.specs.Group.{follow, groupSize};
+ghost use Rattle.octets_text.specs.internal.Last.{toCome};
+ghost use Rattle.octets_text.specs.internal.Group.{follow, groupSize};
 
 // A number of octets at the front that all stand alone, eight at once. In most texts every octet does, and one by one takes longer.
 fn plain_front(s: &[u8]) -> usize

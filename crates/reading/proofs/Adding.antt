@@ -5,7 +5,7 @@ use mathlib.Core.Path.{_≡_, refl, ap₂}
 use Rattle.reading.specs.declared.Walk.{Walk}
 use Rattle.reading.specs.declared.Walk.the-variants.{Accepted, Refused}
 use Rattle.reading.specs.Reading.{Reading, accepted, refused, onAccepted, inOrder}
-use Rattle.reading.specs.Checks.{walkOf}
+use Rattle.reading.specs.internal.Walks.{walkOf}
 
 -- A walk after fields of this count and depth.
 unfoldable pub after : ℕ → ℕ → Walk → Walk

@@ -1,7 +1,5 @@
 -- What a check answers, by what reading the message comes to.
 use Prim.Native.Nat.{ℕ}
-use Rattle.reading.specs.declared.Walk.{Walk}
-use Rattle.reading.specs.declared.Walk.the-variants.{Accepted, Refused}
 use Rattle.reading.specs.declared.Checked.{Checked}
 use Rattle.reading.specs.Reading.{Reading, accepted, refused}
 
@@ -13,12 +11,3 @@ refusal number place = record { refusal = number; place = place; fields = 0; dep
 unfoldable pub counts : {A : Type 0} → (A → ℕ) → (A → ℕ) → Reading A → Checked
 counts fields depth (accepted x) = record { refusal = 0; place = 0; fields = fields x; depth = depth x }
 counts fields depth (refused number place) = refusal number place
-
--- The same in two steps, as the readers have it: what the walk through the message comes to, and the answer by that.
-unfoldable pub walkOf : {A : Type 0} → (A → ℕ) → (A → ℕ) → Reading A → Walk
-walkOf fields depth (accepted x) = Accepted (fields x) (depth x)
-walkOf fields depth (refused number place) = Refused number place
-
-unfoldable pub answerBy : Walk → Checked
-answerBy (Accepted f d) = record { refusal = 0; place = 0; fields = f; depth = d }
-answerBy (Refused number place) = refusal number place

@@ -1,6 +1,5 @@
 -- What reading a message of any format comes to.
 use Prim.Native.Nat.{ℕ}
-use mathlib.Core.Path.{_≡_}
 
 -- The limits of a message (document 01, Limits): its octets, and its depth, the outermost message being at depth 1.
 abbrev pub messageLimit : ℕ
@@ -23,7 +22,3 @@ onAccepted f (refused number place) = refused number place
 unfoldable pub inOrder : {A B C : Type 0} → (A → B → C) → Reading A → Reading B → Reading C
 inOrder f (accepted x) later = onAccepted (f x) later
 inOrder f (refused number place) later = refused number place
-
--- A reading that accepts.
-unfoldable pub IsAccepted : {A : Type 0} → Reading A → Type 0
-IsAccepted {A} r = (x : A) × (r ≡ accepted x)

@@ -1,6 +1,7 @@
 // What the readers of every format share: what a walk through a message comes to, and the answer of a check.
 ghost use mathlib.Core.Path.{_≡_};
-ghost use Rattle.reading.specs.Checks.{refusal, answerBy};
+ghost use Rattle.reading.specs.Checks.{refusal};
+ghost use Rattle.reading.specs.internal.Walks.{answerBy};
 
 // What a walk through a message comes to: the count of its fields and its depth, or a refusal's number and place.
 pub enum Walk {

@@ -5,12 +5,14 @@ use mathlib.Core.Path.{_≡_, refl, sym, ap, _∙_}
 use mathlib.Core.List.{List}
 use mathlib.Core.Logic.{_↔_}
 use mathlib.Core.Option.{Option}
-use Rattle.reading.specs.Reading.{Reading, accepted, refused, IsAccepted}
-use Rattle.reading.specs.Checks.{refusal, counts, walkOf}
+use Rattle.reading.specs.Reading.{Reading, accepted, refused}
+use Rattle.reading.specs.internal.Walks.{IsAccepted, walkOf}
+use Rattle.reading.specs.Checks.{refusal, counts}
 use Rattle.reading.specs.declared.Walk.the-variants.{Accepted, Refused}
 use Rattle.tib_field.specs.Refused.{refusedField}
 use Rattle.tib_field.specs.declared.Field.{Field}
-use Rattle.tib_field.specs.Kth.{kthOf, answerFor, fieldOf}
+use Rattle.tib_field.specs.Kth.{answerFor, fieldOf}
+use Rattle.tib_field.specs.internal.KthOf.{kthOf}
 
 module _ {A : Type 0} (count depth : A → ℕ) where
   pub walk-accepted : (r : Reading A) (n d : ℕ) → walkOf count depth r ≡ Accepted n d → IsAccepted r

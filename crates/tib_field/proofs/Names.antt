@@ -8,7 +8,8 @@ use lib.Dec.{eqb, ltb}
 use lib.ListN.{length, getD, take, drop, length-append, take-append-drop}
 use lib.Seq.{take-at, length-take-le, getD-take}
 use borrow.Author.Tests.{eq-eqb, ne-eqb, eqb-true, eqb-false, lt-ltb, le-ltb, ltb-false}
-use Rattle.tib_field.specs.Name.{NoZero, Name, none, closed, closes, named, nameFront, faultOf, nameFault, ZeroIn}
+use Rattle.tib_field.specs.Name.{NoZero, Name, none, closed, closes, named, nameFront}
+use Rattle.tib_field.specs.internal.Zeros.{faultOf, nameFault, ZeroIn}
 use Rattle.tib_field.specs.declared.Front.{Front}
 use Rattle.tib_field.specs.declared.Front.the-variants.{End, Fault, Name as Sized}
 

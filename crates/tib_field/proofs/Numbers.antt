@@ -4,7 +4,8 @@ use native.Mathlib.Omega.{arith}
 use mathlib.Core.Path.{_≡_, sym, _∙_}
 use mathlib.Core.List.{List, [], _∷_}
 use lib.ListN.{length, getD}
-use Rattle.octets.specs.Number.{number, unsigned}
+use Rattle.octets.specs.Number.{number}
+use Rattle.octets.specs.internal.Bounded.{unsigned}
 use Rattle.octets.proofs.Number.{unsigned-is}
 
 pub one-octet : (s : List ℕ) (v : ℕ) → length s ≡ 1 → v ≡ getD s 0 0 → v ≡ unsigned s

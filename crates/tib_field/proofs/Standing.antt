@@ -1,15 +1,11 @@
 -- Parts of octets, by their place and their length, and those of a field.
-use Prim.Native.Nat.{ℕ, _+_, _≤_}
+use Prim.Native.Nat.{ℕ, _+_}
 use native.Mathlib.Omega.{arith}
 use mathlib.Core.Path.{_≡_, refl, sym, ap, _∙_}
 use mathlib.Core.List.{List, [], _∷_, _++_, append-assoc}
 use lib.ListN.{length, take, drop, length-append}
 use lib.Seq.{take-at, drop-at}
-
--- The n octets of s from a place on are these. None of them is beyond the end of s.
-pub record Stands (s part : List ℕ) (place n : ℕ) : Type 0 where
-  pub inside : place + n ≤ length s
-  pub same : take n (drop place s) ≡ part
+use Rattle.tib_field.specs.Stands.{Stands}
 
 -- What stands after some octets.
 pub stands-after : (s front part back : List ℕ) (place : ℕ) → s ≡ front ++ (part ++ back) → length front ≡ place

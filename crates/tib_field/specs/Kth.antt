@@ -8,11 +8,6 @@ use Rattle.reading.specs.Reading.{Reading, accepted, refused}
 use Rattle.tib_field.specs.Refused.{refusedField}
 use Rattle.tib_field.specs.declared.Field.{Field}
 
--- The k-th field of a reading; none where the reading refuses.
-unfoldable pub kthOf : {A B : Type 0} → (A → List (ℕ × B)) → ℕ → Reading A → Option (ℕ × B)
-kthOf fields k (accepted x) = getElem? (fields x) k
-kthOf fields k (refused number place) = none
-
 -- The answer for a field by its place and what is said of it; 18 where there is none.
 unfoldable pub answerFor : {B : Type 0} → (ℕ → B → Field) → Option (ℕ × B) → Field
 answerFor shown none = refusedField 18 0

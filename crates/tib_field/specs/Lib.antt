@@ -4,3 +4,5 @@ pub mod Refused
 pub mod Fields
 pub mod Kth
 pub mod WrongName
+pub mod internal
+pub mod Stands

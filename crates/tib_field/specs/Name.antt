@@ -1,9 +1,9 @@
 -- The name of a field: no octets, or octets of which the last is zero and all others are not.
-use Prim.Native.Nat.{ℕ, _+_, _≤_, _<_}
+use Prim.Native.Nat.{ℕ, _+_}
 use mathlib.Core.Path.{_≡_}
 use mathlib.Core.Bool.{Bool, true, false, cond}
 use mathlib.Core.List.{List, [], _∷_, _++_}
-use lib.ListN.{length, getD, take, drop}
+use lib.ListN.{length, take, drop}
 use lib.Dec.{eqb, ltb}
 use Rattle.tib_field.specs.declared.Front.{Front}
 use Rattle.tib_field.specs.declared.Front.the-variants.{End, Fault, Name as Sized}
@@ -33,28 +33,8 @@ unfoldable pub nameFront : List ℕ → Front
 nameFront [] = End
 nameFront (n ∷ s) = cond (ltb (length s) n) (Fault 3) (cond (named (take n s)) (Sized n) (Fault 15))
 
--- The number with which the name at the front is refused, 0 where it is not.
-unfoldable pub faultOf : Front → ℕ
-faultOf End = 0
-faultOf (Fault k) = k
-faultOf (Sized n) = 0
-
-unfoldable pub nameFault : List ℕ → ℕ
-nameFault s = faultOf (nameFront s)
-
 -- What stands at the front of octets, where `after` says what follows a name of this many octets.
 unfoldable pub afterName : {A : Type 0} → A → (ℕ → A) → (ℕ → List ℕ → A) → List ℕ → Front → A
 afterName done fault after s End = done
 afterName done fault after s (Fault k) = fault k
 afterName done fault after s (Sized n) = after n (drop (1 + n) s)
-
--- Whether a zero stands at a place from a on that is below both b and n: one does, or none.
-unfoldable pub ZeroIn : Bool → List ℕ → ℕ → ℕ → ℕ → Type 0
-ZeroIn true s a b n = (j : ℕ) × (a ≤ j) × (j < b) × (j < n) × (getD s j 0 ≡ 0)
-ZeroIn false s a b n = (j : ℕ) → a ≤ j → j < b → j < n → getD s j 0 ≡ 0 → ⊥
-
--- None stands from the place 1 to i, which is 17 or more and below n.
-pub record Far (s : List ℕ) (i n : ℕ) : Type 0 where
-  pub from : 17 ≤ i
-  pub inside : i < n
-  pub found : ZeroIn false s 1 i n

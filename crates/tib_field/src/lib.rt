@@ -6,8 +6,8 @@ ghost use mathlib.Core.Bool.{false, cond};
 ghost use Prim.Native.Nat.{_+_, _≤_, _<_};
 ghost use lib.Dec.{eqb, ltb};
 ghost use lib.ListN.{length};
-ghost use Rattle.octets.specs.Number.{unsigned};
-ghost use Rattle.tib_field.specs.Name.{ZeroIn, Far, nameFault};
+ghost use Rattle.octets.specs.internal.Bounded.{unsigned};
+ghost use Rattle.tib_field.specs.internal.Zeros.{ZeroIn, Far, nameFault};
 ghost use Rattle.tib_field.specs.Refused.{noReal, refusedField};
 ghost use Rattle.tib_field.specs.Mark.{begins as begins-with};
 

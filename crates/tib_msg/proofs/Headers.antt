@@ -7,11 +7,12 @@ use mathlib.Core.List.{List}
 use lib.ListN.{length, take, drop, length-drop}
 use lib.Seq.{length-take-le}
 use borrow.Author.Tests.{lt-ltb, le-ltb, eq-eqb, ne-eqb}
-use Rattle.octets.specs.Number.{number, unsigned}
+use Rattle.octets.specs.Number.{number}
+use Rattle.octets.specs.internal.Bounded.{unsigned}
 use Rattle.tib_field.specs.Mark.{begins}
 use Rattle.octets.proofs.Number.{unsigned-is}
 use Rattle.reading.specs.Reading.{messageLimit}
-use Rattle.reading.specs.Checks.{walkOf}
+use Rattle.reading.specs.internal.Walks.{walkOf}
 use Rattle.reading.specs.declared.Walk.the-variants.{Refused}
 use Rattle.tib_msg_field.specs.Layout.{magic}
 use Rattle.tib_msg_field.specs.Reading.{fieldsFrom, reading}

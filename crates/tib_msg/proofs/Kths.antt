@@ -6,8 +6,9 @@ use mathlib.Core.Bool.{Bool}
 use mathlib.Core.List.{List, [], _++_}
 use mathlib.Core.Option.{Option, none, some}
 use lib.ListN.{length, drop}
-use Rattle.reading.specs.Reading.{IsAccepted}
-use Rattle.tib_field.specs.Kth.{kthOf, answerFor}
+use Rattle.reading.specs.internal.Walks.{IsAccepted}
+use Rattle.tib_field.specs.Kth.{answerFor}
+use Rattle.tib_field.specs.internal.KthOf.{kthOf}
 use Rattle.tib_field.specs.Refused.{refusedField}
 use Rattle.tib_field.specs.declared.Field.{Field}
 use Rattle.tib_field.proofs.Kths.{Going as Passing, Look, ends, stands, look, kth-stands}
@@ -16,9 +17,10 @@ use Rattle.tib_msg_field.specs.declared.Sizes.{Sizes}
 use Rattle.tib_msg_field.specs.declared.Step.the-variants.{Done, Fault, Over}
 use Rattle.tib_msg.specs.declared.Kth.the-variants.{At, Absent}
 use Rattle.tib_msg_field.specs.Layout.{isWidth, Hint, none as no-hint, array, partial, value, Parts, octets, Allowed}
-use Rattle.tib_msg_field.specs.Reading.{nextField, sizes, total, partsAt, reading}
+use Rattle.tib_msg_field.specs.Reading.{nextField, total, partsAt, reading}
+use Rattle.tib_msg_field.specs.internal.Sizes.{sizes}
 use Rattle.tib_msg.specs.Answers.{shown, places, field}
-use Rattle.tib_msg.specs.Found.{foundAt}
+use Rattle.tib_msg.specs.internal.Found.{foundAt}
 use Rattle.tib_msg_field.proofs.Hints.{true-is, width-small}
 use Rattle.tib_msg_field.proofs.Steps.{step-of-field, step-of-end, parts-of-field, length-octets}
 use Rattle.tib_msg_field.proofs.Accepted.{accepted-tested}

@@ -6,44 +6,17 @@ use mathlib.Core.Bool.{Bool, true, false}
 use mathlib.Core.List.{List, [], _∷_, _++_, append-assoc}
 use lib.ListN.{length, getD, getElem?, length-append}
 use borrow.Author.Tests.{ne-eqb}
-use Rattle.octets.specs.Number.{number}
 use Rattle.tib_field.specs.Refused.{refusedField}
-use Rattle.tib_field.specs.declared.Field.{Field}
 use Rattle.tib_field.specs.Fields.{Each, joined, placed}
 use Rattle.tib_field.specs.Kth.{answerFor, fieldOf}
 use Rattle.tib_field.proofs.Fields.{each-one, joined-around, Picked, picked, none-left}
-use Rattle.tib_field.proofs.Standing.{Stands, name-stands, data-stands}
+use Rattle.tib_field.proofs.Standing.{name-stands, data-stands}
 use Rattle.tib_msg_field.specs.Layout.{kind, hinted, Hint, none, array, partial, value, Parts, octets, Allowed, magic, Whole}
 use Rattle.tib_msg_field.proofs.Steps.{flat}
 use Rattle.tib_msg_field.proofs.Accepted.{whole-accepted}
-use Rattle.tib_msg.specs.Answers.{hintNumber, realShown, shown, places, field}
+use Rattle.tib_msg.specs.Answers.{hintNumber, shown, places, field}
 use Rattle.tib_msg.proofs.Shows.{number-none, number-array, number-partial}
-
--- Whether a field has a hint, the hint's type and its number, by the hint's octets. The number of an array's hint and of a partial's is the
--- octet after the type; in any other hint a size stands there, and the number, big-endian, after it. Without a hint both are 0.
-pub data HintTold (kind : ℕ) : List ℕ → Bool → ℕ → ℕ → Type 0 where
-  absent : HintTold kind [] false 0 0
-  element : (t n : ℕ) → kind ≡ 8 → HintTold kind (t ∷ n ∷ []) true t n
-  offset : (n : ℕ) → kind ≡ 9 → HintTold kind (6 ∷ n ∷ []) true 6 n
-  amount : (t : ℕ) (s : List ℕ) → (kind ≡ 8 → ⊥) → (kind ≡ 9 → ⊥) → HintTold kind (t ∷ length s ∷ s) true t (number s)
-
--- An answer tells the k-th of these fields: the one with k fields before it. Its name, with the closing zero, and its data stand at the
--- places that the answer gives; the octet before the name is its size, and the type octet and the data's size are between name and data.
-pub record KthTold (s : List ℕ) (fs : List Parts) (k : ℕ) (r : Field) : Type 0 where
-  pub before : List Parts
-  pub field : Parts
-  pub after : List Parts
-  pub divides : fs ≡ before ++ (field ∷ after)
-  pub counted : length before ≡ k
-  pub accepted : r .refusal ≡ 0
-  pub nowhere : r .place ≡ 0
-  pub name : Stands s (field .name) (r .«name_place») (r .«name_length»)
-  pub typed : r .kind ≡ kind (field .octet)
-  pub contents : Stands s (field .contents) (r .«data_place») (r .«data_length»)
-  pub hint : HintTold (r .kind) (field .hint) (r .hinted) (r .«hint_kind») (r .hint)
-  pub real : r .real ≡ realShown (r .kind) (field .contents) (r .hint) (r .hinted)
-  pub named-at : r .«name_place» ≡ 9 + length (joined octets before) + 1
-  pub data-at : r .«data_place» ≡ r .«name_place» + r .«name_length» + 1 + length (field .size)
+use Rattle.tib_msg.specs.KthTold.{HintTold, KthTold}
 
 -- The hint that the layout allows is told by its octets.
 hint-told : (k size : ℕ) (t : Bool) (hint : List ℕ) → Hint k size t hint → HintTold k hint t (getD hint 0 0) (hintNumber k hint)

@@ -6,7 +6,7 @@ use mathlib.Core.List.{List, _∷_}
 use lib.ListN.{length, drop, length-append, length-drop}
 use lib.Seq.{drop-drop}
 use Rattle.reading.specs.Reading.{Reading, accepted, refused, onAccepted}
-use Rattle.reading.specs.Checks.{walkOf}
+use Rattle.reading.specs.internal.Walks.{walkOf}
 use Rattle.reading.specs.declared.Walk.{Walk}
 use Rattle.reading.specs.declared.Walk.the-variants.{Accepted, Refused}
 use Rattle.reading.proofs.Adding.{after, after-none}
@@ -14,7 +14,8 @@ use Rattle.tib_field.proofs.Turns.{Walking, walking-first, looks, stepped}
 use Rattle.tib_msg_field.specs.declared.Sizes.{Sizes}
 use Rattle.tib_msg_field.specs.declared.Step.the-variants.{Done, Fault, Over}
 use Rattle.tib_msg_field.specs.Layout.{Parts, octets}
-use Rattle.tib_msg_field.specs.Reading.{nextField, sizes, total, partsAt, afterStep, fieldsFrom}
+use Rattle.tib_msg_field.specs.Reading.{nextField, total, partsAt, afterStep, fieldsFrom}
+use Rattle.tib_msg_field.specs.internal.Sizes.{sizes}
 use Rattle.tib_msg_field.proofs.Steps.{step-found, length-octets}
 use Rattle.tib_msg.specs.Answers.{depth}
 

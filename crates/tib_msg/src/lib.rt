@@ -9,11 +9,10 @@ ghost use mathlib.Core.Path.{_≡_};
 ghost use Prim.Native.Nat.{suc, _+_, _≤_, _<_, _^_};
 ghost use lib.ListN.{length, getD, drop};
 ghost use Rattle.tib_msg_field.specs.Reading.{total, partsAt, fieldsFrom, reading};
-ghost use Rattle.reading.specs.Reading.{IsAccepted};
-ghost use Rattle.reading.specs.Checks.{walkOf};
-ghost use Rattle.tib_field.specs.Kth.{kthOf};
+ghost use Rattle.reading.specs.internal.Walks.{IsAccepted, walkOf};
+ghost use Rattle.tib_field.specs.internal.KthOf.{kthOf};
 ghost use Rattle.tib_msg.specs.Answers.{depth, check as check-of, hintNumber, realShown, shown as shown-of, places, field as field-of};
-ghost use Rattle.tib_msg.specs.Found.{foundAt};
+ghost use Rattle.tib_msg.specs.internal.Found.{foundAt};
 
 // A field of a message by its place, or that there is none.
 enum Kth {

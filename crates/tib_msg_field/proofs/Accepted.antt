@@ -21,7 +21,8 @@ use Rattle.tib_field.proofs.Fields.{Row}
 use Rattle.tib_field.proofs.Choices.{fails}
 use Rattle.tib_field.proofs.Refusals.{not-accepted}
 use Rattle.tib_msg_field.specs.Layout.{Parts, octets, Allowed, magic, Whole}
-use Rattle.tib_msg_field.specs.Reading.{nextField, sizes, total, partsAt, afterStep, fieldsFrom, reading}
+use Rattle.tib_msg_field.specs.Reading.{nextField, total, partsAt, afterStep, fieldsFrom, reading}
+use Rattle.tib_msg_field.specs.internal.Sizes.{sizes}
 use Rattle.tib_msg_field.proofs.Steps.{Found, step-found, step-of-field, step-of-end, step-done, parts-of-field, rest-of-field, length-octets}
 
 -- Octets that are allowed fields joined.

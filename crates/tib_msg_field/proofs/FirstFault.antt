@@ -19,7 +19,8 @@ use Rattle.tib_msg_field.specs.declared.Step.{Step}
 use Rattle.tib_msg_field.specs.declared.Step.the-variants.{Done, Fault, Over}
 use Rattle.tib_msg_field.specs.Layout.{Parts, octets, Allowed, magic, Whole}
 use Rattle.tib_msg_field.specs.FirstFault.{WrongField, FirstFault, tooLong, headerCut, otherMark, otherSize, field}
-use Rattle.tib_msg_field.specs.Reading.{nextField, sizes, total, partsAt, afterStep, fieldsFrom, reading}
+use Rattle.tib_msg_field.specs.Reading.{nextField, total, partsAt, afterStep, fieldsFrom, reading}
+use Rattle.tib_msg_field.specs.internal.Sizes.{sizes}
 use Rattle.tib_msg_field.proofs.Steps.{Found, step-found, step-of-field, parts-of-field, rest-of-field, length-octets}
 use Rattle.tib_msg_field.proofs.Accepted.{field-size, accepted-whole, whole-accepted}
 use Rattle.tib_msg_field.proofs.WrongFields.{field-told, wrong-field}

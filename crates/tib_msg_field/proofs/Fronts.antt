@@ -9,7 +9,8 @@ use lib.Seq.{length-take-le}
 use lib.Dec.{eqb}
 use borrow.Author.Tests.{lt-ltb, le-ltb}
 use Rattle.tib_msg_field.specs.declared.HintPart.the-variants.{Fault as HintFault}
-use Rattle.octets.specs.Number.{number, unsigned}
+use Rattle.octets.specs.Number.{number}
+use Rattle.octets.specs.internal.Bounded.{unsigned}
 use Rattle.tib_field.proofs.Slices.{tail-part, front-part}
 use Rattle.octets.proofs.Number.{unsigned-is}
 use Rattle.tib_msg_field.specs.declared.Step.the-variants.{Fault}

@@ -18,7 +18,8 @@ use Rattle.tib_msg_field.specs.declared.Step.the-variants.{Done, Fault, 
 use Rattle.tib_msg_field.specs.declared.HintPart.{HintPart}
 use Rattle.tib_msg_field.specs.declared.HintPart.the-variants.{Fault as HintFault, Size}
 use Rattle.tib_msg_field.specs.Layout.{kind, sizeWidth, sizeAllowed, Parts, octets, Allowed}
-use Rattle.tib_msg_field.specs.Reading.{typeAllowed, hintAt, withHint, fromData, fromSize, fromType, nextField, sizes, total, partsAt}
+use Rattle.tib_msg_field.specs.Reading.{typeAllowed, hintAt, withHint, fromData, fromSize, fromType, nextField, total, partsAt}
+use Rattle.tib_msg_field.specs.internal.Sizes.{sizes}
 use Rattle.tib_msg_field.proofs.Hints.{is-true, true-is, good-type, hint-found, hint-of, type-of}
 
 -- A field and the octets after it, part by part.

@@ -67,17 +67,6 @@ fromType n (c ∷ s) = cond (typeAllowed c) (fromSize n c (sizeWidth c) s) (Faul
 unfoldable pub nextField : List ℕ → Step
 nextField s = afterName Done Fault fromType s (nameFront s)
 
--- The sizes of a field's parts.
-unfoldable pub sizes : Parts → Sizes
-sizes f =
-    record {
-      name = length (f .name);
-      octet = f .octet;
-      width = length (f .size);
-      contents = length (f .contents);
-      hint = length (f .hint);
-    }
-
 -- How many octets a field takes: two more than these parts, for the name's size and the type.
 unfoldable pub total : Sizes → ℕ
 total z = 2 + z .name + z .width + z .contents + z .hint

@@ -1,6 +1,6 @@
 -- Reading in fractions answers the whole number n exactly when the hint h is from 1 to 8, x times 2 ^ h is n in size, and n is below
 -- 2 ^ 53. The size of x is `units` over 2 ^ 1074, so the product is stated by multiplying out.
-use Prim.Native.Nat.{ℕ, _*_, _/_, _%_, _^_, _≤_, _<_}
+use Prim.Native.Nat.{ℕ, _*_, _/_, _%_, _^_, _<_}
 use native.Mathlib.Nat.{mul-div-cancel, mul-mod-left, div-add-mod', add-zero}
 use mathlib.Core.Path.{_≡_, refl, sym, _∙_, subst}
 use mathlib.Core.Bool.{Bool, true, false, _&&_}
@@ -13,15 +13,7 @@ use Rattle.tib_real.specs.declared.types.Real.{Real}
 use Rattle.tib_real.specs.Parts.{eight, negative, finite, units}
 use Rattle.tib_real.specs.InFractions.{scaled, countable, signed, refused, accepted, inFractions, fractionsOf}
 use Rattle.tib_real.proofs.Hints.{good-hint}
-
--- What the rule asks of a real and of the size n of its answer.
-pub record Reads (r : Real) (n : ℕ) : Type 0 where
-  pub hinted : r .hinted ≡ true
-  pub least : 1 ≤ r .hint
-  pub most : r .hint ≤ 8
-  pub number : finite eight (r .bits) ≡ true
-  pub product : units eight (r .bits) * 2 ^ r .hint ≡ n * 2 ^ 1074
-  pub small : n < 2 ^ 53
+use Rattle.tib_real.specs.Reads.{Reads}
 
 -- Where there is such a whole number, it is the answer, with the sign of x.
 whole-in-fractions : (b h n : ℕ) → finite eight b ≡ true → units eight b * 2 ^ h ≡ n * 2 ^ 1074 → n < 2 ^ 53

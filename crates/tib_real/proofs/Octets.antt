@@ -6,7 +6,8 @@ use mathlib.Core.Bool.{Bool, false}
 use mathlib.Core.List.{List}
 use lib.ListN.{length}
 use borrow.Author.Tests.{ne-eqb}
-use Rattle.octets.specs.Number.{Octets, number, unsigned}
+use Rattle.octets.specs.Number.{Octets, number}
+use Rattle.octets.specs.internal.Bounded.{unsigned}
 use Rattle.octets.proofs.Number.{number-below, unsigned-is}
 use Rattle.tib_real.specs.Widened.{widened}
 use Rattle.tib_real.specs.FromOctets.{made, realOf}

@@ -7,12 +7,13 @@ use mathlib.Core.List.{List}
 use lib.ListN.{length, take, drop}
 use lib.Seq.{length-take-le}
 use borrow.Author.Tests.{lt-ltb, le-ltb, eq-eqb, ne-eqb}
-use Rattle.octets.specs.Number.{number, unsigned}
+use Rattle.octets.specs.Number.{number}
+use Rattle.octets.specs.internal.Bounded.{unsigned}
 use Rattle.tib_field.specs.Mark.{begins}
 use Rattle.tib_field.proofs.Slices.{tail-part}
 use Rattle.octets.proofs.Number.{unsigned-is}
 use Rattle.reading.specs.Reading.{messageLimit}
-use Rattle.reading.specs.Checks.{walkOf}
+use Rattle.reading.specs.internal.Walks.{walkOf}
 use Rattle.reading.specs.declared.Walk.the-variants.{Refused}
 use Rattle.tib_rv_field.specs.Layout.{magic, depth}
 use Rattle.tib_rv_field.specs.Reading.{headerFault, messageFrom, reading}

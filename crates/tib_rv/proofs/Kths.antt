@@ -6,10 +6,11 @@ use mathlib.Core.List.{List, [], _++_}
 use mathlib.Core.Option.{Option, none, some}
 use lib.ListN.{length, drop}
 use Rattle.tib_field.specs.declared.Field.{Field as Shown}
-use Rattle.reading.specs.Reading.{IsAccepted}
+use Rattle.reading.specs.internal.Walks.{IsAccepted}
 use Rattle.tib_field.specs.Name.{Name}
 use Rattle.tib_field.specs.Fields.{Each, joined as joinedParts}
-use Rattle.tib_field.specs.Kth.{kthOf, answerFor}
+use Rattle.tib_field.specs.Kth.{answerFor}
+use Rattle.tib_field.specs.internal.KthOf.{kthOf}
 use Rattle.tib_field.specs.Refused.{refusedField}
 use Rattle.tib_field.proofs.Kths.{Going as Passing, Look, ends, stands, look, kth-stands}
 use Rattle.tib_field.proofs.Answers.{field-of-kth}
@@ -18,9 +19,10 @@ use Rattle.tib_rv.specs.declared.Outer.{Outer}
 use Rattle.tib_rv.specs.declared.Outer.the-variants.{Nothing, Field}
 use Rattle.tib_rv.specs.declared.Kth.the-variants.{At, Absent}
 use Rattle.tib_rv_field.specs.Layout.{Parts, octets, Leaf, holder, Fields, end, leaf, nested, joined, message, Allowed}
-use Rattle.tib_rv_field.specs.Reading.{nextField, sizes, lead, total, reading}
+use Rattle.tib_rv_field.specs.Reading.{nextField, lead, total, reading}
+use Rattle.tib_rv_field.specs.internal.Sizes.{sizes}
 use Rattle.tib_rv.specs.Answers.{outermost, shown, places, field}
-use Rattle.tib_rv.specs.Found.{outerOf, foundAt, shownSizes}
+use Rattle.tib_rv.specs.internal.Found.{outerOf, foundAt, shownSizes}
 use Rattle.tib_rv_field.proofs.Steps.{Counted, step-of-leaf, step-of-held, step-of-end, length-octets}
 use Rattle.tib_rv_field.proofs.Accepted.{message-counted, message-parts, accepted-message, field-size}
 

@@ -3,41 +3,20 @@
 use Prim.Native.Nat.{ℕ, suc, _+_, _≤_, _<_}
 use native.Mathlib.Omega.{arith}
 use mathlib.Core.Path.{_≡_, refl, sym, ap, _∙_, subst}
-use mathlib.Core.Bool.{false}
-use mathlib.Core.List.{List, _∷_, _++_, append-assoc}
+use mathlib.Core.List.{List, _++_, append-assoc}
 use lib.ListN.{length, getElem?, length-append}
-use Rattle.tib_field.specs.Refused.{refusedField, noReal}
-use Rattle.tib_field.specs.declared.Field.{Field}
+use Rattle.tib_field.specs.Refused.{refusedField}
 use Rattle.reading.specs.Reading.{messageLimit}
 use Rattle.tib_field.specs.Fields.{Each, joined as joinedParts, placed}
 use Rattle.tib_field.specs.Kth.{answerFor, fieldOf}
 use Rattle.tib_field.proofs.Fields.{each-one, joined-around, Picked, picked, none-left}
-use Rattle.tib_field.proofs.Standing.{Stands, name-stands, data-stands}
+use Rattle.tib_field.proofs.Standing.{name-stands, data-stands}
 use Rattle.tib_rv_field.specs.Layout.{Parts, octets, magic, Fields, end, leaf, nested, joined, message, depth, Header, Allowed, Whole}
 use Rattle.tib_rv_field.proofs.Steps.{flat}
 use Rattle.tib_rv_field.proofs.Accepted.{whole-accepted}
 use Rattle.tib_rv.specs.Answers.{outermost, shown, places, field}
 use Rattle.tib_rv.proofs.Kths.{outermost-joined}
-
--- An answer tells the k-th outermost field of a division: the one with k outermost fields before it. Its name, with the closing zero, and
--- its data stand at the places that the answer gives; the octet before the name is its size, and the type octet and the data's size are
--- between name and data. The data of type 1 are a whole message, from its size octets on.
-pub record KthTold (s : List ℕ) (fields : Fields) (k : ℕ) (r : Field) : Type 0 where
-  pub before : List Parts
-  pub field : Parts
-  pub after : List Parts
-  pub divides : outermost fields ≡ before ++ (field ∷ after)
-  pub counted : length before ≡ k
-  pub accepted : r .refusal ≡ 0
-  pub nowhere : r .place ≡ 0
-  pub name : Stands s (field .name) (r .«name_place») (r .«name_length»)
-  pub typed : r .kind ≡ field .octet
-  pub contents : Stands s (field .contents) (r .«data_place») (r .«data_length»)
-  pub message : r .kind ≡ 1 → (inside : Fields) × Whole (field .contents) inside
-  pub no-hint : (r .hinted ≡ false) × (r .«hint_kind» ≡ 0) × (r .hint ≡ 0)
-  pub real : r .real ≡ noReal
-  pub named-at : r .«name_place» ≡ 8 + length (joinedParts octets before) + 1
-  pub data-at : r .«data_place» ≡ r .«name_place» + r .«name_length» + 1 + length (field .size)
+use Rattle.tib_rv.specs.KthTold.{KthTold}
 
 -- The message that a field holds in one that is `deep` messages deep.
 record Holds (f : Parts) (deep : ℕ) : Type 0 where

@@ -9,13 +9,14 @@ use borrow.Author.Tests.{ne-eqb}
 use Rattle.tib_rv_field.specs.declared.Sizes.{Sizes}
 use Rattle.tib_rv_field.specs.declared.Step.the-variants.{Done, Fault, Over, Into}
 use Rattle.reading.specs.Reading.{Reading, accepted, refused}
-use Rattle.reading.specs.Checks.{walkOf}
+use Rattle.reading.specs.internal.Walks.{walkOf}
 use Rattle.reading.specs.declared.Walk.{Walk}
 use Rattle.reading.specs.declared.Walk.the-variants.{Accepted, Refused}
 use Rattle.reading.proofs.Adding.{after, after-none}
 use Rattle.tib_field.proofs.Turns.{Walking, walking-first, looks, stepped}
 use Rattle.tib_rv_field.specs.Layout.{Parts, octets, holder, magic, Fields, end, leaf, nested, joined, message, depth}
-use Rattle.tib_rv_field.specs.Reading.{nextField, sizes, lead, total, partsAt, Inner, afterStep, fieldsFrom, headerFault, messageFrom}
+use Rattle.tib_rv_field.specs.Reading.{nextField, lead, total, partsAt, Inner, afterStep, fieldsFrom, headerFault, messageFrom}
+use Rattle.tib_rv_field.specs.internal.Sizes.{sizes}
 use Rattle.tib_rv.specs.Answers.{count}
 use Rattle.tib_rv_field.proofs.Steps.{step-found, step-held, length-octets}
 use Rattle.tib_rv_field.proofs.Accepted.{accepted-good, field-size, depth-positive}

@@ -9,11 +9,11 @@ ghost use Prim.Native.Nat.{_+_, _≤_, _<_, _^_};
 ghost use lib.ListN.{length};
 ghost use Rattle.tib_rv_field.specs.Reading.{nextField, lead as lead-of, total, headerFault, messageFrom, reading};
 ghost use Rattle.tib_rv_field.specs.Layout.{depth};
-ghost use Rattle.reading.specs.Reading.{messageLimit, IsAccepted};
-ghost use Rattle.reading.specs.Checks.{walkOf};
-ghost use Rattle.tib_field.specs.Kth.{kthOf};
+ghost use Rattle.reading.specs.Reading.{messageLimit};
+ghost use Rattle.reading.specs.internal.Walks.{IsAccepted, walkOf};
+ghost use Rattle.tib_field.specs.internal.KthOf.{kthOf};
 ghost use Rattle.tib_rv.specs.Answers.{count, check as check-of, places, field as field-of};
-ghost use Rattle.tib_rv.specs.Found.{outerOf, foundAt, shownSizes};
+ghost use Rattle.tib_rv.specs.internal.Found.{outerOf, foundAt, shownSizes};
 
 // A field of either kind, or that there is none.
 enum Outer {

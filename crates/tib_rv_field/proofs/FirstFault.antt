@@ -20,7 +20,8 @@ use Rattle.tib_rv_field.specs.declared.Step.the-variants.{Done, Fault, O
 use Rattle.tib_rv_field.specs.Layout.{Parts, octets, holder, magic, Fields, leaf, message, depth, Header, Whole}
 use Rattle.tib_rv_field.specs.FirstFault.{WrongHeader, Opens, Holds, FaultIn, here, over, past, tooDeep, header, inside, FirstFault}
 use Rattle.tib_rv_field.specs.FirstFault as faults
-use Rattle.tib_rv_field.specs.Reading.{nextField, sizes, lead, total, partsAt, Inner, nestedOf, afterStep, fieldsFrom, headerFault, messageFrom, reading}
+use Rattle.tib_rv_field.specs.Reading.{nextField, lead, total, partsAt, Inner, nestedOf, afterStep, fieldsFrom, headerFault, messageFrom, reading}
+use Rattle.tib_rv_field.specs.internal.Sizes.{sizes}
 use Rattle.tib_rv_field.proofs.Steps.{Found, Held, Counted, step-found, step-held, step-of-leaf, step-of-held, parts-of-field, rest-of-field, length-octets}
 use Rattle.tib_rv_field.proofs.Accepted.{GoodMessage, GoodHeader, leaf-parts, held-parts, header-good, good-header, field-size, message-counted, accepted-good, good-accepted, accepted-whole, whole-accepted}
 use Rattle.tib_rv_field.proofs.WrongFields.{field-told, wrong-field, header-told, wrong-header}

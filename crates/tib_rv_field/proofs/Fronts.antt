@@ -8,7 +8,8 @@ use lib.ListN.{length, getD, take, drop, length-drop}
 use lib.Seq.{length-take-le}
 use lib.Dec.{ltb}
 use borrow.Author.Tests.{lt-ltb, le-ltb, ne-eqb}
-use Rattle.octets.specs.Number.{number, unsigned}
+use Rattle.octets.specs.Number.{number}
+use Rattle.octets.specs.internal.Bounded.{unsigned}
 use Rattle.tib_field.proofs.Slices.{tail-part, front-part}
 use Rattle.octets.proofs.Number.{unsigned-is}
 use Rattle.tib_rv_field.specs.declared.Step.{Step}

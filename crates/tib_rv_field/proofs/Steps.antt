@@ -16,7 +16,8 @@ use Rattle.tib_rv_field.specs.declared.Sizes.{Sizes}
 use Rattle.tib_rv_field.specs.declared.Step.{Step}
 use Rattle.tib_rv_field.specs.declared.Step.the-variants.{Done, Fault, Over, Into}
 use Rattle.tib_rv_field.specs.Layout.{Parts, octets, Leaf, holder}
-use Rattle.tib_rv_field.specs.Reading.{following, own, counted, countAllowed, found, fromCount, fromSize, fromType, nextField, sizes, lead, total, partsAt}
+use Rattle.tib_rv_field.specs.Reading.{following, own, counted, countAllowed, found, fromCount, fromSize, fromType, nextField, lead, total, partsAt}
+use Rattle.tib_rv_field.specs.internal.Sizes.{sizes}
 use Rattle.tib_rv_field.proofs.Counts.{size-found, announced, good-count, plain-count}
 
 -- A field and the octets after it, part by part.

@@ -58,10 +58,6 @@ fromType n (c ∷ s) = fromSize n c s
 unfoldable pub nextField : List ℕ → Step
 nextField s = afterName Done Fault fromType s (nameFront s)
 
--- The sizes of a field's parts.
-unfoldable pub sizes : Parts → Sizes
-sizes f = record { name = length (f .name); octet = f .octet; width = length (f .size); contents = length (f .contents) }
-
 -- How many octets a field has before its data: two more than these parts, for the name's size and the type.
 unfoldable pub lead : Sizes → ℕ
 lead z = 2 + z .name + z .width

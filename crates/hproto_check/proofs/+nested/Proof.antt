@@ -7,10 +7,10 @@ use lib.ListN.{length, take, drop, length-take, length-drop}
 use lib.Seq.{take-all}
 use denote.Ref.{now}
 use Rattle.hproto_table.specs.Schema.{Schema}
-use Rattle.hproto_index.specs.Slots.{indexed}
+use Rattle.hproto_index.specs.internal.Slots.{indexed}
 use Rattle.hproto_message.specs.Reading.{messageFrom, fieldsFrom, step}
-use Rattle.reading.specs.Checks.{walkOf}
-use Rattle.hproto_check.specs.Walks as walks
+use Rattle.reading.specs.internal.Walks.{walkOf}
+use Rattle.hproto_check.specs.internal.Walks as walks
 use Rattle.hproto_check.proofs.Turns.{State, start, at-end, at-fault, over-leaf, leaf-ends, nested-ends, nested-turn, nested-refusal, nested-small, room-open}
 use borrow.Fn.Kinds.{In}
 use borrow.Fn.PlainCycle.{Measures, is, falls, and}

@@ -2,7 +2,7 @@
 use mathlib.Core.Path.{sym, _∙_}
 use borrow.Author.Tests.{not-true, not-false}
 use Rattle.hproto_index.proofs.Loaded.{table-schema}
-use Rattle.hproto_index.specs.Slots.{indexed}
+use Rattle.hproto_index.specs.internal.Slots.{indexed}
 use Rattle.hproto_check.proofs.Counts.{too-long, bad-table, under-valid}
 use borrow.Author.Needs.{needs}
 use Rattle.hproto_check.proofs.check.Statement.{statement}

@@ -2,7 +2,7 @@
 use borrow.Author.Needs.{needs}
 use mathlib.Core.Path.{_∙_}
 use denote.Ref.{now}
-use Rattle.hproto_index.specs.Slots.{indexed}
+use Rattle.hproto_index.specs.internal.Slots.{indexed}
 use Rattle.hproto_check.proofs.Counts.{too-long-under, bad-number, by-walk}
 use Rattle.hproto_check.proofs.check_under.Statement.{statement}
 use Rattle.hproto_check.proofs.check_under.Tie as tie

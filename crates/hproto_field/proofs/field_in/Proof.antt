@@ -1,6 +1,6 @@
 -- `field_in` looks the tag up under the index.
 use mathlib.Core.Path.{sym, _∙_}
-use Rattle.hproto_index.specs.Slots.{indexed}
+use Rattle.hproto_index.specs.internal.Slots.{indexed}
 use Rattle.hproto_field.proofs.Fields.{front-none, front-found}
 use borrow.Author.Needs.{needs}
 use Rattle.hproto_field.proofs.field_in.Statement.{statement}

@@ -1,6 +1,6 @@
 -- `held` answers for each kind.
 use borrow.Author.Needs.{needs}
-use Rattle.hproto_field.specs.Held.{heldIn}
+use Rattle.hproto_field.specs.internal.Held.{heldIn}
 use Rattle.hproto_field.proofs.held.Statement.{statement}
 use Rattle.hproto_field.proofs.held.Tie as tie
 

@@ -1,5 +1,5 @@
 use mathlib.Core.Path.{refl}
-use Rattle.hproto_field.specs.Fronts.{nothing as nothing-of}
+use Rattle.hproto_field.specs.internal.Fronts.{nothing as nothing-of}
 use Rattle.hproto_field.proofs.nothing.Statement.{statement}
 use Rattle.hproto_field.proofs.nothing.Tie as tie
 

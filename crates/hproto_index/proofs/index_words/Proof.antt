@@ -3,7 +3,7 @@ use Prim.Native.Nat.{_-_, _≤_}
 use native.Mathlib.Omega.{arith}
 use mathlib.Core.Path.{_≡_}
 use lib.ListN.{length, getD}
-use Rattle.hproto_index.specs.Slots.{notedBefore}
+use Rattle.hproto_index.specs.internal.Slots.{notedBefore}
 use Rattle.hproto_index.proofs.Noting.{words-none, words-more}
 use Rattle.hproto_index.proofs.index_words.Statement.{statement}
 use Rattle.hproto_index.proofs.index_words.Tie as tie

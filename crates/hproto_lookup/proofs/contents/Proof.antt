@@ -1,6 +1,6 @@
 use mir.Syntax.{w64}
 use mir.ValLaws.{toZ-ofZ}
-use Rattle.hproto_lookup.specs.Spots.{read}
+use Rattle.hproto_lookup.specs.internal.Spots.{read}
 use borrow.Author.Needs.{needs}
 use Rattle.hproto_lookup.proofs.contents.Statement.{statement}
 use Rattle.hproto_lookup.proofs.contents.Tie as tie

@@ -1,5 +1,5 @@
 use borrow.Author.Needs.{needs}
-use Rattle.hproto_lookup.specs.Spots.{chosenSpot}
+use Rattle.hproto_lookup.specs.internal.Spots.{chosenSpot}
 use Rattle.hproto_lookup.proofs.pick.Statement.{statement}
 use Rattle.hproto_lookup.proofs.pick.Tie as tie
 

@@ -3,7 +3,7 @@ use mathlib.Core.Path.{_∙_}
 use mir.Syntax.{w64}
 use mir.ValLaws.{toZ-ofZ}
 use borrow.Author.Tests.{eq-eqb, ne-eqb}
-use Rattle.hproto_lookup.specs.Spots.{intIn}
+use Rattle.hproto_lookup.specs.internal.Spots.{intIn}
 use borrow.Author.Needs.{needs}
 use Rattle.hproto_lookup.proofs.signed.Statement.{statement}
 use Rattle.hproto_lookup.proofs.signed.Tie as tie

@@ -1,6 +1,6 @@
 -- `unsigned` reads a number only where the kind is uint.
 use borrow.Author.Tests.{eq-eqb, ne-eqb}
-use Rattle.hproto_lookup.specs.Spots.{uintIn}
+use Rattle.hproto_lookup.specs.internal.Spots.{uintIn}
 use borrow.Author.Needs.{needs}
 use Rattle.hproto_lookup.proofs.unsigned.Statement.{statement}
 use Rattle.hproto_lookup.proofs.unsigned.Tie as tie

@@ -9,7 +9,7 @@ use Rattle.hproto_table.specs.Schema.{Schema, schemaOf}
 use Rattle.hproto_print.specs.Ascii.{ascii}
 use Rattle.hproto_print.specs.Digits.{decimal}
 use Rattle.hproto_print.specs.Text.{page}
-use Rattle.hproto_print.specs.Walk.{linesOf}
+use Rattle.hproto_print.specs.internal.Walk.{linesOf}
 use Rattle.hproto_print.proofs.Windows.{then, fits-after}
 use Rattle.hproto_print.proofs.Lengths.{page-fits}
 use Rattle.hproto_print.proofs.page.Statement.{statement}

@@ -1,7 +1,7 @@
 -- `put_int` meets its contract: a put of the least octets of a signed number.
 use mir.ValLaws.{toZ-ofZ}
 use mir.Syntax.{w64}
-use Rattle.octets.specs.Signed.{intWidthBits}
+use Rattle.octets.specs.internal.Least.{intWidthBits}
 use native.Mathlib.Omega.{arith}
 use mathlib.Core.Path.{_≡_, refl, ap, _∙_}
 use Rattle.octets.proofs.Integer.{int-octets}

@@ -4,7 +4,7 @@ use native.Mathlib.Omega.{arith}
 use mathlib.Core.Path.{_≡_, refl, sym, _∙_}
 use lib.ListN.{take, drop}
 use Rattle.hproto_table.specs.Load.{pair}
-use Rattle.hproto_table.specs.Repeat.{rising}
+use Rattle.hproto_table.specs.internal.FirstRepeat.{rising}
 use Rattle.hproto_table.proofs.Repeat.{rise-ends, rise-breaks, rise-moves}
 use Rattle.hproto_repeat.proofs.rises.Statement.{statement}
 use Rattle.hproto_repeat.proofs.rises.Tie as tie

@@ -7,7 +7,7 @@ use mathlib.Core.Path.{_≡_, sym, _∙_}
 use mathlib.Core.Bool.{false}
 use lib.ListN.{take}
 use Rattle.hproto_table.specs.Load.{pair, seen}
-use Rattle.hproto_table.specs.Repeat.{firstRepeat}
+use Rattle.hproto_table.specs.internal.FirstRepeat.{firstRepeat}
 use Rattle.hproto_table.proofs.Repeat.{searched, search-starts, search-ends, search-hits, search-moves, seen-more}
 use Rattle.hproto_repeat.proofs.Skipping.{seen-none}
 use Rattle.hproto_repeat.proofs.search.Statement.{statement}

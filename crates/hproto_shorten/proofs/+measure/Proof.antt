@@ -5,14 +5,14 @@ use mathlib.Core.Path.{_≡_, sym, ap, _∙_, subst}
 use denote.Ref.{now}
 use lib.ListN.{length, take, drop, length-drop, length-take}
 use lib.Seq.{take-all}
-use Rattle.hproto_message.specs.Reading.{Accepts}
+use Rattle.hproto_message.specs.internal.Accepts.{Accepts}
 use Rattle.hproto_message.proofs.Accepted.{accepts-levels}
 use Rattle.hproto_field.proofs.HeldKinds.{message-of, plain-of}
 use Rattle.octets.specs.Number.{Octets}
 use Rattle.hproto_table.specs.Schema.{Schema}
-use Rattle.hproto_index.specs.Slots.{indexed}
-use Rattle.hproto_field.specs.Fronts.{front}
-use Rattle.hproto_shorten.specs.Written.{short}
+use Rattle.hproto_index.specs.internal.Slots.{indexed}
+use Rattle.hproto_field.specs.internal.Fronts.{front}
+use Rattle.hproto_shorten.specs.internal.Stores.{short}
 use Rattle.octets.proofs.Number.{octets-part}
 use Rattle.hproto_shorten.proofs.Passing.{leaf-contents}
 use Rattle.hproto_shorten.proofs.Measuring.{Counted, counted-none, counted-all, counted-few, short-few, next-onward, leaf-counted, nested-accepts, nested-counted}

@@ -4,8 +4,8 @@ use mathlib.Core.Path.{sym}
 use denote.Ref.{now}
 use lib.ListN.{length}
 use borrow.Author.Tests.{le-leb}
-use Rattle.hproto_index.specs.Slots.{indexed}
-use Rattle.hproto_shorten.specs.Written.{short}
+use Rattle.hproto_index.specs.internal.Slots.{indexed}
+use Rattle.hproto_shorten.specs.internal.Stores.{short}
 use Rattle.hproto_shorten.proofs.Measuring.{short-few}
 use Rattle.hproto_shorten.proofs.has_room.Statement.{statement}
 use Rattle.hproto_shorten.proofs.has_room.Tie as tie

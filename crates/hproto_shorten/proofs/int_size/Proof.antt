@@ -5,7 +5,7 @@ use denote.Ref.{now}
 use lib.ListN.{length}
 use mir.Syntax.{w64}
 use mir.ValLaws.{toZ-ofZ}
-use Rattle.octets.specs.Signed.{intWidthBits}
+use Rattle.octets.specs.internal.Least.{intWidthBits}
 use Rattle.octets.proofs.Number.{length-octetsOf}
 use Rattle.hproto_shorten.proofs.Puts.{int-held}
 use borrow.Author.Needs.{needs}

@@ -6,7 +6,7 @@ use denote.Ref.{now}
 use lib.Bits.{bitAnd, mask-lt}
 use lib.ListN.{getD, length}
 use borrow.Author.Tests.{ltb-true}
-use Rattle.hproto_index.specs.Slots.{indexed}
+use Rattle.hproto_index.specs.internal.Slots.{indexed}
 use Rattle.hproto_shorten.proofs.Directs.{direct-front}
 use Rattle.hproto_shorten.proofs.next_field.Statement.{statement}
 use Rattle.hproto_shorten.proofs.next_field.Tie as tie

@@ -4,7 +4,7 @@ use mathlib.Core.Path.{ap, _∙_}
 use denote.Ref.{now}
 use mir.Syntax.{w64}
 use mir.ValLaws.{toZ-ofZ}
-use Rattle.octets.specs.Signed.{intWidthBits}
+use Rattle.octets.specs.internal.Least.{intWidthBits}
 use Rattle.hproto_shorten.proofs.Puts.{int-held}
 use borrow.Author.Needs.{needs}
 use Rattle.hproto_shorten.proofs.put_int.Statement.{statement}

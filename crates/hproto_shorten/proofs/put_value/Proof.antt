@@ -7,7 +7,7 @@ use Rattle.hproto_table.specs.declared.Meaning.{Meaning}
 use Rattle.hproto_message.specs.Cut.{Contents}
 use Rattle.hproto_message.specs.Tree.{value}
 use Rattle.hproto_message.specs.Shortest.{field, leastContents}
-use Rattle.hproto_shorten.specs.Written.{Put}
+use Rattle.hproto_shorten.specs.internal.Stores.{Put}
 use Rattle.hproto_shorten.proofs.put_value.Statement.{statement}
 use Rattle.hproto_shorten.proofs.put_value.Tie as tie
 

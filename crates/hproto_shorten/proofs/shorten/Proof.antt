@@ -3,7 +3,7 @@ use native.Mathlib.Omega.{arith}
 use mathlib.Core.Path.{sym, _∙_}
 use denote.Ref.{now}
 use borrow.Author.Tests.{not-true, not-false}
-use Rattle.hproto_index.specs.Slots.{indexed}
+use Rattle.hproto_index.specs.internal.Slots.{indexed}
 use Rattle.hproto_index.proofs.Loaded.{table-schema}
 use Rattle.reading.specs.Checks as answers
 use Rattle.hproto_check.specs.Check.{check}

@@ -4,11 +4,12 @@ use mathlib.Core.Path.{sym, ap, _∙_}
 use denote.Ref.{now}
 use lib.ListN.{length}
 use borrow.Author.Tests.{leb-true, leb-false, not-true, not-false}
-use Rattle.hproto_index.specs.Slots.{indexed}
+use Rattle.hproto_index.specs.internal.Slots.{indexed}
 use Rattle.hproto_check.specs.Check.{checkUnder}
 use Rattle.reading.specs.declared.Checked.{Checked}
-use Rattle.hproto_shorten.specs.Written.{short}
-use Rattle.hproto_shorten.specs.Shorten.{refusal, shortUnder, answerUnder, bufferUnder}
+use Rattle.hproto_shorten.specs.internal.Stores.{short}
+use Rattle.hproto_shorten.specs.Shorten.{refusal, shortUnder}
+use Rattle.hproto_shorten.specs.internal.Under.{answerUnder, bufferUnder}
 use Rattle.octets.proofs.Number.{octets-of-slice}
 use Rattle.hproto_shorten.proofs.Answers.{passed-accepts, short-under, refused-first, no-room, shortened}
 use Rattle.hproto_shorten.proofs.shorten_under.Statement.{statement}

@@ -5,7 +5,7 @@ use mathlib.Core.Path.{_≡_, refl, sym, _∙_}
 use borrow.Author.Tests.{not-true, not-false}
 use lib.ListN.{take, drop}
 use Rattle.hproto_table.specs.Load.{pair}
-use Rattle.hproto_valid.specs.Rising.{risingInRange}
+use Rattle.hproto_valid.specs.internal.Rising.{risingInRange}
 use Rattle.hproto_valid.proofs.Words.{rise-ends, rise-breaks, rise-wrong, rise-moves}
 use Rattle.hproto_valid.proofs.rises_in_range.Statement.{statement}
 use Rattle.hproto_valid.proofs.rises_in_range.Tie as tie

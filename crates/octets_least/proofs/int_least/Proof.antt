@@ -1,7 +1,7 @@
 -- `octets_least::int_least` meets its contract.
 use mathlib.Core.Path.{_≡_, sym, ap, _∙_}
 use lib.IntN.{negsuc}
-use Rattle.octets.specs.Signed.{intWidthBits}
+use Rattle.octets.specs.internal.Least.{intWidthBits}
 use Rattle.numbers.proofs.Signs.{below-zero-is, from-zero}
 use Rattle.octets_least.proofs.Signs.{above-is}
 use borrow.Author.Needs.{needs}

@@ -1,5 +1,5 @@
 -- `octets_least::uint_least` meets its contract.
-use Rattle.octets.specs.Number.{uintWidthBits}
+use Rattle.octets.specs.internal.Least.{uintWidthBits}
 use borrow.Author.Needs.{needs}
 use Rattle.octets_least.proofs.uint_least.Statement.{statement}
 use Rattle.octets_least.proofs.uint_least.Tie as tie

@@ -1,7 +1,7 @@
 -- `octets_read::uint` meets its contract.
 use borrow.Author.Tests.{le-leb, lt-leb}
 use lib.ListN.{length}
-use Rattle.octets.specs.Number.{unsigned}
+use Rattle.octets.specs.internal.Bounded.{unsigned}
 use borrow.Author.Needs.{needs}
 use Rattle.octets_read.proofs.uint.Statement.{statement}
 use Rattle.octets_read.proofs.uint.Tie as tie

@@ -1,7 +1,7 @@
 -- `octets_text::group` meets its contract: each size of a lead calls for its number of octets that follow.
 use mathlib.Core.Path.{refl, sym, _∙_}
 use borrow.Author.Needs.{needs}
-use Rattle.octets_text.specs.Group.{follow}
+use Rattle.octets_text.specs.internal.Group.{follow}
 use Rattle.octets_text.proofs.Lasts.{none-above}
 use Rattle.octets_text.proofs.Sizes.{no-group, whole-group, broken-group, lead-alone, lead-none, lead-one, lead-two, lead-three}
 use Rattle.octets_text.proofs.group.Statement.{statement}

@@ -1,5 +1,5 @@
 -- `reading::answer` meets its contract.
-use Rattle.reading.specs.Checks.{answerBy}
+use Rattle.reading.specs.internal.Walks.{answerBy}
 use mathlib.Core.Path.{sym, ap, _∙_}
 use borrow.Author.Needs.{needs}
 use Rattle.reading.proofs.answer.Statement.{statement}

@@ -2,7 +2,7 @@
 use Prim.Native.Nat.{_-_}
 use borrow.Author.Needs.{needs}
 use native.Mathlib.Omega.{arith}
-use Rattle.tib_field.specs.Name.{Far}
+use Rattle.tib_field.specs.internal.Zeros.{Far}
 use Rattle.tib_field.proofs.Zeros.{pair-zero, pair-none}
 use Rattle.tib_field.proofs.zero_far.Statement.{statement}
 use Rattle.tib_field.proofs.zero_far.Tie as tie

@@ -1,7 +1,7 @@
 -- `tib_msg::check` meets its contract.
 use mathlib.Core.Path.{ap, _∙_}
 use lib.ListN.{length}
-use Rattle.reading.specs.Checks.{answerBy}
+use Rattle.reading.specs.internal.Walks.{answerBy}
 use Rattle.reading.proofs.Checks.{answer-by-walk}
 use Rattle.tib_msg_field.specs.Reading.{reading}
 use Rattle.tib_msg.specs.Answers.{depth, check}

@@ -1,6 +1,6 @@
 -- `tib_rv::check` meets its contract.
 use mathlib.Core.Path.{ap, _∙_}
-use Rattle.reading.specs.Checks.{answerBy}
+use Rattle.reading.specs.internal.Walks.{answerBy}
 use Rattle.reading.proofs.Checks.{answer-by-walk}
 use Rattle.tib_rv_field.specs.Layout.{depth}
 use Rattle.tib_rv_field.specs.Reading.{reading}

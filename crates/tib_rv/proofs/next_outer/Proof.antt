@@ -1,6 +1,6 @@
 -- `tib_rv::next_outer` meets its contract.
 use mathlib.Core.Path.{sym, ap, _∙_}
-use Rattle.tib_rv.specs.Found.{outerOf}
+use Rattle.tib_rv.specs.internal.Found.{outerOf}
 use borrow.Author.Needs.{needs}
 use Rattle.tib_rv.proofs.next_outer.Statement.{statement}
 use Rattle.tib_rv.proofs.next_outer.Tie as tie

@@ -1,7 +1,7 @@
 -- `tib_rv::shown` meets its contract.
 use native.Mathlib.Omega.{arith}
 use Rattle.tib_rv_field.specs.Reading.{lead, total}
-use Rattle.tib_rv.specs.Found.{shownSizes}
+use Rattle.tib_rv.specs.internal.Found.{shownSizes}
 use borrow.Author.Needs.{needs}
 use Rattle.tib_rv.proofs.shown.Statement.{statement}
 use Rattle.tib_rv.proofs.shown.Tie as tie

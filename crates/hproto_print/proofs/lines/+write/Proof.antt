@@ -9,7 +9,7 @@ use lib.ListN.{length, take, drop}
 use Rattle.hproto_field.proofs.HeldKinds.{message-of, plain-of}
 use Rattle.hproto_table.specs.Entry.{entry}
 use Rattle.hproto_table.specs.Schema.{Schema, schemaOf}
-use Rattle.hproto_field.specs.Fronts.{front}
+use Rattle.hproto_field.specs.internal.Fronts.{front}
 use Rattle.hproto_print.proofs.Counting.{left-octets}
 use Rattle.hproto_print.proofs.Writing.{Progress, begun, ended, same-length, next-ends, leaf-contents, leaf-fits, leaf-written, nested-accepts, message-fits, inner-fits, nested-written}
 use borrow.Fn.Kinds.{In}

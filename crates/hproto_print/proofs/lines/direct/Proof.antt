@@ -8,7 +8,7 @@ use denote.Ref.{now}
 use borrow.Author.Needs.{needs}
 use Rattle.hproto_table.specs.Entry.{entry}
 use Rattle.hproto_table.specs.Schema.{Schema, schemaOf}
-use Rattle.hproto_field.specs.Fronts.{front}
+use Rattle.hproto_field.specs.internal.Fronts.{front}
 use Rattle.hproto_print.proofs.Counting.{left-octets, Counted, none-counted, all-counted, count-ends, counted-turn}
 use Rattle.hproto_print.proofs.lines.direct.Statement.{statement}
 use Rattle.hproto_print.proofs.lines.direct.Tie as tie

@@ -7,7 +7,7 @@ use mir.ValLaws.{toZ-ofZ}
 use Rattle.octets.specs.Signed.{integer}
 use Rattle.octets.proofs.Integer.{signed-is}
 use Rattle.hproto_print.specs.Digits.{signedDecimal}
-use Rattle.hproto_print.specs.Window.{FitsU64}
+use Rattle.hproto_print.specs.internal.Pieces.{FitsU64}
 use Rattle.hproto_print.proofs.Windows.{same-place}
 use borrow.Author.Needs.{needs}
 use Rattle.hproto_print.proofs.lines.int.Statement.{statement}

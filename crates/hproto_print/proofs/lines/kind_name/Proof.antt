@@ -4,8 +4,8 @@ use mathlib.Core.Path.{sym, subst}
 use denote.Ref.{now}
 use Rattle.hproto_table.specs.declared.Meaning.{Meaning}
 use Rattle.hproto_print.specs.Ascii.{ascii}
-use Rattle.hproto_print.specs.Window.{FitsU64, Printed}
-use Rattle.hproto_print.specs.Walk.{meaningName}
+use Rattle.hproto_print.specs.internal.Pieces.{FitsU64, Printed}
+use Rattle.hproto_print.specs.internal.Walk.{meaningName}
 use Rattle.hproto_print.proofs.lines.kind_name.Statement.{statement}
 use Rattle.hproto_print.proofs.lines.kind_name.Tie as tie
 

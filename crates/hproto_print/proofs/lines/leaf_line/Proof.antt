@@ -8,9 +8,9 @@ use denote.Ref.{now}
 use lib.ListN.{length-append}
 use Rattle.hproto_message.specs.Tree.{value}
 use Rattle.hproto_print.specs.Ascii.{ascii}
-use Rattle.hproto_print.specs.Window.{FitsU64}
+use Rattle.hproto_print.specs.internal.Pieces.{FitsU64}
 use Rattle.hproto_print.specs.Text.{front, valueText, kindName, line}
-use Rattle.hproto_print.specs.Walk.{meaningName}
+use Rattle.hproto_print.specs.internal.Walk.{meaningName}
 use Rattle.hproto_print.proofs.Values.{name-is}
 use Rattle.hproto_print.proofs.Windows.{then, same-place, fits-less, fits-after}
 use Rattle.hproto_print.proofs.lines.leaf_line.Statement.{statement}

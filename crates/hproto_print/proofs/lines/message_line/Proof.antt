@@ -11,7 +11,7 @@ use Rattle.hproto_table.specs.Schema.{schemaOf}
 use Rattle.hproto_print.specs.Ascii.{ascii}
 use Rattle.hproto_print.specs.Digits.{decimal}
 use Rattle.hproto_print.specs.Text.{front, line}
-use Rattle.hproto_print.specs.Walk.{directOf, meaningName}
+use Rattle.hproto_print.specs.internal.Walk.{directOf, meaningName}
 use Rattle.hproto_print.proofs.Windows.{then, same-place, fits-less, fits-after}
 use Rattle.hproto_print.proofs.lines.message_line.Statement.{statement}
 use Rattle.hproto_print.proofs.lines.message_line.Tie as tie

@@ -4,7 +4,7 @@ use denote.Ref.{now}
 use Rattle.octets.specs.Number.{number}
 use Rattle.octets.proofs.Number.{unsigned-is}
 use Rattle.hproto_print.specs.Digits.{decimal}
-use Rattle.hproto_print.specs.Window.{FitsU64}
+use Rattle.hproto_print.specs.internal.Pieces.{FitsU64}
 use Rattle.hproto_print.proofs.Windows.{same-place}
 use borrow.Author.Needs.{needs}
 use Rattle.hproto_print.proofs.lines.uint.Statement.{statement}

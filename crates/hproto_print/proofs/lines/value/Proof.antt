@@ -5,7 +5,7 @@ use denote.Ref.{now}
 use Rattle.hproto_table.specs.declared.Meaning.{Meaning}
 use Rattle.hproto_message.specs.Cut.{Contents}
 use Rattle.hproto_message.specs.Tree.{value}
-use Rattle.hproto_print.specs.Window.{FitsU64, Printed}
+use Rattle.hproto_print.specs.internal.Pieces.{FitsU64, Printed}
 use Rattle.hproto_print.specs.Text.{valueText}
 use Rattle.hproto_print.proofs.lines.value.Statement.{statement}
 use Rattle.hproto_print.proofs.lines.value.Tie as tie

@@ -2,7 +2,7 @@
 use borrow.Author.Needs.{needs}
 use mathlib.Core.Path.{sym, subst}
 use denote.Ref.{now}
-use Rattle.hproto_print.specs.Window.{FitsU64}
+use Rattle.hproto_print.specs.internal.Pieces.{FitsU64}
 use Rattle.hproto_print.specs.Digits.{hex, hexOrDash}
 use Rattle.hproto_print.proofs.Pieces.{dash-is, hex-is}
 use Rattle.hproto_print.proofs.Windows.{same-place}

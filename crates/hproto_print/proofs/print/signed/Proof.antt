@@ -4,7 +4,7 @@ use mathlib.Core.Path.{_≡_, sym, ap, subst}
 use lib.IntN.{ℤ, negsuc}
 use Rattle.numbers.proofs.Signs.{below-zero-is, from-zero}
 use Rattle.hproto_print.specs.Digits.{decimal, signedDecimal}
-use Rattle.hproto_print.specs.Window.{FitsU64}
+use Rattle.hproto_print.specs.internal.Pieces.{FitsU64}
 use Rattle.hproto_print.proofs.Windows.{same-place}
 use Rattle.hproto_print.proofs.Numbers.{from-zero-text}
 use Rattle.hproto_print.proofs.print.signed.Statement.{statement}

@@ -1,7 +1,7 @@
 -- What the private function `nested` answers: what a reading comes to, with the counts of its cut.
 use Prim.Native.Nat.{ℕ, _+_}
 use Rattle.reading.specs.Reading.{Reading}
-use Rattle.reading.specs.Checks.{walkOf}
+use Rattle.reading.specs.internal.Walks.{walkOf}
 use Rattle.reading.specs.declared.Walk.{Walk}
 use Rattle.hproto_message.specs.Cut.{Cut, end, leaf, nested, depth}
 

@@ -4,7 +4,7 @@ use mathlib.Core.Option.{Option, none, some}
 use Rattle.tib_msg.specs.declared.Kth.{Kth}
 use Rattle.tib_msg.specs.declared.Kth.the-variants.{At, Absent}
 use Rattle.tib_msg_field.specs.Layout.{Parts}
-use Rattle.tib_msg_field.specs.Reading.{sizes}
+use Rattle.tib_msg_field.specs.internal.Sizes.{sizes}
 
 -- The place and the sizes of a field, or that there is none.
 unfoldable pub foundAt : Option (ℕ × Parts) → Kth

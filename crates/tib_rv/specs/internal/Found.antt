@@ -12,7 +12,8 @@ use Rattle.tib_rv.specs.declared.Outer.the-variants.{Nothing, Field}
 use Rattle.tib_rv.specs.declared.Kth.{Kth}
 use Rattle.tib_rv.specs.declared.Kth.the-variants.{At, Absent}
 use Rattle.tib_rv_field.specs.Layout.{Parts}
-use Rattle.tib_rv_field.specs.Reading.{sizes, lead}
+use Rattle.tib_rv_field.specs.Reading.{lead}
+use Rattle.tib_rv_field.specs.internal.Sizes.{sizes}
 
 -- The place and the sizes of a field, or that there is none.
 unfoldable pub foundAt : Option (ℕ × Parts) → Kth

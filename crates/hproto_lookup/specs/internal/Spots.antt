@@ -7,9 +7,8 @@ use mathlib.Core.Option.{Option, none, some}
 use lib.ListN.{length, drop, getElem?}
 use lib.IntN.{ℤ, pos}
 use lib.Dec.{eqb}
-use Rattle.octets.specs.Number.{unsigned}
-use Rattle.octets.specs.Signed.{signed}
-use Rattle.hproto_field.specs.Fronts.{part}
+use Rattle.octets.specs.internal.Bounded.{unsigned, signed}
+use Rattle.hproto_field.specs.internal.Fronts.{part}
 use Rattle.hproto_field.specs.declared.Extent.{Extent}
 use Rattle.hproto_field.specs.declared.Extent.the-variants as extent
 use Rattle.hproto_lookup.specs.Lookup.{lastOr}
