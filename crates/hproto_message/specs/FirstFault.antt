@@ -36,8 +36,8 @@ wrongOctets (tooDeep tag part contents after) = part ++ contents ++ after
 wrongOctets (tooWide tag part contents after) = part ++ contents ++ after
 wrongOctets (noText tag part contents after) = part ++ contents ++ after
 
--- What makes it wrong in a message of number n that may be `levels` messages deep, itself counted: a message in the last of the levels is one too
--- deep, even an empty one.
+-- What makes it wrong, in a message of number n that may be `levels` messages deep, itself counted. Where that is 1, each field that is a message
+-- is too deep, even an empty one.
 unfoldable pub IsWrong : Schema → ℕ → ℕ → Wrong → Type 0
 IsWrong sc levels n (endsEarly octets) = CutControl octets
 IsWrong sc levels n (pastTheEnd tag len part after) = ControlPart tag len part × (length after < len)
@@ -46,15 +46,15 @@ IsWrong sc levels n (tooWide tag part contents after) =
     WholeField tag part contents × ((sc .means n tag ≡ Uint) ⊎ (sc .means n tag ≡ Int)) × (8 < length contents)
 IsWrong sc levels n (noText tag part contents after) = WholeField tag part contents × (sc .means n tag ≡ Text) × (IsText contents → ⊥)
 
--- The way to a fault: it is here, at the first field; over a field that is no message; past a field whose message has a cut; or inside a field
--- that is a message, which other octets follow.
+-- The way to a fault from the first field of a message: the fault is here, at that field; or the way goes over that field, which is no message;
+-- past it, a message with a cut; or inside it, a message with the fault, and `after` has the octets that follow the field.
 pub data Fault : Type 0 where
   here : Wrong → Fault
   over : (tag : ℕ) (part contents : List ℕ) (later : Fault) → Fault
   past : (tag : ℕ) (part : List ℕ) (cut : Cut) (later : Fault) → Fault
   inside : (tag : ℕ) (part : List ℕ) (inner : Fault) (after : List ℕ) → Fault
 
--- The octets of the message that it is the way through.
+-- The octets of the message.
 unfoldable pub faultOctets : Fault → List ℕ
 faultOctets (here wrong) = wrongOctets wrong
 faultOctets (over tag part contents later) = part ++ contents ++ faultOctets later

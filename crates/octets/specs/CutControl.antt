@@ -4,8 +4,8 @@ use mathlib.Core.List.{List, _++_}
 use lib.ListN.{length}
 use Rattle.octets.specs.ControlPart.{ControlPart}
 
--- Octets that are a control part but for its last ones: there are some, and some more would make them whole. No beginning of such octets is a
--- control part: proofs/CutControl.antt shows it.
+-- Octets, at least one, that are a control part but for its last octets, at least one: with those that are missing they would be whole. No
+-- beginning of such octets is a control part itself (`cut-no-part` in proofs/CutControl.antt).
 pub record CutControl (s : List ℕ) : Type 0 where
   pub tag : ℕ
   pub len : ℕ
