@@ -12,6 +12,8 @@ use Rattle.hproto_table.specs.declared.Table.{Table}
 use Rattle.hproto_store.specs.Store.{stored}
 use Rattle.hproto_state.specs.Sound.{sound}
 use Rattle.hproto_state.specs.Calls.{orRefuse, back, closingPart, closeEarly, closeRefusal, closing, closeBuffer, outer}
+use Rattle.hproto_state.specs.Call.{closeField}
+use Rattle.hproto_state.specs.Answer as writes
 use Rattle.hproto_state.specs.declared.State.{State}
 use Rattle.hproto_state.specs.declared.Written.{Written}
 use Rattle.hproto_state.proofs.Conditions.{CloseMet}
@@ -63,11 +65,11 @@ close-decides t s len next m = sym (close-some t s len next (m .same) (sym (m .g
 module _ (t : Table) (s : State) (d : List ℕ) where
   -- What is promised of the answer r and of the buffer afterwards.
   pub record CloseDone (r : Written) (after : List ℕ) : Type 0 where
-    pub answer : r ≡ closing t s (length d)
-    pub buffer : after ≡ closeBuffer t s d
+    pub answer : r ≡ writes.answer t s d closeField
+    pub buffer : after ≡ writes.buffer t s d closeField
 
   close-refused : (got : ℕ) → got ≡ closeRefusal t s (length d) → (got ≡ 0 → ⊥) → CloseDone (record { refusal = got; place = 0; state = s }) d
-  unfolding closing closeBuffer
+  unfolding writes.answer writes.buffer closing closeBuffer
   close-refused got e ne =
       let size = length (closingPart s) in
       record {
@@ -92,7 +94,7 @@ module _ (t : Table) (s : State) (d : List ℕ) where
     pub close-accepted : (after : List ℕ) (size : ℕ) → size ≡ length (closingPart s) → size ≤ s .start
         → after ≡ stored d (s .start - size) (closingPart s)
         → CloseDone (record { refusal = 0; place = 0; state = record { length = s .length; start = s .start - size; opened = s .opened - 1; numbers = s .numbers; marks = s .marks; tags = s .tags } }) after
-    unfolding closing closeBuffer closeRefusal orRefuse outer back
+    unfolding writes.answer writes.buffer closing closeBuffer closeRefusal orRefuse outer back
     close-accepted after size e h b =
         let part = length (closingPart s) in
         let z : closeRefusal t s (length d) ≡ 0 = close-decides t s (length d) (orRefuse (leb part (s .start)) 9 0) m ∙ rw (le-leb part (s .start) (omega arith)) refl in

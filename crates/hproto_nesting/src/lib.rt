@@ -5,9 +5,11 @@ use hproto_table::Meaning;
 use hproto_table::Table;
 ghost use mathlib.Core.Path.{_≡_};
 ghost use Prim.Native.Nat.{_-_};
-ghost use lib.ListN.{length as length-of};
+ghost use mathlib.Core.List.{[]};
 ghost use Rattle.hproto_table.specs.Entry.{innerOf};
-ghost use Rattle.hproto_state.specs.Calls.{openRefusal, opening, closeEarly, closing, closeBuffer};
+ghost use Rattle.hproto_state.specs.Call.{openField, closeField};
+ghost use Rattle.hproto_state.specs.Answer.{answer, buffer};
+ghost use Rattle.hproto_state.specs.Calls.{openRefusal, closeEarly};
 
 fn inner(kind: Meaning) -> u64
     ensures { λ r. ⌜ r ≡ innerOf kind ⌝ }
@@ -43,7 +45,7 @@ fn open_refusal(t: Table, s: State, agrees: bool) -> u64
 // Opens a message field. The mark is the place where the contents of the field will end: all that is put until its close lies before
 // it. Refusals, all at 0: 10, 2, 8, 5 at the eighth level.
 pub fn open_field(t: Table, s: State, tag: u64) -> Written
-    ensures { λ r. ⌜ r ≡ opening t s tag ⌝ }
+    ensures { λ r. ⌜ r ≡ answer t s [] (openField tag) ⌝ }
 {
     let kind = hproto_state::meaning(t, s, tag);
     let no = open_refusal(t, s, hproto_find::kind_number(kind) == 5);
@@ -100,8 +102,8 @@ fn less(a: usize, b: usize) -> usize
 // Closes the field that was opened last: puts its control part before all that was put since. The contents are final by now: the length
 // is chosen last. Refusals, all at 0: 10, 2, 11 where nothing is open, 9.
 pub fn close_field(t: Table, s: State, out: &mut [u8]) -> Written
-    ensures { λ r. ⌜ r ≡ closing t s (length-of (now (out .entry))) ⌝ }
-    ensures { λ r. ⌜ now (out .exit) ≡ closeBuffer t s (now (out .entry)) ⌝ }
+    ensures { λ r. ⌜ r ≡ answer t s (now (out .entry)) closeField ⌝ }
+    ensures { λ r. ⌜ now (out .exit) ≡ buffer t s (now (out .entry)) closeField ⌝ }
 {
     let no = close_early(t, s, out.len());
     if no != 0 {

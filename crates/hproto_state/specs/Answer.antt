@@ -1,5 +1,4 @@
--- What each call between start and finish answers, and the buffer afterwards. The contracts of the puts cite these; those of open_field and
--- close_field cite `opening`, `closing` and `closeBuffer`, which these unfold to.
+-- What each call between start and finish answers, and the buffer afterwards. The contracts of the five calls cite these.
 use Prim.Native.Nat.{ℕ}
 use mathlib.Core.Bool.{true}
 use mathlib.Core.List.{List}

@@ -16,7 +16,7 @@ use Rattle.tib_msg_field.proofs.Steps.{flat}
 use Rattle.tib_msg_field.proofs.Accepted.{whole-accepted}
 use Rattle.tib_msg.specs.Answers.{hintNumber, shown, places, field}
 use Rattle.tib_msg.proofs.Shows.{number-none, number-array, number-partial}
-use Rattle.tib_msg.specs.KthTold.{HintTold, KthTold}
+use Rattle.tib_msg.specs.KthTold.{HintTold, absent, element, offset, amount, KthTold}
 
 -- The hint that the layout allows is told by its octets.
 hint-told : (k size : ℕ) (t : Bool) (hint : List ℕ) → Hint k size t hint → HintTold k hint t (getD hint 0 0) (hintNumber k hint)

@@ -15,7 +15,6 @@ use Rattle.hproto_frame.specs.declared.FrameWritten.{FrameWritten}
 use Rattle.hproto_frame.proofs.Writing.{frame-refused-leaves}
 use Rattle.hproto_calls.specs.Calls.{shortenOctets, shortenBuffer, withTable}
 use Rattle.hproto_state.specs.Call.{openField, closeField}
-use Rattle.hproto_state.specs.Answer as writes
 use Rattle.hproto_state.specs.declared.State.{State}
 use Rattle.hproto_state.specs.declared.Written.{Written}
 use Rattle.hproto_written.proofs.Unchanged.{refused-unchanged}
@@ -75,18 +74,18 @@ module _ (p : writer.Put) where
 
 pub open-changes-state : RuledOut (Changes (λ (r : Written). r .state) (λ (x : writer.OpenCall). x .value .state)
     (rejectedBy writer.openField (λ (r : Written). r .refusal))) writer.openField
-unfolding writer.openField writes.answer writes.buffer
+unfolding writer.openField
 open-changes-state = changes (λ (r : Written). r .state) (λ (x : writer.OpenCall). x .value .state)
     (rejectedBy writer.openField (λ (r : Written). r .refusal))
     (λ x ne. refused-unchanged (x .value .table) (x .value .state) [] (openField (x .value .tag)) ne .same-state)
 
 pub close-stores : RuledOut (Changes (λ (r : writer.Outcome). r .buffer) (λ (x : writer.CloseCall). x .value .buffer) (rejectedBy writer.closeField refusal))
     writer.closeField
-unfolding writer.closeField writes.answer writes.buffer
+unfolding writer.closeField
 close-stores = changes (λ (r : writer.Outcome). r .buffer) (λ (x : writer.CloseCall). x .value .buffer) (rejectedBy writer.closeField refusal)
     (λ x ne. refused-unchanged (x .value .table) (x .value .state) (x .value .buffer) closeField ne .same-buffer)
 
 pub close-changes-state : RuledOut (Changes state-after (λ (x : writer.CloseCall). x .value .state) (rejectedBy writer.closeField refusal)) writer.closeField
-unfolding writer.closeField writes.answer writes.buffer
+unfolding writer.closeField
 close-changes-state = changes state-after (λ (x : writer.CloseCall). x .value .state) (rejectedBy writer.closeField refusal)
     (λ x ne. refused-unchanged (x .value .table) (x .value .state) (x .value .buffer) closeField ne .same-state)

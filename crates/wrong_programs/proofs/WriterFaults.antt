@@ -95,7 +95,7 @@ abbrev close-size : CloseCall → ℕ
 close-size x = length (x .value .buffer)
 
 close-passed : (x : CloseCall) → outcome-refusal (closeField x) ≡ 0 → Passed (close-table x) (close-state x) (close-size x)
-unfolding closeField calls.closing calls.answered calls.closeRefusal calls.closeEarly
+unfolding closeField writes.answer calls.closing calls.answered calls.closeRefusal calls.closeEarly
 close-passed x e = passed (close-table x) (close-state x) (close-size x) _ e
 
 pub close-accepts-bad-table : BadTableRuledOut closeField outcome-refusal close-table
@@ -125,7 +125,7 @@ abbrev open-state : OpenCall → State
 open-state x = x .value .state
 
 open-passed : (x : OpenCall) → refusal (openField x) ≡ 0 → (sound (open-state x) ≡ true) × (valid (open-table x) ≡ true)
-unfolding openField calls.opening calls.answered calls.openRefusal
+unfolding openField writes.answer calls.opening calls.answered calls.openRefusal
 open-passed x e = state-and-table (open-table x) (open-state x) _ e
 
 pub open-accepts-bad-table : BadTableRuledOut openField refusal open-table

@@ -1,15 +1,16 @@
 -- What the calls of the backward writer give, and the answers and buffers that their contracts fix.
 use Prim.Native.Nat.{ℕ}
 use mathlib.Core.Bool.{Bool, _&&_}
-use mathlib.Core.List.{List}
+use mathlib.Core.List.{List, []}
 use lib.Dec.{ltb}
 use lib.IntN.{ℤ, pos, negsuc}
 use lib.ListN.{length}
 use Rattle.hproto_table.specs.declared.Table.{Table}
 use Rattle.hproto_state.specs.Sound.{sound}
+use Rattle.hproto_state.specs.Call as calls
 use Rattle.hproto_state.specs.Call.{Call, putUint, putInt, putOctets}
 use Rattle.hproto_state.specs.Answer as writes
-use Rattle.hproto_state.specs.Calls.{started, opening, closing, closeBuffer, finished}
+use Rattle.hproto_state.specs.Calls.{started, finished}
 use Rattle.hproto_state.specs.declared.State.{State}
 use Rattle.hproto_state.specs.declared.Written.{Written}
 use Rattle.hproto_state.specs.declared.Finished.{Finished}
@@ -107,7 +108,7 @@ abbrev pub OpenCall : Type 0
 OpenCall = Given openFits
 
 unfoldable pub openField : OpenCall → Written
-openField x = opening (x .value .table) (x .value .state) (x .value .tag)
+openField x = writes.answer (x .value .table) (x .value .state) [] (calls.openField (x .value .tag))
 
 -- ---- close_field
 
@@ -125,8 +126,8 @@ CloseCall = Given closeFits
 unfoldable pub closeField : CloseCall → Outcome
 closeField x =
     record {
-      answer = closing (x .value .table) (x .value .state) (length (x .value .buffer));
-      buffer = closeBuffer (x .value .table) (x .value .state) (x .value .buffer);
+      answer = writes.answer (x .value .table) (x .value .state) (x .value .buffer) calls.closeField;
+      buffer = writes.buffer (x .value .table) (x .value .state) (x .value .buffer) calls.closeField;
     }
 
 -- ---- finish and sound, which are given the state alone

@@ -5,6 +5,7 @@ use lib.Dec.{eqb}
 use Rattle.hproto_state.proofs.Answers.{refused-answer, accepted-answer}
 use Rattle.hproto_state.proofs.Conditions.{open-met}
 use Rattle.hproto_state.proofs.Tags.{narrow-kind}
+use Rattle.hproto_state.specs.Answer.{answer}
 use Rattle.hproto_state.specs.Calls.{meant, opening, openRefusal, deeper}
 use borrow.Author.Needs.{needs}
 use Rattle.hproto_nesting.proofs.open_field.Statement.{statement}
@@ -21,7 +22,7 @@ open-refusal-requires : tie.Need-open-refusal-requires
 open-refusal-requires c κs = search needs
 
 returns : tie.Need-returns
-unfolding opening
+unfolding answer opening
 returns c =
     let a = c .before .before .before .before .args in
     let k = c .before .before .kind-number in
@@ -108,7 +109,7 @@ element-write-after-3 c =
     omega arith
 
 returns-2 : tie.Need-returns-2
-unfolding opening deeper
+unfolding answer opening deeper
 returns-2 c =
     let a = c .before .before .before .before .before .args in
     let k = c .before .before .before .kind-number in
