@@ -10,7 +10,7 @@ use Rattle.hproto_table.specs.Entry.{Entry, entry}
 use Rattle.hproto_table.specs.declared.Table.{Table}
 use Rattle.hproto_table.specs.declared.Loaded.{Loaded}
 
--- Whether an entry's numbers are in range: message numbers 0 to 15, kinds 1 to 5, an inner number for kind 5 only.
+-- Whether an entry's numbers are in range: message numbers 0 to 15, kinds 1 to 5, inner number 0 to 15 for kind 5, else 0.
 unfoldable pub inRange : Entry → Bool
 inRange e = ltb (e .number) 16 && leb 1 (e .kind) && leb (e .kind) 5 && cond (eqb (e .kind) 5) (ltb (e .inner) 16) (eqb (e .inner) 0)
 
