@@ -5,4 +5,5 @@ pub mod Load
 pub mod Valid
 pub mod Placed
 pub mod Records
+pub mod FaultyTables
 pub mod Schemas

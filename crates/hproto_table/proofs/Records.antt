@@ -44,7 +44,7 @@ unfolding entries tableOf
 loaded-entries ws = ap (map entry) (take-at ws (replicate (64 - length ws) 0) (length ws) refl)
 
 -- A well-formed record is the record of its word.
-wellFormed-record : (r : List ℕ) → Octets r → wellFormed r ≡ true → r ≡ recordFor (number (drop 3 r))
+pub wellFormed-record : (r : List ℕ) → Octets r → wellFormed r ≡ true → r ≡ recordFor (number (drop 3 r))
 unfolding wellFormed recordFor Octets number
 wellFormed-record [] o e = let z : _≡_ {A = ℕ} 0 1 = cc in absurd (omega arith)
 wellFormed-record (a ∷ []) o e = let z : _≡_ {A = ℕ} 0 1 = cc in absurd (omega arith)
@@ -63,7 +63,7 @@ wellFormed-record (a ∷ b ∷ c ∷ t) o e =
     (sym (number-octetsOf 5 (number t) (subst (λ (k : ℕ). number t < 256 ^ k) l below))) in
     rw (x, b0, c5) (ap (λ (z : List ℕ). 1 ∷ 0 ∷ 5 ∷ z) tail)
 
-record-octets : (s : List ℕ) (i : ℕ) → Octets s → Octets (recordAt s i)
+pub record-octets : (s : List ℕ) (i : ℕ) → Octets s → Octets (recordAt s i)
 unfolding recordAt
 record-octets s i o =
     let d = octets-after (take (8 * i) s) (drop (8 * i) s) (subst Octets (sym (take-append-drop (8 * i) s)) o) in
@@ -75,10 +75,10 @@ records-snoc [] w = append-nil (recordFor w)
 records-snoc (x ∷ ws) w = ap (λ (l : List ℕ). recordFor x ++ l) (records-snoc ws w) ∙ sym (append-assoc (recordFor x) (recordsFor ws) (recordFor w))
 
 -- Every record before the one at n is well-formed.
-abbrev WellFormedBefore : List ℕ → ℕ → Type 0
+abbrev pub WellFormedBefore : List ℕ → ℕ → Type 0
 WellFormedBefore s n = (i : ℕ) → i < n → wellFormed (recordAt s i) ≡ true
 
-wellFormed-front : (s : List ℕ) → Octets s → (n : ℕ) → WellFormedBefore s n → take (8 * n) s ≡ recordsFor (wordsBefore s n)
+pub wellFormed-front : (s : List ℕ) → Octets s → (n : ℕ) → WellFormedBefore s n → take (8 * n) s ≡ recordsFor (wordsBefore s n)
 unfolding recordsFor wordsBefore wordAt recordAt
 wellFormed-front s o zero h = refl
 wellFormed-front s o (suc n) h =

@@ -72,7 +72,7 @@ wellFormed-of s i e =
     let b = seen (pair (wordAt s i)) (wordsBefore s i) in
     not-false (wellFormed (recordAt s i)) (or-left a b (or-left (a || b) (leb 64 i) e))
 
-unseen-of : (s : List ℕ) (i : ℕ) → faulty s i ≡ false → seen (pair (wordAt s i)) (wordsBefore s i) ≡ false
+pub unseen-of : (s : List ℕ) (i : ℕ) → faulty s i ≡ false → seen (pair (wordAt s i)) (wordsBefore s i) ≡ false
 unfolding faulty
 unseen-of s i e =
     let a = not (wellFormed (recordAt s i)) in
@@ -113,7 +113,7 @@ records-octets [] = tt
 records-octets (w ∷ ws) =
     octets-append (recordFor w) (recordsFor ws) (lit< tt, (lit< tt, (lit< tt, octets-octetsOf 5 w))) (records-octets ws)
 
-records-length : (ws : List ℕ) → length (recordsFor ws) ≡ 8 * length ws
+pub records-length : (ws : List ℕ) → length (recordsFor ws) ≡ 8 * length ws
 unfolding recordsFor recordFor octetsOf
 records-length [] = refl
 records-length (w ∷ ws) = omega (arith, records-length ws)
@@ -140,25 +140,25 @@ numbers-small e h =
     (ltb-true (e .number) 16 (p .0), leb-true 1 (e .kind) (p .1))
 
 -- A word whose entry is in range fits five octets.
-word-small : (w : ℕ) → inRange (entry w) ≡ true → w < 256 ^ 5
+pub word-small : (w : ℕ) → inRange (entry w) ≡ true → w < 256 ^ 5
 unfolding inRange entry
 word-small w e =
     let h : w / 4294967296 < 16 = numbers-small (entry w) e .0 in
     omega arith
 
-for-wellFormed : (w : ℕ) → inRange (entry w) ≡ true → wellFormed (recordFor w) ≡ true
+pub for-wellFormed : (w : ℕ) → inRange (entry w) ≡ true → wellFormed (recordFor w) ≡ true
 unfolding wellFormed recordFor number
 for-wellFormed w e = rw (length-octetsOf 5 w, number-octetsOf 5 w (word-small w e)) e
 
 module _ (ws : List ℕ) (range : allInRange ws ≡ true) where
-  records-wellFormed : (i : ℕ) → i < length ws → wellFormed (recordAt (recordsFor ws) i) ≡ true
+  pub records-wellFormed : (i : ℕ) → i < length ws → wellFormed (recordAt (recordsFor ws) i) ≡ true
   records-wellFormed i h = rw (records-at ws i h) (for-wellFormed (getD ws i 0) (range-at ws i range h))
 
   records-word : (i : ℕ) → i < length ws → wordAt (recordsFor ws) i ≡ getD ws i 0
   unfolding wordAt recordFor
   records-word i h = rw (records-at ws i h) (number-octetsOf 5 (getD ws i 0) (word-small (getD ws i 0) (range-at ws i range h)))
 
-  records-words : (n : ℕ) → n ≤ length ws → wordsBefore (recordsFor ws) n ≡ take n ws
+  pub records-words : (n : ℕ) → n ≤ length ws → wordsBefore (recordsFor ws) n ≡ take n ws
   unfolding wordsBefore
   records-words zero h = refl
   records-words (suc n) h = rw (records-words n (omega arith), records-word n h) (sym (take-suc ws n 0 h))

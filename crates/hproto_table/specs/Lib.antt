@@ -4,4 +4,5 @@ pub mod Load
 pub mod Repeat
 pub mod Valid
 pub mod Records
+pub mod FaultyTable
 pub mod internal
