@@ -1,4 +1,4 @@
--- What a frame is, with no word on how it is read.
+-- What a frame is, without saying how it is read.
 use Prim.Native.Nat.{ℕ, _+_, _≤_}
 use mathlib.Core.Path.{_≡_}
 use mathlib.Core.List.{List, _∷_, _++_}

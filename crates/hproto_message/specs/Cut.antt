@@ -1,4 +1,4 @@
--- What a message is, with no word on how it is read from left to right: octets that fields with the properties below make up.
+-- What a message is, without saying how it is read: fields, joined, as described below.
 use Prim.Native.Nat.{ℕ, suc, _≤_, max}
 use mathlib.Core.Path.{_≡_}
 use mathlib.Core.List.{List, [], _++_}

@@ -30,8 +30,8 @@ unfoldable pub control : List ℕ → Control
 control [] = Absent
 control (c ∷ s) = cond (ltb c 256) (controlOf (c / 16) (c % 16) s) Partial
 
--- The lead and the octets that follow it, for the first width that holds v, where the first width has the lead d. Where none does, a
--- lead with no octets.
+-- The lead and the octets that follow it, for the first width that holds v, where the first width has the lead d. The last
+-- width holds every tag of 16 bits and every length of 64; for a larger number, a lead with no octets.
 unfoldable pub firstFit : ℕ → List ℕ → ℕ → ℕ × List ℕ
 firstFit d [] v = (d, [])
 firstFit d (w ∷ ws) v = cond (ltb v (256 ^ w)) (d, octetsOf w v) (firstFit (suc d) ws v)

@@ -1,4 +1,4 @@
--- What a control part is (document 01, An hproto field), with no word on how it is read: a control octet, then the octets of the tag, then
+-- What a control part is (document 01, An hproto field), without saying how it is read: a control octet, then the octets of the tag, then
 -- those of the length.
 use Prim.Native.Nat.{ℕ, _+_, _*_, _<_}
 use mathlib.Core.Path.{_≡_}

@@ -1,11 +1,11 @@
--- A control part that ends too early (document 01's refusal 3), with no word on how it is read.
+-- A control part that ends too early (document 01's refusal 3), without saying how it is read.
 use Prim.Native.Nat.{ℕ, _≤_}
 use mathlib.Core.List.{List, _++_}
 use lib.ListN.{length}
 use Rattle.octets.specs.ControlPart.{ControlPart}
 
--- Octets, at least one, that are a control part but for its last octets, at least one: with those that are missing they would be whole. No
--- beginning of such octets is a control part itself (`cut-no-part` in proofs/CutControl.antt).
+-- A control part whose last octet or octets are missing; at least its first is there. `missing` would complete it. No beginning of such
+-- octets is a control part itself (`cut-no-part` in proofs/CutControl.antt).
 pub record CutControl (s : List ℕ) : Type 0 where
   pub tag : ℕ
   pub len : ℕ

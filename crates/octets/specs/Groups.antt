@@ -1,4 +1,4 @@
--- What text is (document 01, An hproto field), with no word on how it is read: groups of octets, joined.
+-- What text is (document 01, An hproto field), without saying how it is read: groups of octets, joined.
 use Prim.Native.Nat.{ℕ, _≤_}
 use mathlib.Core.List.{List, [], _∷_, _++_}
 

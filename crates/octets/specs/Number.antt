@@ -20,7 +20,7 @@ unfoldable pub octetsOf : ℕ → ℕ → List ℕ
 octetsOf zero v = []
 octetsOf (suc n) v = v / 256 ^ n % 256 ∷ octetsOf n v
 
--- The least n, at most m, with v < 256 ^ n (m where there is none below it).
+-- The least n with v < 256 ^ n, or m where that n is more than m.
 unfoldable pub widthWithin : ℕ → ℕ → ℕ
 widthWithin zero v = zero
 widthWithin (suc m) v = cond (leb (256 ^ m) v) (suc m) (widthWithin m v)

@@ -22,8 +22,8 @@ unfoldable pub integer : List ℕ → ℤ
 integer [] = pos 0
 integer (x ∷ s) = withSign (length (x ∷ s)) (leb 128 x) (number (x % 128 ∷ s))
 
--- How many octets a signed number needs: none for 0, else a bit for the sign beside the magnitude. One less than the magnitude counts
--- below zero, since minus `lowest n` takes n octets.
+-- How many octets a signed number needs: none for 0, else a bit for the sign beside the magnitude. Below zero, one less than the magnitude
+-- has to fit beside the sign, since n octets also hold minus `lowest n`.
 unfoldable pub signedWidth : ℤ → ℕ
 signedWidth (pos v) = width (2 * v)
 signedWidth (negsuc k) = width (2 * k + 1)

@@ -1,4 +1,4 @@
--- What is wrong with a field from its name on, with no word on how it is read, over what a format says of the octets after a name.
+-- What is wrong with a field from its name on, without saying how it is read, over what a format says of the octets after a name.
 use Prim.Native.Nat.{ℕ, _<_}
 use mathlib.Core.List.{List, _∷_, _++_}
 use lib.ListN.{length}

@@ -1,4 +1,4 @@
--- What is wrong with a message that is not whole, with no word on how it is read: its first fault (document 01, Refusal numbers). A field's
+-- What is wrong with a message that is not whole, without saying how it is read: its first fault (document 01, Refusal numbers). A field's
 -- parts come in the order of its octets, and in each part a missing octet before a bad one.
 use Prim.Native.Nat.{ℕ, _+_, _/_, _%_, _≤_, _<_}
 use mathlib.Core.Path.{_≡_}

@@ -1,4 +1,4 @@
--- What is wrong with a message that is not whole, with no word on how it is read: its first fault (document 01, Refusal numbers). A field's
+-- What is wrong with a message that is not whole, without saying how it is read: its first fault (document 01, Refusal numbers). A field's
 -- parts come in the order of its octets, and in each part a missing octet before a bad one.
 use Prim.Native.Nat.{ℕ, suc, _+_, _≤_, _<_}
 use mathlib.Core.Path.{_≡_}
@@ -23,7 +23,8 @@ pub record Announces (octet : ℕ) (size : List ℕ) (n : ℕ) : Type 0 where
 
 -- Each type below has the number of the refusal, and the octets from the part on to the end of the message.
 
--- A size and the data after it: the size ends too early; it begins with another marker; it is not good; or the data end too early.
+-- A size and the data after it: the size ends too early; it begins with another marker; it counts less than itself, or type 1 does not use
+-- `7a`; or the data end too early.
 pub data WrongSize (octet : ℕ) : ℕ → List ℕ → Type 0 where
   cut : (s missing : List ℕ) → 1 ≤ length missing → SizeOctets (s ++ missing) → WrongSize octet 3 s
   marker : (m : ℕ) (s : List ℕ) → 0x7a < m → WrongSize octet 16 (m ∷ s)
@@ -52,7 +53,7 @@ pub record Opens (s fields : List ℕ) : Type 0 where
   pub width : length size ≡ 4
   pub counted : number size ≡ length s
 
--- A field of type 1: the first four of the octets that it holds count them. They may be a message or not.
+-- A field of type 1: the first four of the octets that it holds count them. What it holds may be a message or not.
 pub record Holds (name held : List ℕ) : Type 0 where
   pub good : Name name
   pub size : List ℕ

@@ -18,8 +18,8 @@ pub record Parts : Type 0 where
 unfoldable pub octets : Parts → List ℕ
 octets f = length (f .name) ∷ (f .name ++ (f .octet ∷ (f .size ++ f .contents)))
 
--- The octets of a size, and how many octets of data they announce. `00` to `78` count themselves; after `79` two octets and after `7a` four
--- count themselves and not the marker.
+-- The octets of a size, and how many octets of data they announce. `01` to `78` count themselves; `00` would not, and is no size. After `79`
+-- two octets and after `7a` four count themselves and not the marker.
 pub data Size : List ℕ → ℕ → Type 0 where
   one : (n : ℕ) → suc n ≤ 0x78 → Size (suc n ∷ []) n
   two : (s : List ℕ) (n : ℕ) → length s ≡ 2 → number s ≡ 2 + n → Size (0x79 ∷ s) n
