@@ -28,8 +28,16 @@ use Rattle.hproto_check.proofs.Counts.{read-through}
 use Rattle.hproto_shorten.specs.Shorten.{shortForm, answer, buffer}
 use Rattle.hproto_shorten.specs.Demand3.{Demand3}
 use Rattle.hproto_shorten.proofs.Passing.{short-is}
-use Rattle.hproto_shorten.proofs.Answers.{shortForm-is, no-room, shortened}
+use Rattle.hproto_shorten.proofs.Answers.{shortForm-is, refused-first, no-room, shortened}
 use Rattle.hproto_check.proofs.Passed.{check-passed}
+
+-- Whatever the check refuses under a table value, the shortener refuses alike, and it leaves the second buffer.
+pub refused-alike-under : (t : Table) (n : ℕ) (s : List ℕ) → (check t n s .refusal ≡ 0 → ⊥) → (out : List ℕ)
+    → (answer t n s out ≡ record { refusal = check t n s .refusal; place = check t n s .place; length = 0 }) × (buffer t n s out ≡ out)
+unfolding answer buffer
+refused-alike-under t n s ne out =
+    let r = refused-first (check t n s) (shortForm t n s) out (check t n s) refl ne in
+    (sym (r .answered), sym (r .left))
 
 module _ (t : Table) (n : ℕ) (v : valid t ≡ true) (k : n ≤ 15) where
   cut-accepted : (s : List ℕ) → length s ≤ 65536 → HasCut (schema t) n s → check t n s .refusal ≡ 0

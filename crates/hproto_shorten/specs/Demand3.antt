@@ -37,11 +37,15 @@ module _ (sc : Schema) (check : ℕ → List ℕ → Checked) (shorten : ℕ →
     pub one-cut : (a b : Cut) → Good sc depthLimit n s a → Good sc depthLimit n s b → a ≡ b
     pub shortened : HasCut sc n s → (short : List ℕ) × Shortens short
 
--- Demand 3 of the order, of calls that take a field table as its octets: it holds for all table octets that the loader does not refuse, all
--- message numbers up to 15 and all messages of at most 65,536 octets.
-abbrev pub Demand3Holds : (List ℕ → ℕ → List ℕ → Checked) → (List ℕ → ℕ → List ℕ → List ℕ → Shortened)
-    → (List ℕ → ℕ → List ℕ → List ℕ → List ℕ) → Type 0
-Demand3Holds check shorten buffer =
-    (table : List ℕ) → Octets table → load table .refusal ≡ 0
-    → (n : ℕ) → n ≤ 15 → (s : List ℕ) → Octets s → length s ≤ messageLimit
-    → Demand3 (schema (load table .table)) (check table) (shorten table) (buffer table) n s
+-- Demand 3 of the order, of calls that take a field table as its octets.
+pub record Demand3Holds (check : List ℕ → ℕ → List ℕ → Checked) (shorten : List ℕ → ℕ → List ℕ → List ℕ → Shortened)
+    (buffer : List ℕ → ℕ → List ℕ → List ℕ → List ℕ) : Type 0 where
+  -- Whatever the check refuses, the shortener refuses with the same number and place, and leaves every octet of the second buffer. This is for
+  -- all table octets, all message numbers and all messages: also for a message that is too long, a bad table and a bad number.
+  pub refused-alike : (table : List ℕ) (n : ℕ) (s : List ℕ) → (check table n s .refusal ≡ 0 → ⊥) → (out : List ℕ)
+      → (shorten table n s out ≡ record { refusal = check table n s .refusal; place = check table n s .place; length = 0 })
+      × (buffer table n s out ≡ out)
+  -- The rest is for all table octets that the loader does not refuse, all message numbers up to 15 and all messages of at most 65,536 octets.
+  pub within-limits : (table : List ℕ) → Octets table → load table .refusal ≡ 0
+      → (n : ℕ) → n ≤ 15 → (s : List ℕ) → Octets s → length s ≤ messageLimit
+      → Demand3 (schema (load table .table)) (check table) (shorten table) (buffer table) n s
