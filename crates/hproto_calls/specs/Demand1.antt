@@ -1,12 +1,14 @@
 -- Demand 1 of the order, its part about hproto messages: every message is either accepted with its counts, or refused with its first fault;
--- never both, never neither. It is stated of any function that says what a check answers by a table's octets, a message number and a message;
--- the law `demand-1` shows it of `checkOctets`, which the contract of hproto_calls::check names. How that is computed need not be read.
-use Prim.Native.Nat.{ℕ, _≤_}
+-- never both, never neither; and every bad input before that is refused. It is stated of any function that says what a check answers by a
+-- table's octets, a message number and a message; the law `demand-1` shows it of `checkOctets`, which the contract of hproto_calls::check
+-- names. How that is computed need not be read.
+use Prim.Native.Nat.{ℕ, _≤_, _<_}
 use mathlib.Core.Path.{_≡_}
 use mathlib.Core.List.{List}
 use mathlib.Core.Logic.{_⊎_}
 use lib.ListN.{length}
 use Rattle.reading.specs.Reading.{messageLimit, depthLimit}
+use Rattle.reading.specs.Checks.{refusal}
 use Rattle.reading.specs.declared.Checked.{Checked}
 use Rattle.octets.specs.Number.{Octets}
 use Rattle.hproto_table.specs.Load.{load}
@@ -14,13 +16,9 @@ use Rattle.hproto_table.specs.Schema.{Schema, schema}
 use Rattle.hproto_message.specs.Cut.{Cut, Good}
 use Rattle.hproto_message.specs.Tree.{tree, fields, depth}
 use Rattle.hproto_message.specs.ReadTheSame.{HasCut}
-use Rattle.hproto_message.specs.FirstFault.{Fault, FirstFault, faultNumber, faultPlace}
+use Rattle.hproto_message.specs.FirstFault.{Fault, FirstFault, HasFault, faultNumber, faultPlace}
 
--- Octets have a first fault under a schema and a message number.
-abbrev pub HasFault : Schema → ℕ → List ℕ → Type 0
-HasFault sc n s = (fault : Fault) × FirstFault sc depthLimit n s fault
-
--- What the order's first demand says of the check's answer for a message of a number.
+-- The check's answer for a message of a number that is read under a schema.
 pub record Demand1 (sc : Schema) (n : ℕ) (s : List ℕ) (answer : Checked) : Type 0 where
   -- The message has a cut or a first fault, never both, and no more than one of either.
   pub cut-or-fault : HasCut sc n s ⊎ HasFault sc n s
@@ -31,12 +29,18 @@ pub record Demand1 (sc : Schema) (n : ℕ) (s : List ℕ) (answer : Checked) : T
   pub with-cut : (cut : Cut) → Good sc depthLimit n s cut
       → answer ≡ record { refusal = 0; place = 0; fields = fields (tree sc n cut); depth = depth (tree sc n cut) }
   -- With a first fault it is refused with the fault's number, from 3 to 7, at the fault's place.
-  pub with-fault : (fault : Fault) → FirstFault sc depthLimit n s fault
-      → answer ≡ record { refusal = faultNumber fault; place = faultPlace fault; fields = 0; depth = 0 }
+  pub with-fault : (fault : Fault) → FirstFault sc depthLimit n s fault → answer ≡ refusal (faultNumber fault) (faultPlace fault)
 
--- It holds for all table octets that the loader does not refuse, all message numbers up to 15 and all messages of at most 65,536 octets.
-abbrev pub Demand1Holds : (List ℕ → ℕ → List ℕ → Checked) → Type 0
-Demand1Holds check =
-    (table : List ℕ) → Octets table → load table .refusal ≡ 0
-    → (n : ℕ) → n ≤ 15 → (s : List ℕ) → Octets s → length s ≤ messageLimit
-    → Demand1 (schema (load table .table)) n s (check table n s)
+-- Demand 1 of a check, for all table octets, message numbers and messages: four cases in document 01's order.
+pub record Demand1Holds (check : List ℕ → ℕ → List ℕ → Checked) : Type 0 where
+  -- A message of more than 65,536 octets is refused with 1 at 0, whatever the table and the number are.
+  pub too-long : (table : List ℕ) (n : ℕ) (s : List ℕ) → messageLimit < length s → check table n s ≡ refusal 1 0
+  -- A table that the loader refuses is refused with 2 at the loader's place, whatever the number is.
+  pub bad-table : (table : List ℕ) (n : ℕ) (s : List ℕ) → length s ≤ messageLimit → (load table .refusal ≡ 0 → ⊥)
+      → check table n s ≡ refusal 2 (load table .place)
+  -- A number over 15 is refused with 2 at 0.
+  pub bad-number : (table : List ℕ) (n : ℕ) (s : List ℕ) → length s ≤ messageLimit → load table .refusal ≡ 0 → 15 < n
+      → check table n s ≡ refusal 2 0
+  -- Otherwise the message is read.
+  pub otherwise : (table : List ℕ) (n : ℕ) (s : List ℕ) → length s ≤ messageLimit → load table .refusal ≡ 0 → n ≤ 15 → Octets table → Octets s
+      → Demand1 (schema (load table .table)) n s (check table n s)

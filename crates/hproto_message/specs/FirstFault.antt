@@ -1,10 +1,11 @@
--- What is wrong with a message that has no cut, with no word on how it is read (document 01, Refusal numbers): its first fault, and the fields
--- before that at each level down to it.
+-- The first fault of a message that has no cut (document 01, Refusal numbers), without saying how it is read: the field that is wrong, and at
+-- each level the fields before it.
 use Prim.Native.Nat.{ℕ, _+_, _-_, _<_}
 use mathlib.Core.Path.{_≡_}
 use mathlib.Core.List.{List, _++_}
 use mathlib.Core.Logic.{_⊎_}
 use lib.ListN.{length}
+use Rattle.reading.specs.Reading.{depthLimit}
 use Rattle.octets.specs.ControlPart.{ControlPart}
 use Rattle.octets.specs.CutControl.{CutControl}
 use Rattle.octets.specs.Groups.{IsText}
@@ -61,7 +62,7 @@ faultOctets (over tag part contents later) = part ++ contents ++ faultOctets lat
 faultOctets (past tag part cut later) = part ++ joined cut ++ faultOctets later
 faultOctets (inside tag part inner after) = part ++ faultOctets inner ++ after
 
--- The number of the refusal, and its place: the first octet of the field that is wrong, counted in the outermost message.
+-- The number of the refusal, and its place: the first octet of the field that is wrong, counted from the first octet of this message.
 unfoldable pub faultNumber : Fault → ℕ
 faultNumber (here wrong) = wrongNumber wrong
 faultNumber (over tag part contents later) = faultNumber later
@@ -87,3 +88,7 @@ LeadsTo sc levels n (inside tag part inner after) =
 pub record FirstFault (sc : Schema) (levels number : ℕ) (octets : List ℕ) (fault : Fault) : Type 0 where
   pub divides : faultOctets fault ≡ octets
   pub leads : LeadsTo sc levels number fault
+
+-- Octets have a first fault under a schema and a message number.
+abbrev pub HasFault : Schema → ℕ → List ℕ → Type 0
+HasFault sc n s = (fault : Fault) × FirstFault sc depthLimit n s fault
