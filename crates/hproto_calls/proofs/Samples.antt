@@ -17,7 +17,7 @@ use Rattle.hproto_calls.specs.Calls.{withTable, checkOctets}
 use Rattle.hproto_calls.specs.Samples as samples
 
 pub samples-hold : samples.Hold samples.samples
-unfolding samples.Hold samples.samples samples.accepts samples.refuses samples.line samples.messages samples.threeKinds samples.shown samples.person2
+unfolding samples.Hold samples.samples samples.accepts samples.refuses samples.refusesNumber samples.line samples.messages samples.threeKinds samples.shown samples.person2
     checkOctets withTable checks.check checks.checkUnder checks.treeCounts answers.counts answers.refusal
     loads.load loads.loadFrom loads.accepted loads.refused loads.tableOf loads.wordsBefore loads.faulty loads.wellFormed loads.recordAt loads.wordAt
     loads.inRange loads.seen loads.pair valids.valid valids.allInRange valids.allZero distinct
@@ -25,4 +25,4 @@ unfolding samples.Hold samples.samples samples.accepts samples.refuses samples.l
     readings.reading readings.messageFrom readings.fieldsFrom readings.afterStep readings.step readings.stepFrom readings.stepByKind readings.tagAt
     readings.tagOf onAccepted inOrder trees.tree trees.value trees.fields trees.depth
     number texts.text texts.textAfter texts.followers texts.follower controls.control controls.controlOf controls.following controls.coded
-samples-hold = (refl, (refl, (refl, (refl, (refl, (refl, (refl, (refl, (refl, (refl, (refl, tt)))))))))))
+samples-hold = (refl, (refl, (refl, (refl, (refl, (refl, (refl, (refl, (refl, (refl, (refl, (refl, (refl, (refl, (refl, (refl, tt))))))))))))))))
