@@ -1,4 +1,4 @@
--- Demand 3 by itself fixes what a shortener answers and stores.
+-- Demand 1 by itself fixes what a check answers, and demand 3 what a shortener beside that check answers and stores.
 use Prim.Native.Nat.{ℕ, _≤_, _<_}
 use native.Mathlib.Omega.{arith}
 use native.Mathlib.Decide.{ℕ-discrete}
@@ -6,11 +6,13 @@ use mathlib.Core.Path.{_≡_, refl, sym, _∙_, ap, subst}
 use mathlib.Core.Bool.{Bool, true, false, _&&_}
 use mathlib.Core.List.{List, [], _∷_, _++_}
 use mathlib.Core.List as lists
+use mathlib.Core.Logic.{⊎-elim}
 use lib.ListN.{length, drop, getD}
 use lib.Seq.{sets}
 use lib.Dec.{leb, ltb, T}
-use borrow.Author.Tests.{leb-true, leb-false, ltb-true}
+use borrow.Author.Tests.{leb-true, leb-false, ltb-true, ltb-false}
 use Rattle.reading.specs.Reading.{messageLimit}
+use Rattle.reading.specs.Checks.{refusal}
 use Rattle.reading.specs.declared.Checked.{Checked}
 use Rattle.octets.specs.Number.{Octets}
 use Rattle.hproto_table.specs.Load.{load}
@@ -20,11 +22,65 @@ use Rattle.hproto_message.specs.ReadTheSame.{HasCut, ShortForm, ReadTheSame, Ot
 use Rattle.hproto_shorten.specs.Demand3.{Demand3Holds, Shortens}
 use Rattle.hproto_shorten.specs.declared.Shortened.{Shortened}
 use Rattle.hproto_calls.specs.Calls.{checkOctets, shortenOctets, shortenBuffer}
+use Rattle.hproto_calls.specs.Demand1.{Demand1Holds}
+use Rattle.hproto_calls.proofs.Demand1.{demand-1}
 use Rattle.hproto_calls.proofs.Demand3.{demand-3}
 use Rattle.wrong_programs.specs.Kinds as kinds
 use Rattle.wrong_programs.proofs.RulingOut.{differ-at}
 use Rattle.wrong_programs.proofs.Computing.{hproto}
 use Rattle.wrong_programs.proofs.Witnesses.{uints}
+
+-- The four cases of demand 1, for a table's octets, a message number and a message.
+data Case (table : List ℕ) (n : ℕ) (s : List ℕ) : Type 0 where
+  tooLong : messageLimit < length s → Case table n s
+  badTable : length s ≤ messageLimit → (load table .refusal ≡ 0 → ⊥) → Case table n s
+  badNumber : length s ≤ messageLimit → load table .refusal ≡ 0 → 15 < n → Case table n s
+  otherwise : length s ≤ messageLimit → load table .refusal ≡ 0 → n ≤ 15 → Case table n s
+
+case-of : (table : List ℕ) (n : ℕ) (s : List ℕ) → Case table n s
+case-of table n s = long (ltb messageLimit (length s)) refl
+  where
+    number : (b : Bool) → ltb 15 n ≡ b → length s ≤ messageLimit → load table .refusal ≡ 0 → Case table n s
+    number true e h z = badNumber h z (ltb-true 15 n e)
+    number false e h z = otherwise h z (ltb-false 15 n e)
+
+    loads : Dec (load table .refusal ≡ 0) → length s ≤ messageLimit → Case table n s
+    loads (yes z) h = number (ltb 15 n) refl h z
+    loads (no ne) h = badTable h ne
+
+    long : (b : Bool) → ltb messageLimit (length s) ≡ b → Case table n s
+    long true e = tooLong (ltb-true messageLimit (length s) e)
+    long false e = loads (ℕ-discrete (load table .refusal) 0) (ltb-false messageLimit (length s) e)
+
+-- A check that meets demand 1 answers what the check of this library does, on every input.
+pub demand-1-fixes : (check : List ℕ → ℕ → List ℕ → Checked) → Demand1Holds check
+    → (table : List ℕ) → Octets table → (n : ℕ) (s : List ℕ) → Octets s → check table n s ≡ checkOctets table n s
+demand-1-fixes check meets table o n s p = go (case-of table n s)
+  where
+    go : Case table n s → check table n s ≡ checkOctets table n s
+    go (tooLong h) = meets .too-long table n s h ∙ sym (demand-1 .too-long table n s h)
+    go (badTable h ne) = meets .bad-table table n s h ne ∙ sym (demand-1 .bad-table table n s h ne)
+    go (badNumber h z k) = meets .bad-number table n s h z k ∙ sym (demand-1 .bad-number table n s h z k)
+    go (otherwise h z k) =
+        let x = meets .otherwise table n s h z k o p in
+        let y = demand-1 .otherwise table n s h z k o p in
+        ⊎-elim (λ c. x .with-cut (c .0) (c .1) ∙ sym (y .with-cut (c .0) (c .1)))
+        (λ f. x .with-fault (f .0) (f .1) ∙ sym (y .with-fault (f .0) (f .1))) (y .cut-or-fault)
+
+-- What the check accepts is within the limits.
+accepted-within : (table : List ℕ) (n : ℕ) (s : List ℕ) → checkOctets table n s .refusal ≡ 0
+    → (length s ≤ messageLimit) × (load table .refusal ≡ 0) × (n ≤ 15)
+unfolding refusal
+accepted-within table n s e = go (case-of table n s)
+  where
+    never : (k place : ℕ) → 1 ≤ k → checkOctets table n s ≡ refusal k place → ⊥
+    never k place h r = let z : k ≡ 0 = sym (ap (λ (c : Checked). c .refusal) r) ∙ e in omega arith
+
+    go : Case table n s → (length s ≤ messageLimit) × (load table .refusal ≡ 0) × (n ≤ 15)
+    go (tooLong h) = absurd (never 1 0 (omega arith) (demand-1 .too-long table n s h))
+    go (badTable h ne) = absurd (never 2 (load table .place) (omega arith) (demand-1 .bad-table table n s h ne))
+    go (badNumber h z k) = absurd (never 2 0 (omega arith) (demand-1 .bad-number table n s h z k))
+    go (otherwise h z k) = (h, z, k)
 
 -- Two lists of numbers are the same or not.
 same-or-not : (a b : List ℕ) → Dec (a ≡ b)
@@ -72,17 +128,41 @@ module _ (sc : Schema) (n : ℕ) (s : List ℕ) (check other : ℕ → List ℕ 
           let q = y .without-room out (subst (λ (l : List ℕ). length out < length l) same h) in
           (p .0 ∙ sym (q .0), p .1 ∙ sym (q .1))
 
--- Whoever meets demand 3, whatever check stands beside it, answers and stores what the calls of this library do, on every message that has a cut.
-pub demand-3-fixes : (check : List ℕ → ℕ → List ℕ → Checked) (shorten : List ℕ → ℕ → List ℕ → List ℕ → Shortened)
-    (buffer : List ℕ → ℕ → List ℕ → List ℕ → List ℕ) → Demand3Holds check shorten buffer
-    → (table : List ℕ) → Octets table → load table .refusal ≡ 0 → (n : ℕ) → n ≤ 15 → (s : List ℕ) → Octets s → length s ≤ messageLimit
-    → HasCut (schema (load table .table)) n s → (out : List ℕ)
-    → (shorten table n s out ≡ shortenOctets table n s out) × (buffer table n s out ≡ shortenBuffer table n s out)
-demand-3-fixes check shorten buffer meets table o e n k s p h cut out =
-    let x = meets table o e n k s p h .shortened cut in
-    let y = demand-3 table o e n k s p h .shortened cut in
-    agree (schema (load table .table)) n s (check table) (checkOctets table) (shorten table) (shortenOctets table) (buffer table) (shortenBuffer table)
-    (x .0) (y .0) out (x .1) (y .1)
+-- A shortener that meets demand 3 answers and stores what the shortener of this library does.
+module _ (check : List ℕ → ℕ → List ℕ → Checked) (shorten : List ℕ → ℕ → List ℕ → List ℕ → Shortened) (buffer : List ℕ → ℕ → List ℕ → List ℕ → List ℕ)
+    (meets : Demand3Holds check shorten buffer) (table : List ℕ) (o : Octets table) where
+  -- On every message that has a cut, whatever check stands beside it.
+  pub demand-3-fixes-cut : load table .refusal ≡ 0 → (n : ℕ) → n ≤ 15 → (s : List ℕ) → Octets s → length s ≤ messageLimit
+      → HasCut (schema (load table .table)) n s → (out : List ℕ)
+      → (shorten table n s out ≡ shortenOctets table n s out) × (buffer table n s out ≡ shortenBuffer table n s out)
+  demand-3-fixes-cut e n k s p h cut out =
+      let x = meets .within-limits table o e n k s p h .shortened cut in
+      let y = demand-3 .within-limits table o e n k s p h .shortened cut in
+      agree (schema (load table .table)) n s (check table) (checkOctets table) (shorten table) (shortenOctets table) (buffer table) (shortenBuffer table)
+      (x .0) (y .0) out (x .1) (y .1)
+
+  -- On every input for which the check beside it answers what the check of this library does.
+  pub demand-3-fixes : (n : ℕ) (s : List ℕ) → Octets s → check table n s ≡ checkOctets table n s → (out : List ℕ)
+      → (shorten table n s out ≡ shortenOctets table n s out) × (buffer table n s out ≡ shortenBuffer table n s out)
+  demand-3-fixes n s p same out = go (ℕ-discrete (checkOctets table n s .refusal) 0)
+    where
+      go : Dec (checkOctets table n s .refusal ≡ 0) → (shorten table n s out ≡ shortenOctets table n s out) × (buffer table n s out ≡ shortenBuffer table n s out)
+      go (yes z) =
+          let w = accepted-within table n s z in
+          demand-3-fixes-cut (w .1) n (w .2) s p (w .0)
+          (demand-3 .within-limits table o (w .1) n (w .2) s p (w .0) .accepted-exactly-cut .0 z) out
+      go (no ne) =
+          let x = meets .refused-alike table n s (λ e. ne (sym (ap (λ (c : Checked). c .refusal) same) ∙ e)) out in
+          let y = demand-3 .refused-alike table n s ne out in
+          (x .0 ∙ ap (λ (c : Checked). record { refusal = c .refusal; place = c .place; length = 0 }) same ∙ sym (y .0), x .1 ∙ sym (y .1))
+
+  -- With a check that meets demand 1, on every input.
+  pub demands-fix : Demand1Holds check → (n : ℕ) (s : List ℕ) → Octets s → (out : List ℕ)
+      → (check table n s ≡ checkOctets table n s) × (shorten table n s out ≡ shortenOctets table n s out) × (buffer table n s out ≡ shortenBuffer table n s out)
+  demands-fix first n s p out =
+      let same = demand-1-fixes check first table o n s p in
+      let f = demand-3-fixes n s p same out in
+      (same, f .0, f .1)
 
 -- So no shortener that copies its input meets demand 3, whatever it answers and whatever check stands beside it: the copy of a uint 5 in four
 -- octets is not the shortest.
@@ -113,7 +193,7 @@ in-range = (are-octets uints tt, are-octets long tt)
 pub copies-its-input : (check : List ℕ → ℕ → List ℕ → Checked) (shorten : List ℕ → ℕ → List ℕ → List ℕ → Shortened)
     → Demand3Holds check shorten (λ table n s out. sets out 0 s) → ⊥
 copies-its-input check shorten meets =
-    let d = demand-3 uints (in-range .0) (accepted .0) 0 (omega arith) long (in-range .1) (omega arith) in
-    let f = demand-3-fixes check shorten (λ table n s out. sets out 0 s) meets uints (in-range .0) (accepted .0) 0 (omega arith) long (in-range .1) (omega arith)
+    let d = demand-3 .within-limits uints (in-range .0) (accepted .0) 0 (omega arith) long (in-range .1) (omega arith) in
+    let f = demand-3-fixes-cut check shorten (λ table n s out. sets out 0 s) meets uints (in-range .0) (accepted .0) 0 (omega arith) long (in-range .1) (omega arith)
     (d .accepted-exactly-cut .0 (accepted .1)) (9 ∷ 9 ∷ 9 ∷ 9 ∷ []) in
     differ-at 0 refl (f .1 ∙ shortened)
