@@ -3,10 +3,11 @@ use Prim.Native.Nat.{ℕ, _+_, _-_, _≤_}
 use native.Mathlib.Omega.{arith}
 use mathlib.Core.Path.{_≡_, refl, sym, ap, _∙_}
 use mathlib.Core.List.{List, [], _++_}
-use lib.ListN.{length, take, drop, length-append}
+use lib.ListN.{length, take, drop, length-append, take-append-drop}
 use lib.Seq.{take-take, drop-length}
 use Rattle.hproto_store.specs.Store.{stored}
 use Rattle.hproto_store.proofs.Stores.{length-stored, drop-stored, take-before-stored}
+use Rattle.hproto_written.specs.Written.{AtEnd}
 
 -- The octets xs stand from a place to the end, and the octets before that place are as they were lent.
 pub record Filled (lent d : List ℕ) (start : ℕ) (xs : List ℕ) : Type 0 where
@@ -35,3 +36,7 @@ filled-before lent d start xs ys f h =
           take-before-stored d at at ys (omega arith) ∙ sym (take-take at start d (omega arith)) ∙ ap (take at) (f .kept)
           ∙ take-take at start lent (omega arith);
     }
+
+pub filled-end : (lent d : List ℕ) (start : ℕ) (xs : List ℕ) → Filled lent d start xs → AtEnd lent start xs d
+filled-end lent d start xs f =
+    record { to-the-end = f .place; others-kept = sym (take-append-drop start d) ∙ rw (f .kept, f .stands) refl }

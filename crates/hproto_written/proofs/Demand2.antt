@@ -3,10 +3,8 @@ use Prim.Native.Nat.{ℕ}
 use native.Mathlib.Omega.{arith}
 use mathlib.Core.Path.{_≡_, refl, sym, ap, _∙_, subst}
 use mathlib.Core.List.{List}
-use lib.ListN.{length, drop}
 use Rattle.hproto_table.specs.Schema.{schema}
 use Rattle.hproto_table.specs.declared.Table.{Table}
-use Rattle.hproto_message.specs.Cut.{Good}
 use Rattle.hproto_message.specs.Tree.{Tree, tree}
 use Rattle.hproto_message.specs.Shortest.{shortest}
 use Rattle.hproto_message.proofs.Accepted.{accepted-exactly}
@@ -19,12 +17,15 @@ use Rattle.hproto_state.specs.Calls.{finished}
 use Rattle.hproto_state.specs.declared.State.{State}
 use Rattle.hproto_written.specs.Given.{Given, message, opened}
 use Rattle.hproto_written.specs.Written.{written}
+use Rattle.hproto_written.specs.Run.{Run}
 use Rattle.hproto_written.specs.Refusal.{refusalOfFinish}
-use Rattle.hproto_written.specs.Demand2.{Demand2, Demand2Holds}
+use Rattle.hproto_written.specs.Demand2.{Demand2, AfterRun, Demand2Holds}
 use Rattle.hproto_written.proofs.Fields.{AllRead}
+use Rattle.hproto_written.proofs.Buffer.{filled-end}
 use Rattle.hproto_written.proofs.Reached.{Reached}
 use Rattle.hproto_written.proofs.Accepted.{run-reached}
-use Rattle.hproto_written.proofs.Refused.{refusals}
+use Rattle.hproto_written.proofs.Refused.{start-refused, refusals}
+use Rattle.hproto_written.proofs.Unchanged.{refused-unchanged, finish-unchanged}
 
 module _ (t : Table) (number : ℕ) (lent : List ℕ) (s : State) (d : List ℕ) where
   whole-reads : (w : Tree) → Reached t number lent s d (message w) → Demand2 check t number lent (s .start) d (message w)
@@ -32,24 +33,21 @@ module _ (t : Table) (number : ℕ) (lent : List ℕ) (s : State) (d : List ℕ)
   whole-reads w r =
       let sc = schema t in
       let back = r .reads in
-      let f = r .filled in
-      let p = f .place in
-      let l : length (drop (s .start) d) ≡ length (shortest w) = ap length (f .stands) in
+      let p = r .filled .place in
       let limit = r .limit in
-      let good : Good sc 8 number (drop (s .start) d) (back .cut) = subst (λ (m : List ℕ). Good sc 8 number m (back .cut)) (sym (f .stands)) (back .good) in
-      let read = accepted-exactly sc number (drop (s .start) d) (back .cut) .1 good in
+      let read = accepted-exactly sc number (shortest w) (back .cut) .1 (back .good) in
       record {
         whole = w;
         all-given = refl;
+        octets = shortest w;
+        stand = filled-end lent d (s .start) (shortest w) (r .filled);
         accepted =
-            read-through t number (drop (s .start) d) (omega arith) (r .good-table) (r .good-number) ∙ ap (treeCounts sc number) read
+            read-through t number (shortest w) (omega arith) (r .good-table) (r .good-number) ∙ ap (treeCounts sc number) read
             ∙ rw (back .is) refl;
         cut = back .cut;
-        good = good;
+        good = back .good;
         reads-back = back .is;
-        is-shortest = rw (f .stands, ← back .is) (others-more sc number (shortest (tree sc number (back .cut))) (back .cut) (rw (back .is) (back .good)));
-        to-the-end = rw l p;
-        others-kept = f .kept;
+        is-shortest = rw (← back .is) (others-more sc number (shortest (tree sc number (back .cut))) (back .cut) (rw (back .is) (back .good)));
       }
 
   finished-whole : (g : Given) → refusalOfFinish g ≡ 0 → Reached t number lent s d g → Demand2 check t number lent (s .start) d g
@@ -61,9 +59,16 @@ module _ (t : Table) (number : ℕ) (lent : List ℕ) (s : State) (d : List ℕ)
   unfolding finished
   finish-place e = rw e refl
 
+  after-run : (g : Given) → Run writer t number lent s d g → AfterRun check writer t number lent s d g
+  after-run g run =
+      let r = run-reached t number lent s d g run in
+      let next = refusals t number lent s d g run in
+      record {
+        refusals = next;
+        stand = filled-end lent d (s .start) (written g) (r .filled);
+        finished =
+            λ e. subst (λ (from : ℕ). Demand2 check t number lent from d g) (sym (finish-place e)) (finished-whole g (sym (next .finish) ∙ e) r);
+      }
+
 pub demand-2 : Demand2Holds check writer
-demand-2 t number lent s after given run e =
-    let r = run-reached t number lent s after given run in
-    let f = refusals t number lent s after given run .finish in
-    subst (λ (from : ℕ). Demand2 check t number lent from after given) (sym (finish-place t number lent s after e))
-    (finished-whole t number lent s after given (sym f ∙ e) r)
+demand-2 = record { starts = start-refused; runs = after-run; refused = refused-unchanged; finish-keeps = finish-unchanged }

@@ -10,6 +10,6 @@ pub mod Decided
 pub mod Suits
 pub mod Accepted
 pub mod Refused
+pub mod Unchanged
 pub mod Demand2
 pub mod Writing
-pub mod Unchanged

@@ -1,41 +1,65 @@
--- The calls after a run are refused just as specs/Refusal.antt says.
+-- Start and the calls after a run are refused just as specs/Refusal.antt says.
 use Prim.Native.Nat.{ℕ, _-_}
 use native.Mathlib.Omega.{arith}
 use mathlib.Core.Path.{_≡_, refl, ap, _∙_}
-use mathlib.Core.Bool.{Bool, true}
+use mathlib.Core.Bool.{Bool, true, false, cond, _&&_, _||_}
 use mathlib.Core.List.{List}
 use lib.ListN.{length}
 use lib.Dec.{leb, eqb}
 use borrow.Author.Tests.{le-leb, ne-eqb}
 use Rattle.octets.specs.Number.{leastUint}
 use Rattle.octets.specs.Signed.{leastInt}
+use Rattle.octets.specs.Text.{text}
 use Rattle.octets.specs.Control.{leastControl}
+use Rattle.reading.specs.Reading.{messageLimit}
+use Rattle.hproto_table.specs.Valid.{valid}
 use Rattle.hproto_table.specs.declared.Table.{Table}
 use Rattle.hproto_message.specs.Shortest.{field, shortest}
 use Rattle.hproto_store.proofs.Room.{left-enough}
-use Rattle.hproto_state.specs.Calls.{orRefuse, answered, meant, ofOctets, readable, put, putRefusal, opening, closing, closeRefusal, finished}
+use Rattle.hproto_state.specs.Calls.{orRefuse, answered, meant, ofOctets, readable, put, putRefusal, opening, closing, closeRefusal, startRefusal, started, finished}
 use Rattle.hproto_state.specs.declared.State.{State}
 use Rattle.hproto_written.specs.Given.{Given, message, opened, openFields}
 use Rattle.hproto_written.specs.Written.{written}
 use Rattle.hproto_written.specs.Run.{kindIn, Run}
 use Rattle.hproto_state.specs.Call.{Call, putUint, putInt, putOctets, openField, closeField}
 use Rattle.hproto_state.specs.Answer.{answer, writer}
-use Rattle.hproto_written.specs.Refusal.{refusalForRoom, refusalOfClose, refusalOfCall, refusalOfFinish, Refusals}
+use Rattle.hproto_written.specs.Refusal.{refusalOfStart, refusalForRoom, refusalOfClose, refusalOfCall, refusalOfFinish, Refusals}
 use Rattle.hproto_written.proofs.Reached.{Reached, reached-meant}
 use Rattle.hproto_written.proofs.Moves.{closing-part}
 use Rattle.hproto_written.proofs.Decided.{put-decided, open-decided, close-decided, finish-decided}
 use Rattle.hproto_written.proofs.Accepted.{run-reached}
 use Rattle.hproto_table.specs.Entry.{kindNumber}
 
+pub start-refused : (t : Table) (number len : ℕ) → started t number len .refusal ≡ refusalOfStart t number len
+unfolding started answered startRefusal orRefuse refusalOfStart
+start-refused t number len = go (valid t)
+  where
+    go : (b : Bool)
+        → _≡_ {A = ℕ} (cond (leb len messageLimit) (cond b (cond (leb number 15) 0 2) 2) 1) (cond (leb len messageLimit) (cond (b && leb number 15) 0 2) 1)
+    go true = refl
+    go false = refl
+
+-- Octets of any kind: the tests of the kind, and of text, as the definition has them.
+octets-refused : (kind : ℕ) (xs : List ℕ) (room : ℕ)
+    → orRefuse (ofOctets kind) 8 (orRefuse (readable kind xs) 7 room) ≡ cond (eqb kind 4) (cond (text xs) room 7) (cond (eqb kind 3) room 8)
+unfolding orRefuse ofOctets readable
+octets-refused kind xs room = go (eqb kind 3) (eqb kind 4)
+  where
+    go : (a b : Bool) → cond (a || b) (cond (cond b (text xs) true) room 7) 8 ≡ cond b (cond (text xs) room 7) (cond a room 8)
+    go true true = refl
+    go true false = refl
+    go false true = refl
+    go false false = refl
+
 module _ (t : Table) (number : ℕ) (lent : List ℕ) (s : State) (d : List ℕ) where
   module _ (g : Given) (r : Reached t number lent s d g) where
     -- The free octets are those of the lent buffer beside what is written.
     room-decided : (size : ℕ) → orRefuse (leb size (s .start)) 9 0 ≡ refusalForRoom (length lent) g size
-    unfolding refusalForRoom
+    unfolding refusalForRoom orRefuse
     room-decided size =
         let p = r .filled .place in
         let e : s .start ≡ length lent - length (written g) = omega arith in
-        ap (λ (b : Bool). orRefuse b 9 0) (ap (leb size) e ∙ left-enough (length lent) (length (written g)) size (omega arith))
+        ap (λ (b : Bool). cond b 0 9) (ap (leb size) e ∙ left-enough (length lent) (length (written g)) size (omega arith))
 
     kind-decided : (tag : ℕ) → kindNumber (meant t s tag) ≡ kindIn t number g tag
     unfolding kindIn
@@ -64,7 +88,7 @@ module _ (t : Table) (number : ℕ) (lent : List ℕ) (s : State) (d : List ℕ)
       put-refused g r (eqb (kindNumber (meant t s tag)) 2) true (length (field tag (leastInt z))) ∙ rw (kind-decided g r tag) refl
   call-refused g r (putOctets tag xs) =
       put-refused g r (ofOctets (kindNumber (meant t s tag))) (readable (kindNumber (meant t s tag)) xs) (length (field tag xs))
-      ∙ rw (kind-decided g r tag) refl
+      ∙ rw (kind-decided g r tag) (octets-refused (kindIn t number g tag) xs (refusalForRoom (length lent) g (length (field tag xs))))
   call-refused g r (openField tag) =
       open-decided t number lent s d g r (eqb (kindNumber (meant t s tag)) 5) ∙ rw (kind-decided g r tag, r .count) refl
   call-refused g r closeField = close-refused g r
@@ -78,7 +102,7 @@ module _ (t : Table) (number : ℕ) (lent : List ℕ) (s : State) (d : List ℕ)
 
 -- For every run.
 pub refusals : (t : Table) (number : ℕ) (lent : List ℕ) (s : State) (d : List ℕ) (g : Given) → Run writer t number lent s d g
-    → Refusals t number lent s d g
+    → Refusals writer t number lent s d g
 refusals t number lent s d g run =
     let r = run-reached t number lent s d g run in
     record { calls = call-refused t number lent s d g r; finish = finish-refused t number lent s d g r }

@@ -11,30 +11,40 @@ use Rattle.octets.specs.Number.{leastUint}
 use Rattle.octets.specs.Signed.{leastInt}
 use Rattle.hproto_table.specs.declared.Table.{Table}
 use Rattle.hproto_message.specs.Shortest.{field}
-use Rattle.hproto_state.specs.Calls.{answered, bufferAfter, meant, ofOctets, readable, put, putBuffer, putRefusal, opening, openRefusal, closing, closeBuffer, closeRefusal}
+use Rattle.hproto_state.specs.Calls.{answered, bufferAfter, meant, ofOctets, readable, put, putBuffer, putRefusal, opening, openRefusal, closing, closeBuffer, closeRefusal, finished}
 use Rattle.hproto_state.specs.declared.State.{State}
 use Rattle.hproto_state.specs.Call.{Call, putUint, putInt, putOctets, openField, closeField}
-use Rattle.hproto_state.specs.Answer.{answer, buffer}
+use Rattle.hproto_state.specs.Answer.{answer, buffer, writer}
 use Rattle.hproto_table.specs.Entry.{kindNumber}
 use Rattle.hproto_written.specs.Unchanged.{Unchanged}
 
 module _ (t : Table) (s : State) (d : List ℕ) where
   put-unchanged : (tag : ℕ) (agrees reads : Bool) (xs : List ℕ) → (put t s tag agrees reads xs (length d) .refusal ≡ 0 → ⊥)
-      → Unchanged s d (put t s tag agrees reads xs (length d) .state) (putBuffer t s tag agrees reads xs d)
+      → (put t s tag agrees reads xs (length d) .state ≡ s) × (putBuffer t s tag agrees reads xs d ≡ d)
   unfolding put putBuffer answered bufferAfter
   put-unchanged tag agrees reads xs ne =
       let e = ne-eqb (putRefusal t s (length d) agrees reads (length (field tag xs))) 0 ne in
-      record { same-state = rw e refl; same-buffer = rw e refl }
+      (rw e refl, rw e refl)
 
-  pub refused-unchanged : (c : Call) → (answer t s d c .refusal ≡ 0 → ⊥) → Unchanged s d (answer t s d c .state) (buffer t s d c)
+  pub refused-unchanged : (c : Call) → (answer t s d c .refusal ≡ 0 → ⊥) → Unchanged writer t s d c
   unfolding answer buffer opening closing closeBuffer answered bufferAfter
-  refused-unchanged (putUint tag v) ne = put-unchanged tag (eqb (kindNumber (meant t s tag)) 1) true (leastUint v) ne
-  refused-unchanged (putInt tag z) ne = put-unchanged tag (eqb (kindNumber (meant t s tag)) 2) true (leastInt z) ne
+  refused-unchanged (putUint tag v) ne =
+      let u = put-unchanged tag (eqb (kindNumber (meant t s tag)) 1) true (leastUint v) ne in
+      record { same-state = u .0; same-buffer = u .1 }
+  refused-unchanged (putInt tag z) ne =
+      let u = put-unchanged tag (eqb (kindNumber (meant t s tag)) 2) true (leastInt z) ne in
+      record { same-state = u .0; same-buffer = u .1 }
   refused-unchanged (putOctets tag xs) ne =
-      put-unchanged tag (ofOctets (kindNumber (meant t s tag))) (readable (kindNumber (meant t s tag)) xs) xs ne
+      let u = put-unchanged tag (ofOctets (kindNumber (meant t s tag))) (readable (kindNumber (meant t s tag)) xs) xs ne in
+      record { same-state = u .0; same-buffer = u .1 }
   refused-unchanged (openField tag) ne =
       let e = ne-eqb (openRefusal t s (eqb (kindNumber (meant t s tag)) 5)) 0 ne in
       record { same-state = rw e refl; same-buffer = refl }
   refused-unchanged closeField ne =
       let e = ne-eqb (closeRefusal t s (length d)) 0 ne in
       record { same-state = rw e refl; same-buffer = rw e refl }
+
+-- Finish hands the state back, refused or not.
+pub finish-unchanged : (s : State) → finished s .state ≡ s
+unfolding finished
+finish-unchanged s = refl

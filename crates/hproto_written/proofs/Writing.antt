@@ -1,4 +1,5 @@
--- Every tree that can be written and fits the lent buffer is written by a run: its last field first, at every level.
+-- Every tree that can be written and fits the lent buffer is written by a run of any writer that meets Demand2Holds: its last field first,
+-- at every level.
 use Prim.Native.Nat.{ℕ, suc, _+_, _≤_}
 use native.Mathlib.Omega.{arith}
 use mathlib.Core.Path.{_≡_, refl, sym, ap, _∙_, subst}
@@ -12,20 +13,19 @@ use Rattle.hproto_table.specs.Schema.{schema}
 use Rattle.hproto_table.specs.declared.Meaning.{Meaning}
 use Rattle.hproto_table.specs.declared.Meaning.the-variants.{Uint, Int, String, Text, Message}
 use Rattle.hproto_table.specs.declared.Table.{Table}
+use Rattle.reading.specs.declared.Checked.{Checked}
 use Rattle.hproto_message.specs.Tree.{Tree, end, leaf, nested, Value, raw, uint, int, string, text, depth}
 use Rattle.hproto_message.specs.Shortest.{leastContents, field, shortest}
-use Rattle.hproto_state.specs.Calls.{orRefuse, ofOctets, readable, started}
 use Rattle.hproto_state.specs.declared.State.{State}
 use Rattle.hproto_message.proofs.Fields.{field-length}
 use Rattle.hproto_written.specs.Given.{Given, message, opened, onFields, closed, openFields, innermost}
 use Rattle.hproto_written.specs.Written.{written}
 use Rattle.hproto_written.specs.Run.{InRange, octetsAs, kindIn, giving, Run, start, next}
-use Rattle.hproto_state.specs.Answer.{writer}
-use Rattle.hproto_state.specs.Call.{Call, putUint, putInt, putOctets, openField, closeField}
+use Rattle.hproto_state.specs.Call.{Call, putUint, putInt, putOctets, openField, closeField, Writer}
 use Rattle.hproto_written.specs.Refusal.{refusalForRoom, refusalOfClose, refusalOfCall, refusalOfFinish}
+use Rattle.hproto_written.specs.Demand2.{Demand2Holds}
 use Rattle.hproto_written.specs.Writable.{OfKind, Writable, Writes}
 use Rattle.hproto_written.proofs.Fields.{same-open, same-innermost, opened-innermost, written-before}
-use Rattle.hproto_written.proofs.Refused.{refusals}
 
 -- ---- fields put before others
 
@@ -75,20 +75,20 @@ depth-positive (nested tag inside rest) = omega arith
 
 -- ---- one more call
 
-module _ (t : Table) (number : ℕ) (lent : List ℕ) where
+module _ (check : Table → ℕ → List ℕ → Checked) (w : Writer) (holds : Demand2Holds check w) (t : Table) (number : ℕ) (lent : List ℕ) where
   -- A run that gave these fields.
   record RunTo (g : Given) : Type 0 where
     state : State
     after : List ℕ
-    run : Run writer t number lent state after g
+    run : Run w t number lent state after g
 
   one-more : (g : Given) → RunTo g → (c : Call) → InRange c → refusalOfCall t number (length lent) g c ≡ 0 → RunTo (giving t number c g)
   one-more g r c h e =
-      record { state = _; after = _; run = next (r .state) (r .after) g (r .run) c h (refusals t number lent (r .state) (r .after) g (r .run) .calls c ∙ e) }
+      record { state = _; after = _; run = next (r .state) (r .after) g (r .run) c h (holds .runs t number lent (r .state) (r .after) g (r .run) .refusals .calls c ∙ e) }
 
   module _ (g : Given) where
     has-room : (size : ℕ) → length (written g) + size ≤ length lent → refusalForRoom (length lent) g size ≡ 0
-    unfolding refusalForRoom orRefuse
+    unfolding refusalForRoom
     has-room size h = rw (le-leb (length (written g) + size) (length lent) h) refl
 
     of-kind : (tag : ℕ) (k : Meaning) → schema t .means (innermost (schema t) number g) tag ≡ k → kindIn t number g tag ≡ kindNumber k
@@ -97,7 +97,7 @@ module _ (t : Table) (number : ℕ) (lent : List ℕ) where
 
     more-leaf : RunTo g → (tag : ℕ) (v : Value) → OfKind (schema t .means (innermost (schema t) number g) tag) v
         → length (written g) + length (field tag (leastContents v)) ≤ length lent → RunTo (onFields (leaf tag v) g)
-    unfolding OfKind leastContents InRange refusalOfCall giving orRefuse kindNumber ofOctets readable octetsAs
+    unfolding OfKind leastContents InRange refusalOfCall giving kindNumber octetsAs
     more-leaf r tag (raw xs) h l = absurd h
     more-leaf r tag (uint v) h l = one-more g r (putUint tag v) (h .1) (rw (of-kind tag Uint (h .0)) (has-room (length (field tag (leastContents (uint v)))) l))
     more-leaf r tag (int z) h l = one-more g r (putInt tag z) (h .1) (rw (of-kind tag Int (h .0)) (has-room (length (field tag (leastContents (int z)))) l))
@@ -109,7 +109,7 @@ module _ (t : Table) (number : ℕ) (lent : List ℕ) where
         subst RunTo (rw e refl) (one-more g r (putOctets tag xs) tt (rw (e, text-exactly xs .1 (h .1)) (has-room (length (field tag xs)) l)))
 
     more-open : RunTo g → (tag m : ℕ) → schema t .means (innermost (schema t) number g) tag ≡ Message m → openFields g ≤ 6 → RunTo (opened tag end g)
-    unfolding InRange refusalOfCall giving orRefuse kindNumber
+    unfolding InRange refusalOfCall giving kindNumber
     more-open r tag m e h = one-more g r (openField tag) tt (rw (of-kind tag (Message m) e, le-leb (openFields g) 6 h) refl)
 
   more-close : (tag : ℕ) (w : Tree) (g : Given) → RunTo (opened tag w g)
@@ -153,17 +153,17 @@ module _ (t : Table) (number : ℕ) (lent : List ℕ) where
       unfold written in length-append (shortest inside) (written one) in
       subst RunTo (on-nested tag inside rest g) (more-close tag inside one (subst RunTo three fills) (omega arith))
 
--- Where start is accepted, a run writes each tree that can be written, is at most 8 deep and fits the lent buffer in its shortest form.
-pub all-written : (t : Table) (number : ℕ) (lent : List ℕ) → started t number (length lent) .refusal ≡ 0
-    → (w : Tree) → Writable (schema t) number w → depth w ≤ 8 → length (shortest w) ≤ length lent → Writes t number lent w
-unfolding innermost openFields written onFields refusalOfFinish shortest
-all-written t number lent e w h d l =
-    let r : RunTo t number lent (message end) = record { state = _; after = _; run = start e } in
-    let made = more-fields t number lent w (message end) h (omega arith) (omega arith) r in
-    let all : RunTo t number lent (message w) = subst (λ (u : Tree). RunTo t number lent (message u)) (before-end w) made in
-    record {
-      state = all .state;
-      after = all .after;
-      run = all .run;
-      finish = refusals t number lent (all .state) (all .after) (message w) (all .run) .finish;
-    }
+  -- Where start is accepted, a run writes each tree that can be written, is at most 8 deep and fits the lent buffer in its shortest form.
+  pub all-written : w .start t number (length lent) .refusal ≡ 0
+      → (u : Tree) → Writable (schema t) number u → depth u ≤ 8 → length (shortest u) ≤ length lent → Writes w t number lent u
+  unfolding innermost openFields written onFields refusalOfFinish shortest
+  all-written e u h d l =
+      let r : RunTo (message end) = record { state = _; after = _; run = start e } in
+      let made = more-fields u (message end) h (omega arith) (omega arith) r in
+      let all : RunTo (message u) = subst (λ (x : Tree). RunTo (message x)) (before-end u) made in
+      record {
+        state = all .state;
+        after = all .after;
+        run = all .run;
+        finish = holds .runs t number lent (all .state) (all .after) (message u) (all .run) .refusals .finish;
+      }

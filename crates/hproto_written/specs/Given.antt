@@ -16,7 +16,7 @@ unfoldable pub onFields : (Tree → Tree) → Given → Given
 onFields f (message w) = message (f w)
 onFields f (opened tag w around) = opened tag (f w) around
 
--- A closed field is one of the fields of the message around it.
+-- A closed field is one of the fields of the message around it. Where nothing is open there is nothing to close.
 unfoldable pub closed : Given → Given
 closed (message w) = message w
 closed (opened tag w around) = onFields (nested tag w) around

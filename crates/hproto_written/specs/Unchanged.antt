@@ -1,10 +1,12 @@
--- What a rejected call of the writer leaves.
+-- What a refused call of a writer leaves.
 use Prim.Native.Nat.{ℕ}
 use mathlib.Core.Path.{_≡_}
 use mathlib.Core.List.{List}
+use Rattle.hproto_table.specs.declared.Table.{Table}
+use Rattle.hproto_state.specs.Call.{Call, Writer}
 use Rattle.hproto_state.specs.declared.State.{State}
 
--- What a refused call leaves.
-pub record Unchanged (s : State) (d : List ℕ) (state : State) (after : List ℕ) : Type 0 where
-  pub same-state : state ≡ s
-  pub same-buffer : after ≡ d
+-- It hands the state back as it was given, and leaves every octet of the buffer.
+pub record Unchanged (w : Writer) (t : Table) (s : State) (d : List ℕ) (c : Call) : Type 0 where
+  pub same-state : w .answer t s d c .state ≡ s
+  pub same-buffer : w .buffer t s d c ≡ d

@@ -1,5 +1,5 @@
 -- The trees that can be written. proofs/Writing.antt shows that each of them that is at most 8 deep, and for whose shortest form the
--- lent buffer has room, is written by a run: none of its calls is refused.
+-- lent buffer has room, is written by a run of any writer that meets Demand2Holds: none of its calls is refused.
 use Prim.Native.Nat.{ℕ, _^_, _<_}
 use mathlib.Core.Path.{_≡_}
 use mathlib.Core.List.{List}
@@ -10,8 +10,7 @@ use Rattle.hproto_table.specs.declared.Meaning.{Meaning}
 use Rattle.hproto_table.specs.declared.Meaning.the-variants.{Uint, Int, String, Text, Message}
 use Rattle.hproto_table.specs.declared.Table.{Table}
 use Rattle.hproto_message.specs.Tree.{Tree, end, leaf, nested, Value, raw, uint, int, string, text}
-use Rattle.hproto_state.specs.Answer.{writer}
-use Rattle.hproto_state.specs.Calls.{finished}
+use Rattle.hproto_state.specs.Call.{Writer}
 use Rattle.hproto_state.specs.declared.State.{State}
 use Rattle.hproto_written.specs.Given.{message}
 use Rattle.hproto_written.specs.Run.{Run}
@@ -30,9 +29,9 @@ Writable sc n end = Unit {0}
 Writable sc n (leaf tag v rest) = OfKind (sc .means n tag) v × Writable sc n rest
 Writable sc n (nested tag inside rest) = ((m : ℕ) × (sc .means n tag ≡ Message m) × Writable sc m inside) × Writable sc n rest
 
--- A run that gives just the fields of a tree, and that can be finished.
-pub record Writes (t : Table) (number : ℕ) (lent : List ℕ) (w : Tree) : Type 0 where
+-- A run of a writer that gives just the fields of a tree, and that can be finished.
+pub record Writes (w : Writer) (t : Table) (number : ℕ) (lent : List ℕ) (whole : Tree) : Type 0 where
   pub state : State
   pub after : List ℕ
-  pub run : Run writer t number lent state after (message w)
-  pub finish : finished state .refusal ≡ 0
+  pub run : Run w t number lent state after (message whole)
+  pub finish : w .finish state .refusal ≡ 0

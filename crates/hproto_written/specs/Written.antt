@@ -1,6 +1,8 @@
--- The octets that the writer has stored for the fields given so far.
-use Prim.Native.Nat.{ℕ}
+-- The octets that the writer has stored for the fields given so far, and where they stand.
+use Prim.Native.Nat.{ℕ, _+_}
+use mathlib.Core.Path.{_≡_}
 use mathlib.Core.List.{List, _++_}
+use lib.ListN.{length, take}
 use Rattle.hproto_message.specs.Shortest.{shortest}
 use Rattle.hproto_written.specs.Given.{Given, message, opened}
 
@@ -8,3 +10,8 @@ use Rattle.hproto_written.specs.Given.{Given, message, opened}
 unfoldable pub written : Given → List ℕ
 written (message w) = shortest w
 written (opened tag w around) = shortest w ++ written around
+
+-- A lent buffer afterwards: these octets stand in it from a place to its end, and the octets before that place are as they were lent.
+pub record AtEnd (lent : List ℕ) (from : ℕ) (octets after : List ℕ) : Type 0 where
+  pub to-the-end : from + length octets ≡ length lent
+  pub others-kept : after ≡ take from lent ++ octets
