@@ -26,6 +26,7 @@ use Rattle.hproto_written.proofs.Reached.{Reached}
 use Rattle.hproto_written.proofs.Accepted.{run-reached}
 use Rattle.hproto_written.proofs.Refused.{start-refused, refusals}
 use Rattle.hproto_written.proofs.Unchanged.{refused-unchanged, finish-unchanged}
+use Rattle.hproto_written.proofs.Zeros.{zeros}
 
 module _ (t : Table) (number : ℕ) (lent : List ℕ) (s : State) (d : List ℕ) where
   whole-reads : (w : Tree) → Reached t number lent s d (message w) → Demand2 check t number lent (s .start) d (message w)
@@ -71,4 +72,4 @@ module _ (t : Table) (number : ℕ) (lent : List ℕ) (s : State) (d : List ℕ)
       }
 
 pub demand-2 : Demand2Holds check writer
-demand-2 = record { starts = start-refused; runs = after-run; refused = refused-unchanged; finish-keeps = finish-unchanged }
+demand-2 = record { starts = start-refused; runs = after-run; refused = refused-unchanged; finish-keeps = finish-unchanged; zeros = zeros }

@@ -11,5 +11,6 @@ pub mod Suits
 pub mod Accepted
 pub mod Refused
 pub mod Unchanged
+pub mod Zeros
 pub mod Demand2
 pub mod Writing

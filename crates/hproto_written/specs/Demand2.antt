@@ -17,6 +17,7 @@ use Rattle.hproto_written.specs.Written.{written, AtEnd}
 use Rattle.hproto_written.specs.Run.{Run}
 use Rattle.hproto_written.specs.Refusal.{refusalOfStart, Refusals}
 use Rattle.hproto_written.specs.Unchanged.{Unchanged}
+use Rattle.hproto_written.specs.Zeros.{Zeros}
 
 -- What the check answers, by a table, a message number and a message.
 module _ (check : Table → ℕ → List ℕ → Checked) where
@@ -56,3 +57,5 @@ module _ (check : Table → ℕ → List ℕ → Checked) where
     -- On every table, state and buffer, a refused call changes neither state nor buffer, and finish never changes the state.
     pub refused : (t : Table) (s : State) (d : List ℕ) (c : Call) → (w .answer t s d c .refusal ≡ 0 → ⊥) → Unchanged w t s d c
     pub finish-keeps : (s : State) → w .finish s .state ≡ s
+    -- What a refusal has beside its number is 0, but for the state that a call or finish hands back.
+    pub zeros : Zeros w
