@@ -1,5 +1,6 @@
 -- Demand 2 of the order, its part about the writer. It is stated of any functions that say what the calls of a writer, and a check, answer.
 -- The contracts of the calls name these functions, and the law `demand-2` shows the demand of them: how they are computed need not be read.
+-- It is about runs. Which other states, buffers and tables are refused with 10 or 2, the contracts say.
 use Prim.Native.Nat.{ℕ}
 use mathlib.Core.Path.{_≡_}
 use mathlib.Core.List.{List}
@@ -49,8 +50,8 @@ module _ (check : Table → ℕ → List ℕ → Checked) where
 
   -- Demand 2 of the order, its part about the writer.
   pub record Demand2Holds (w : Writer) : Type 0 where
-    -- For every table, message number and lent buffer, start is refused just for the reasons of specs/Refusal.antt, and this holds after
-    -- every run.
+    -- For every table, message number and lent buffer, start is refused just for the reasons of specs/Refusal.antt, and AfterRun holds
+    -- after every run.
     pub starts : (t : Table) (number len : ℕ) → w .start t number len .refusal ≡ refusalOfStart t number len
     pub runs : (t : Table) (number : ℕ) (lent : List ℕ) (s : State) (after : List ℕ) (given : Given) → Run w t number lent s after given
         → AfterRun w t number lent s after given
