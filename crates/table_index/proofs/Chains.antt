@@ -1,0 +1,65 @@
+-- Searching a chain, cell by cell.
+use Prim.Native.Nat.{ℕ, zero, suc, _+_, _*_, _/_, _%_, _≤_, _<_}
+use native.Mathlib.Omega.{arith}
+use mathlib.Core.Path.{_≡_, refl}
+use mathlib.Core.Bool.{Bool, true, false, cond}
+use mathlib.Core.List.{List}
+use lib.ListN.{getD}
+use lib.Dec.{eqb, ltb}
+use borrow.Author.Tests.{ltb-true, lt-ltb, le-ltb, eq-eqb, ne-eqb}
+use Rattle.table_index.specs.Cells.{keysFrom, chase}
+
+-- ---- the first key of a number
+
+pub keys-small : (n : ℕ) → n < 16 → n * 65554 ≡ keysFrom n
+unfolding keysFrom
+keys-small n h = rw (lt-ltb n 16 h) refl
+
+pub keys-large : (n : ℕ) → 16 ≤ n → 2097152 ≡ keysFrom n
+unfolding keysFrom
+keys-large n h = rw (le-ltb n 16 h) refl
+
+-- ---- a chain
+
+module _ (cells : List ℕ) (key : ℕ) where
+  abbrev next : ℕ → ℕ
+  next c = getD cells (64 + c % 64) 0
+
+  -- The cell 0 ends a chain.
+  pub chase-zero : (room : ℕ) → chase room cells key 0 ≡ 0
+  unfolding chase
+  chase-zero zero = refl
+  chase-zero (suc room) = rw (le-ltb (next 0 % 64) 0 (omega arith)) (go (eqb 0 key))
+    where
+      go : (t : Bool) → _≡_ {A = ℕ} (cond t 0 0) 0
+      go true = refl
+      go false = refl
+
+  module _ (room c : ℕ) where
+    pub chase-here : c / 2048 ≡ key → chase (suc room) cells key c ≡ c
+    unfolding chase
+    chase-here e = rw (eq-eqb (c / 2048) key e) refl
+
+    module _ (other : c / 2048 ≡ key → ⊥) where
+      pub chase-ends : c % 64 ≤ next c % 64 → chase (suc room) cells key c ≡ 0
+      unfolding chase
+      chase-ends h = rw (ne-eqb (c / 2048) key other, le-ltb (next c % 64) (c % 64) h) refl
+
+      pub chase-on : next c % 64 < c % 64 → chase (suc room) cells key c ≡ chase room cells key (next c)
+      unfolding chase
+      chase-on h = rw (ne-eqb (c / 2048) key other, lt-ltb (next c % 64) (c % 64) h) refl
+
+  -- One cell more changes nothing where there is room for the order of the first.
+  pub chase-more : (room c : ℕ) → c % 64 < room → chase room cells key c ≡ chase (suc room) cells key c
+  unfolding chase
+  chase-more zero c h = absurd (omega arith)
+  chase-more (suc room) c h = go (ltb (next c % 64) (c % 64)) refl (chase-more room (next c))
+    where
+      go : (t : Bool) → ltb (next c % 64) (c % 64) ≡ t → (next c % 64 < room → chase room cells key (next c) ≡ chase (suc room) cells key (next c))
+          → cond (eqb (c / 2048) key) c (cond t (chase room cells key (next c)) 0) ≡ cond (eqb (c / 2048) key) c (cond t (chase (suc room) cells key (next c)) 0)
+      go true e more = rw (more (omega (arith, ltb-true (next c % 64) (c % 64) e))) refl
+      go false e more = refl
+
+  -- From one cell to the next.
+  pub chase-next : (c : ℕ) → (c / 2048 ≡ key → ⊥) → next c % 64 < c % 64 → chase 64 cells key c ≡ chase 64 cells key (next c)
+  chase-next c d h = rw (chase-on 63 c d h) (chase-more 63 (next c) (omega arith))

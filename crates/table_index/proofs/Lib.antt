@@ -1,0 +1,4 @@
+pub mod Chains
+pub mod Meanings
+pub mod Words
+pub mod Noting

@@ -1,0 +1,140 @@
+-- The key and the cell of a word whose entry is in range.
+use Prim.Native.Nat.{ℕ, _+_, _*_, _-_, _/_, _%_, _≤_, _<_}
+use native.Mathlib.Omega.{arith}
+use mathlib.Core.Path.{_≡_, refl, sym, ap, _∙_}
+use mathlib.Core.Bool.{Bool, true, false, cond, _&&_}
+use lib.Dec.{eqb, leb, ltb}
+use borrow.Author.Tests.{eqb-true, eqb-false, eq-eqb, ne-eqb, leb-true, ltb-true, ltb-false}
+use Rattle.hproto_table.specs.Entry.{entry, meaning}
+use Rattle.hproto_table.specs.Load.{inRange, pair}
+use Rattle.hproto_table.specs.declared.Meaning.{Meaning}
+use Rattle.hproto_table.specs.declared.Meaning.the-variants.{Raw, Uint, Int, String, Text, Message}
+use Rattle.hproto_table.proofs.Bools.{and-four}
+use Rattle.table_index.specs.Cells.{keysFrom, keyOf, wordKey, cellOf, meaningIn}
+use Rattle.table_index.proofs.Chains.{keys-small, keys-large}
+
+-- The numbers in a word whose entry is in range.
+pub record Small (w : ℕ) : Type 0 where
+  pub number : w / 4294967296 < 16
+  pub some : 1 ≤ w / 256 % 256
+  pub kinds : w / 256 % 256 ≤ 5
+  pub inner : w % 256 < 16
+  pub only : (w / 256 % 256 ≡ 5 → ⊥) → w % 256 ≡ 0
+
+inner-small : (k i : ℕ) → cond (eqb k 5) (ltb i 16) (eqb i 0) ≡ true → (i < 16) × ((k ≡ 5 → ⊥) → i ≡ 0)
+inner-small k i h = go (eqb k 5) refl h
+  where
+    go : (t : Bool) → eqb k 5 ≡ t → cond t (ltb i 16) (eqb i 0) ≡ true → (i < 16) × ((k ≡ 5 → ⊥) → i ≡ 0)
+    go true e q = (ltb-true i 16 q, λ d. absurd (d (eqb-true k 5 e)))
+    go false e q = (omega (arith, eqb-true i 0 q), λ d. eqb-true i 0 q)
+
+pub small : (w : ℕ) → inRange (entry w) ≡ true → Small w
+unfolding inRange entry
+small w h =
+    let n = w / 4294967296 in
+    let k = w / 256 % 256 in
+    let i = w % 256 in
+    let p = and-four (ltb n 16) (leb 1 k) (leb k 5) (cond (eqb k 5) (ltb i 16) (eqb i 0)) h in
+    let q = inner-small k i (p .3) in
+    record { number = ltb-true n 16 (p .0); some = leb-true 1 k (p .1); kinds = leb-true k 5 (p .2); inner = q .0; only = q .1 }
+
+-- ---- the cell
+
+-- The meaning of a code, and of a kind and an inner number.
+abbrev coded : ℕ → Meaning
+coded c = cond (eqb c 0) Raw (cond (eqb c 1) Uint (cond (eqb c 2) Int (cond (eqb c 3) String (cond (eqb c 4) Text (Message (c - 5))))))
+
+abbrev kinded : ℕ → ℕ → Meaning
+kinded k i = cond (eqb k 1) Uint (cond (eqb k 2) Int (cond (eqb k 3) String (cond (eqb k 4) Text (cond (eqb k 5) (Message i) Raw))))
+
+coded-plain : (k i : ℕ) → 1 ≤ k → k < 5 → coded k ≡ kinded k i
+coded-plain k i h l = rw (ne-eqb k 0 (λ e. omega arith)) (go (eqb k 1) (eqb k 2) (eqb k 3) (eqb k 4) refl refl refl refl)
+  where
+    go : (a b c d : Bool) → eqb k 1 ≡ a → eqb k 2 ≡ b → eqb k 3 ≡ c → eqb k 4 ≡ d
+        → cond a Uint (cond b Int (cond c String (cond d Text (Message (k - 5))))) ≡ cond a Uint (cond b Int (cond c String (cond d Text (cond (eqb k 5) (Message i) Raw))))
+    go true b c d p q r s = refl
+    go false true c d p q r s = refl
+    go false false true d p q r s = refl
+    go false false false true p q r s = refl
+    go false false false false p q r s = absurd (omega (arith, eqb-false k 1 p, eqb-false k 2 q, eqb-false k 3 r, eqb-false k 4 s))
+
+coded-message : (i : ℕ) → coded (5 + i) ≡ kinded 5 i
+coded-message i =
+    let m : 5 + i - 5 ≡ i = omega arith in
+    rw (
+      ne-eqb (5 + i) 0 (λ e. omega arith),
+      ne-eqb (5 + i) 1 (λ e. omega arith),
+      ne-eqb (5 + i) 2 (λ e. omega arith),
+      ne-eqb (5 + i) 3 (λ e. omega arith),
+      ne-eqb (5 + i) 4 (λ e. omega arith),
+      m,
+    )
+    refl
+
+module _ (w : ℕ) (s : Small w) (i : ℕ) (low : i < 64) where
+  pub cell-key : cellOf w i / 2048 ≡ wordKey w
+  unfolding cellOf entry
+  cell-key = omega (arith, s .kinds, s .inner)
+
+  pub cell-order : cellOf w i % 64 ≡ i
+  unfolding cellOf
+  cell-order = omega arith
+
+  pub cell-some : cellOf w i ≡ 0 → ⊥
+  unfolding cellOf entry
+  cell-some e = omega (arith, s .some)
+
+  pub cell-means : meaningIn (cellOf w i) ≡ meaning (entry w)
+  unfolding meaningIn meaning cellOf entry
+  cell-means =
+      let c : ((wordKey w * 32 + (w / 256 % 256 + w % 256)) * 64 + i) / 64 % 32 ≡ w / 256 % 256 + w % 256 = omega (arith, s .kinds, s .inner) in
+      rw c (go (eqb (w / 256 % 256) 5) refl)
+    where
+      go : (t : Bool) → eqb (w / 256 % 256) 5 ≡ t → coded (w / 256 % 256 + w % 256) ≡ kinded (w / 256 % 256) (w % 256)
+      go true e = rw (eqb-true (w / 256 % 256) 5 e) (coded-message (w % 256))
+      go false e =
+          let d = eqb-false (w / 256 % 256) 5 e in
+          let z : w / 256 % 256 + w % 256 ≡ w / 256 % 256 = omega (arith, s .only d) in
+          rw z (coded-plain (w / 256 % 256) (w % 256) (s .some) (omega (arith, s .kinds, d)))
+
+-- ---- the key
+
+pub key-is : (w : ℕ) → Small w → wordKey w ≡ w / 4294967296 * 65554 + w / 65536 % 65536
+unfolding wordKey keyOf entry
+key-is w s = rw (← keys-small (w / 4294967296) (s .number)) refl
+
+module _ (w : ℕ) (s : Small w) where
+  pub key-low : wordKey w < 2097152
+  key-low = omega (arith, key-is w s, s .number)
+
+  key-other : (n t : ℕ) → t < 65536 → ((w / 4294967296 ≡ n) × (w / 65536 % 65536 ≡ t) → ⊥) → eqb (wordKey w) (keyOf n t) ≡ false
+  unfolding keyOf
+  key-other n t h d = ne-eqb (wordKey w) (keysFrom n + t) (λ e. go (ltb n 16) refl e)
+    where
+      go : (b : Bool) → ltb n 16 ≡ b → wordKey w ≡ keysFrom n + t → ⊥
+      go true p e =
+          let k = keys-small n (ltb-true n 16 p) in
+          d (omega (arith, key-is w s, k, e), omega (arith, key-is w s, k, e))
+      go false p e = omega (arith, key-low, keys-large n (ltb-false n 16 p), e)
+
+  -- A word has the key of a number and a tag exactly where its entry is for them.
+  pub key-fits : (n t : ℕ) → t < 65536 → eqb (wordKey w) (keyOf n t) ≡ eqb (entry w .number) n && eqb (entry w .tag) t
+  unfolding entry wordKey
+  key-fits n t h = go (eqb (w / 4294967296) n) refl (eqb (w / 65536 % 65536) t) refl
+    where
+      go : (a : Bool) → eqb (w / 4294967296) n ≡ a → (b : Bool) → eqb (w / 65536 % 65536) t ≡ b → eqb (wordKey w) (keyOf n t) ≡ a && b
+      go true p true q =
+          rw (eqb-true (w / 4294967296) n p, eqb-true (w / 65536 % 65536) t q) (eq-eqb (keyOf n t) (keyOf n t) refl)
+      go true p false q = key-other n t h (λ e. eqb-false (w / 65536 % 65536) t q (e .1))
+      go false p b q = key-other n t h (λ e. eqb-false (w / 4294967296) n p (e .0))
+
+  -- Two words have one key exactly where they have one pair.
+  pub key-pair : (x : ℕ) → Small x → eqb (wordKey x) (wordKey w) ≡ eqb (pair x) (pair w)
+  unfolding pair
+  key-pair x r = go (eqb (wordKey x) (wordKey w)) refl
+    where
+      go : (a : Bool) → eqb (wordKey x) (wordKey w) ≡ a → a ≡ eqb (x / 65536) (w / 65536)
+      go true e =
+          let q : wordKey x ≡ wordKey w = eqb-true (wordKey x) (wordKey w) e in
+          sym (eq-eqb (x / 65536) (w / 65536) (omega (arith, q, key-is x r, key-is w s)))
+      go false e = sym (ne-eqb (x / 65536) (w / 65536) (λ q. eqb-false (wordKey x) (wordKey w) e (omega (arith, q, key-is x r, key-is w s))))

@@ -1,0 +1,88 @@
+-- `search` gives what the definition says: at each turn the chain from the present cell decides.
+use native.Mathlib.Omega.{arith}
+use Prim.Native.Nat.{_%_}
+use mathlib.Core.Path.{_≡_, sym, ap, _∙_}
+use Rattle.table_index.specs.Cells.{chase, search}
+use Rattle.table_index.proofs.Chains.{chase-zero, chase-here, chase-ends, chase-next}
+use Rattle.table_index.proofs.search.Statement.{statement}
+use Rattle.table_index.proofs.search.Tie as tie
+
+abbrev Inv-loop : tie.InvT-loop
+Inv-loop cells key c₀ c = search cells key ≡ chase 64 cells key c
+
+abbrev μ-loop : tie.MeasureT-loop
+μ-loop cells key c₀ c = c % 64
+
+mul-wide : tie.Need-mul-wide Inv-loop μ-loop
+mul-wide c = omega arith
+
+element-copy-out-wide : tie.Need-element-copy-out-wide Inv-loop μ-loop
+element-copy-out-wide c = omega arith
+
+wide-requires : tie.Need-wide-requires Inv-loop μ-loop
+wide-requires c κs = tt
+
+loop-holds : tie.Need-loop-holds Inv-loop μ-loop
+unfolding search
+loop-holds c = ap (chase 64 (c .before .before .args .cells .now) (c .before .before .args .key)) (sym (c .wide .ensures))
+
+returns : tie.Need-returns Inv-loop μ-loop
+returns c =
+    let a = c .before .before .before .before .before .args in
+    let l = c .before .before .loop in
+    sym (l .inv ∙ rw (c .if1 .taken) (chase-zero (a .cells .now) (a .key) 64))
+
+add-wide : tie.Need-add-wide Inv-loop μ-loop
+add-wide c = omega arith
+
+mul-wide-2 : tie.Need-mul-wide-2 Inv-loop μ-loop
+mul-wide-2 c = omega arith
+
+element-copy-out-wide-2 : tie.Need-element-copy-out-wide-2 Inv-loop μ-loop
+element-copy-out-wide-2 c = omega arith
+
+wide-requires-2 : tie.Need-wide-requires-2 Inv-loop μ-loop
+wide-requires-2 c κs = tt
+
+returns-2 : tie.Need-returns-2 Inv-loop μ-loop
+returns-2 c =
+    let a = c .before .before .before .before .before .before .before .before .args in
+    let l = c .before .before .before .before .before .loop in
+    let e = c .before .wide2 .ensures in
+    sym (l .inv ∙ chase-ends (a .cells .now) (a .key) 63 (l .c) (c .before .before .before .before .loop-test .taken) (omega (arith, c .if2 .taken, e)))
+
+loop-less : tie.Need-loop-less Inv-loop μ-loop
+loop-less c = omega (arith, c .if2 .left)
+
+loop-again : tie.Need-loop-again Inv-loop μ-loop
+loop-again c =
+    let a = c .before .before .before .before .before .before .before .before .args in
+    let l = c .before .before .before .before .before .loop in
+    let e = c .before .wide2 .ensures in
+    l .inv ∙ chase-next (a .cells .now) (a .key) (l .c) (c .before .before .before .before .loop-test .taken) (omega (arith, c .if2 .left, e)) ∙ ap (chase 64 (a .cells .now) (a .key)) (sym e)
+
+returns-3 : tie.Need-returns-3 Inv-loop μ-loop
+returns-3 c =
+    let a = c .before .before .before .before .args in
+    let l = c .before .loop in
+    sym (l .inv ∙ chase-here (a .cells .now) (a .key) 63 (l .c) (omega arith))
+
+pub search-spec : {M : Type 1} → statement M
+search-spec =
+    tie.close
+    (tie.spec
+    Inv-loop
+    μ-loop
+    mul-wide
+    element-copy-out-wide
+    wide-requires
+    loop-holds
+    returns
+    add-wide
+    mul-wide-2
+    element-copy-out-wide-2
+    wide-requires-2
+    returns-2
+    loop-less
+    loop-again
+    returns-3)

@@ -1,0 +1,81 @@
+-- The index of a field table: 128 cells of 32 bits. A cell holds an entry's key (21 bits), its kind and inner number as one number (5 bits)
+-- and its order in the table (6 bits). The first 64 cells are the heads of as many buckets; the cell 64 + i holds what was the head of its
+-- bucket before the entry i. It serves the code: what the calls answer is said of the schema of a table, and proofs/Loaded.antt shows that
+-- an index has the same one.
+use Prim.Native.Nat.{ℕ, zero, suc, _+_, _*_, _-_, _/_, _%_, _^_}
+use mathlib.Core.Bool.{Bool, cond, _&&_}
+use mathlib.Core.List.{List}
+use lib.ListN.{getD, set}
+use lib.Dec.{eqb, ltb}
+use Rattle.hproto_table.specs.Entry.{entry}
+use Rattle.hproto_table.specs.Schema.{Schema}
+use Rattle.hproto_table.specs.declared.Meaning.{Meaning}
+use Rattle.hproto_table.specs.declared.Meaning.the-variants.{Raw, Uint, Int, String, Text, Message}
+
+-- The keys of a message number begin here. Numbers are 65,554 apart: more than there are tags, and 18 more than a multiple of 64, so that
+-- the tags of neighbouring numbers lie in different buckets. No cell has a key from 2^21 on.
+unfoldable pub keysFrom : ℕ → ℕ
+keysFrom n = cond (ltb n 16) (n * 65554) (2 ^ 21)
+
+-- The key of a message number and a tag, and that of the entry in a word. The remainder by 64 is the bucket.
+unfoldable pub keyOf : ℕ → ℕ → ℕ
+keyOf n t = keysFrom n + t
+
+unfoldable pub wordKey : ℕ → ℕ
+wordKey w = keyOf (entry w .number) (entry w .tag)
+
+-- The cell of a word that is the i-th of its table. Only the kind 5 has an inner number that is not 0, so the sum tells both.
+unfoldable pub cellOf : ℕ → ℕ → ℕ
+cellOf w i = (wordKey w * 32 + (entry w .kind + entry w .inner)) * 64 + i
+
+-- What a cell means.
+unfoldable pub meaningIn : ℕ → Meaning
+meaningIn c =
+    let code = c / 64 % 32 in
+    cond (eqb code 0) Raw
+    (cond (eqb code 1) Uint
+    (cond (eqb code 2) Int
+    (cond (eqb code 3) String
+    (cond (eqb code 4) Text (Message (code - 5))))))
+
+-- The cell with a key in the chain that begins with a cell; 0 where there is none. Along a chain the order falls, so 64 cells are enough.
+unfoldable pub chase : ℕ → List ℕ → ℕ → ℕ → ℕ
+chase zero cells key c = 0
+chase (suc room) cells key c =
+    let next = getD cells (64 + c % 64) 0 in
+    cond (eqb (c / 2 ^ 11) key) c (cond (ltb (next % 64) (c % 64)) (chase room cells key next) 0)
+
+unfoldable pub search : List ℕ → ℕ → ℕ
+search cells key = chase 64 cells key (getD cells (key % 64) 0)
+
+-- Whether no cell has a word's key.
+unfoldable pub fresh : ℕ → List ℕ → Bool
+fresh w cells = eqb (search cells (wordKey w)) 0
+
+-- The cells with a word noted as the i-th, where it is fresh: it is the head of its bucket, before the head that was there.
+unfoldable pub noted : ℕ → ℕ → List ℕ → List ℕ
+noted w i cells =
+    let bucket = wordKey w % 64 in
+    cond (fresh w cells) (set (set cells (64 + i) (getD cells bucket 0)) bucket (cellOf w i)) cells
+
+-- The same with the first n words noted, each given by its place.
+unfoldable pub notedBefore : (ℕ → ℕ) → List ℕ → ℕ → List ℕ
+notedBefore word cells zero = cells
+notedBefore word cells (suc n) = noted (word n) n (notedBefore word cells n)
+
+-- Whether the word at i is good and fresh after those before it.
+unfoldable pub taken : (ℕ → Bool) → (ℕ → ℕ) → List ℕ → ℕ → Bool
+taken good word cells i = good i && fresh (word i) (notedBefore word cells i)
+
+-- The place of the first word from i on that is not taken, or that is `left` words further.
+unfoldable pub takenFrom : (ℕ → Bool) → (ℕ → ℕ) → List ℕ → ℕ → ℕ → ℕ
+takenFrom good word cells i zero = i
+takenFrom good word cells i (suc left) = cond (taken good word cells i) (takenFrom good word cells (suc i) left) i
+
+-- The cell of a message number and a tag; 0 where there is none. A tag over 65,535 is in no table.
+unfoldable pub cellFor : List ℕ → ℕ → ℕ → ℕ
+cellFor cells n t = cond (ltb t 65536) (search cells (keyOf n t)) 0
+
+-- The schema of an index.
+unfoldable pub indexed : List ℕ → Schema
+indexed cells = record { means = λ n t. meaningIn (cellFor cells n t) }

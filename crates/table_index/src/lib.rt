@@ -1,0 +1,156 @@
+// The index of a field table: for each message number and tag the kind and the inner number, found at once for any tag. Entries lie in 64
+// buckets by a hash of number and tag. A search compares the whole key, so that a bucket with several entries is slower and never wrong.
+use hproto_record::Record;
+use hproto_table::Meaning;
+ghost use mathlib.Core.Path.{_≡_};
+ghost use mathlib.Core.Bool.{true};
+ghost use Prim.Native.Nat.{_<_, _%_, min};
+ghost use lib.ListN.{length, getD};
+ghost use Rattle.hproto_table.specs.Entry.{entry};
+ghost use Rattle.hproto_table.specs.Load.{inRange, recordAt, wordAt, wellFormed};
+ghost use Rattle.table_index.specs.Cells.{keysFrom, wordKey, cellOf, meaningIn, search as search-of, fresh, noted, notedBefore, takenFrom, cellFor, indexed};
+
+// The first key of a message number. There is no test of the number in a search, so that a loop over fields computes this once.
+fn keys_from(number: u64) -> u64
+    ensures { λ r. ⌜ r ≡ keysFrom number ⌝ }
+{
+    if number < 16 { number * 65554 } else { 2097152 }
+}
+
+fn wide(x: u32) -> u64
+    ensures { λ r. ⌜ r ≡ x ⌝ }
+{
+    x as u64
+}
+
+// The cell with a key, 0 where there is none. In cells that no table gave a chain ends where the order does not fall.
+fn search(cells: &[u32; 128], key: u64) -> u64
+    ensures { λ r. ⌜ r ≡ search-of (now (cells .entry)) key ⌝ }
+{
+    let mut c = wide(cells[(key % 64) as usize]);
+    while c >> 11 != key {
+        if c == 0 {
+            return 0;
+        }
+        let next = wide(cells[(64 + c % 64) as usize]);
+        if c % 64 <= next % 64 {
+            return 0;
+        }
+        c = next;
+    }
+    c
+}
+
+// The key of the entry in a word.
+fn word_key(w: u64) -> u64
+    requires { ⌜ inRange (entry w) ≡ true ⌝ }
+    ensures { λ r. ⌜ r ≡ wordKey w ⌝ }
+{
+    (w >> 32) * 65554 + (w >> 16) % 65536
+}
+
+// The cell of a word that is the i-th of its table.
+fn cell_of(w: u64, i: usize) -> u32
+    requires { ⌜ inRange (entry w) ≡ true ⌝ }
+    requires { ⌜ i < 64 ⌝ }
+    ensures { λ r. ⌜ r ≡ cellOf w i ⌝ }
+{
+    let code = (w >> 8) % 256 + w % 256;
+    ((word_key(w) * 32 + code) * 64 + (i as u64)) as u32
+}
+
+// Notes a word as the i-th of its table and answers true, where no cell has its key.
+fn note(w: u64, i: usize, cells: &mut [u32; 128]) -> bool
+    requires { ⌜ inRange (entry w) ≡ true ⌝ }
+    requires { ⌜ i < 64 ⌝ }
+    ensures { λ r. ⌜ r ≡ fresh w (now (cells .entry)) ⌝ }
+    ensures { λ r. ⌜ now (cells .exit) ≡ noted w i (now (cells .entry)) ⌝ }
+{
+    let key = word_key(w);
+    if search(cells, key) != 0 {
+        return false;
+    }
+    let bucket = (key % 64) as usize;
+    cells[64 + i] = cells[bucket];
+    cells[bucket] = cell_of(w, i);
+    true
+}
+
+// Notes the records at the front of a table's octets up to the first that is faulty, and answers how many they are. In cells that were
+// cleared, the loader accepts the table where they are all, else it refuses the record after them.
+pub fn index(table: &[u8], cells: &mut [u32; 128]) -> usize
+    ensures { λ r. ⌜ r ≡ takenFrom (λ i. wellFormed (recordAt (now (table .entry)) i)) (wordAt (now (table .entry))) (now (cells .entry)) 0 64 ⌝ }
+    ensures { λ r. ⌜ now (cells .exit) ≡ notedBefore (wordAt (now (table .entry))) (now (cells .entry)) r ⌝ }
+{
+    let mut n: usize = 0;
+    while n < 64 {
+        let r = hproto_record::record_at(table, n * 8);
+        let Record::Word(w) = r else {
+            return n;
+        };
+        if !note(w, n, cells) {
+            return n;
+        }
+        n += 1;
+    }
+    n
+}
+
+// The same of words, of which at most 64 are noted. Those of a table that the loader can give are all noted.
+pub fn index_words(words: &[u64], cells: &mut [u32; 128]) -> usize
+    ensures { λ r. ⌜ r ≡ takenFrom (λ i. inRange (entry (getD (now (words .entry)) i 0))) (λ i. getD (now (words .entry)) i 0) (now (cells .entry)) 0 (min 64 (length (now (words .entry)))) ⌝ }
+    ensures { λ r. ⌜ now (cells .exit) ≡ notedBefore (λ i. getD (now (words .entry)) i 0) (now (cells .entry)) r ⌝ }
+{
+    let most = numbers::smaller(64, words.len());
+    let mut n: usize = 0;
+    while n < most {
+        let w = words[n];
+        if !hproto_record::in_range(w) {
+            return n;
+        }
+        if !note(w, n, cells) {
+            return n;
+        }
+        n += 1;
+    }
+    n
+}
+
+// The cell of a message number and a tag, 0 where there is none.
+pub fn cell(cells: &[u32; 128], number: u64, tag: u64) -> u64
+    ensures { λ r. ⌜ r ≡ cellFor (now (cells .entry)) number tag ⌝ }
+{
+    if 65535 < tag {
+        return 0;
+    }
+    search(cells, keys_from(number) + tag)
+}
+
+// What a cell means.
+pub fn meaning(c: u64) -> Meaning
+    ensures { λ r. ⌜ r ≡ meaningIn c ⌝ }
+{
+    let code = (c >> 6) % 32;
+    match code {
+        0 => Meaning::Raw,
+        1 => Meaning::Uint,
+        2 => Meaning::Int,
+        3 => Meaning::String,
+        4 => Meaning::Text,
+        _ => Meaning::Message(code - 5),
+    }
+}
+
+// The order in the table of the entry in a cell, from 0.
+pub fn order(c: u64) -> u64
+    ensures { λ r. ⌜ r ≡ c % 64 ⌝ }
+{
+    c % 64
+}
+
+// What a tag means in messages of a number.
+pub fn find(cells: &[u32; 128], number: u64, tag: u64) -> Meaning
+    ensures { λ r. ⌜ r ≡ indexed (now (cells .entry)) .means number tag ⌝ }
+{
+    meaning(cell(cells, number, tag))
+}
