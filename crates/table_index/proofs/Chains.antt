@@ -7,7 +7,7 @@ use mathlib.Core.List.{List}
 use lib.ListN.{getD}
 use lib.Dec.{eqb, ltb}
 use borrow.Author.Tests.{ltb-true, lt-ltb, le-ltb, eq-eqb, ne-eqb}
-use Rattle.table_index.specs.Cells.{keysFrom, chase}
+use Rattle.table_index.specs.Cells.{keysFrom, chase, search}
 
 -- ---- the first key of a number
 
@@ -63,3 +63,8 @@ module _ (cells : List ℕ) (key : ℕ) where
   -- From one cell to the next.
   pub chase-next : (c : ℕ) → (c / 2048 ≡ key → ⊥) → next c % 64 < c % 64 → chase 64 cells key c ≡ chase 64 cells key (next c)
   chase-next c d h = rw (chase-on 63 c d h) (chase-more 63 (next c) (omega arith))
+
+-- An empty bucket has no key.
+pub search-empty : (cells : List ℕ) (key : ℕ) → getD cells (key % 64) 0 ≡ 0 → search cells key ≡ 0
+unfolding search
+search-empty cells key e = rw e (chase-zero cells key 64)

@@ -6,7 +6,7 @@ use mathlib.Core.Path.{_≡_, refl, sym, _∙_}
 use mathlib.Core.Bool.{Bool, true, false, and-false}
 use mathlib.Core.List.{List}
 use lib.ListN.{take, drop, getD, set}
-use borrow.Author.Tests.{eq-eqb, ne-eqb}
+use lib.Dec.{eqb}
 use Rattle.hproto_table.specs.Entry.{entry}
 use Rattle.hproto_table.specs.Load.{inRange, recordAt, wordAt, wellFormed}
 use Rattle.hproto_table.proofs.Load.{wellFormed-range}
@@ -17,18 +17,22 @@ use Rattle.table_index.specs.Cells.{wordKey, cellOf, search, fresh, note
 
 -- ---- one word
 
-module _ (w i : ℕ) (cells : List ℕ) {key found : ℕ} (known : key ≡ wordKey w) (searched : found ≡ search cells key) where
-  pub note-seen : (found ≡ 0 → ⊥) → (false ≡ fresh w cells) × (cells ≡ noted w i cells)
-  unfolding noted fresh
-  note-seen d =
-      let z = ne-eqb (search cells (wordKey w)) 0 (λ e. d (searched ∙ rw known e)) in
+module _ (w i : ℕ) (cells : List ℕ) {key : ℕ} {lacked : Bool} (known : key ≡ wordKey w) (searched : lacked ≡ eqb (search cells key) 0) where
+  lacked-is : fresh w cells ≡ lacked
+  unfolding fresh
+  lacked-is = rw (searched, known) refl
+
+  pub note-seen : lacked ≡ false → (false ≡ fresh w cells) × (cells ≡ noted w i cells)
+  unfolding noted
+  note-seen e =
+      let z : fresh w cells ≡ false = lacked-is ∙ e in
       (sym z, rw z refl)
 
-  pub note-fresh : {cell : ℕ} → found ≡ 0 → cell ≡ cellOf w i
+  pub note-fresh : {cell : ℕ} → lacked ≡ true → cell ≡ cellOf w i
       → (true ≡ fresh w cells) × (set (set cells (64 + i) (getD cells (key % 64) 0)) (key % 64) cell ≡ noted w i cells)
-  unfolding noted fresh
+  unfolding noted
   note-fresh e f =
-      let z = eq-eqb (search cells (wordKey w)) 0 (rw (← known) (sym searched ∙ e)) in
+      let z : fresh w cells ≡ true = lacked-is ∙ e in
       (sym z, rw (z, known, f) refl)
 
 -- ---- word after word

@@ -5,6 +5,7 @@ use hproto_table::Meaning;
 ghost use mathlib.Core.Path.{_≡_};
 ghost use mathlib.Core.Bool.{true};
 ghost use Prim.Native.Nat.{_<_, _%_, min};
+ghost use lib.Dec.{eqb};
 ghost use lib.ListN.{length, getD};
 ghost use Rattle.hproto_table.specs.Entry.{entry};
 ghost use Rattle.hproto_table.specs.Load.{inRange, recordAt, wordAt, wellFormed};
@@ -59,6 +60,16 @@ fn cell_of(w: u64, i: usize) -> u32
     ((word_key(w) * 32 + code) * 64 + (i as u64)) as u32
 }
 
+// Whether no cell has a key. Most buckets are empty while a table is noted, so that case is tested first.
+fn lacks(cells: &[u32; 128], key: u64) -> bool
+    ensures { λ r. ⌜ r ≡ eqb (search-of (now (cells .entry)) key) 0 ⌝ }
+{
+    if cells[(key % 64) as usize] == 0 {
+        return true;
+    }
+    search(cells, key) == 0
+}
+
 // Notes a word as the i-th of its table and answers true, where no cell has its key.
 fn note(w: u64, i: usize, cells: &mut [u32; 128]) -> bool
     requires { ⌜ inRange (entry w) ≡ true ⌝ }
@@ -67,7 +78,7 @@ fn note(w: u64, i: usize, cells: &mut [u32; 128]) -> bool
     ensures { λ r. ⌜ now (cells .exit) ≡ noted w i (now (cells .entry)) ⌝ }
 {
     let key = word_key(w);
-    if search(cells, key) != 0 {
+    if !lacks(cells, key) {
         return false;
     }
     let bucket = (key % 64) as usize;

@@ -1,4 +1,5 @@
 -- `note` changes the cells only where the key is new.
+use borrow.Author.Tests.{not-true, not-false}
 use Rattle.table_index.proofs.Noting.{note-seen, note-fresh}
 use borrow.Author.Needs.{needs}
 use Rattle.table_index.proofs.note.Statement.{statement}
@@ -7,13 +8,13 @@ use Rattle.table_index.proofs.note.Tie as tie
 word-key-requires : tie.Need-word-key-requires
 word-key-requires c κs = search needs
 
-search-requires : tie.Need-search-requires
-search-requires c κs = search needs
+lacks-requires : tie.Need-lacks-requires
+lacks-requires c κs = search needs
 
 returns : tie.Need-returns
 returns c =
     let a = c .before .before .before .before .args in
-    note-seen (a .w) (a .i) (a .cells .now) (c .before .before .before .word-key .ensures) (c .before .search .ensures) (c .if1 .taken)
+    note-seen (a .w) (a .i) (a .cells .now) (c .before .before .before .word-key .ensures) (c .before .lacks .ensures) (not-true (c .before .lacks .result) (c .if1 .taken))
 
 mul-cells : tie.Need-mul-cells
 mul-cells c = search needs
@@ -42,15 +43,15 @@ element-write-cells-2 c = search needs
 returns-2 : tie.Need-returns-2
 returns-2 c =
     let a = c .before .before .before .before .before .before .args in
-    note-fresh (a .w) (a .i) (a .cells .now) (c .before .before .before .before .before .word-key .ensures) (c .before .before .before .search .ensures)
-    (c .before .before .if1 .left) (c .cell-of .ensures)
+    note-fresh (a .w) (a .i) (a .cells .now) (c .before .before .before .before .before .word-key .ensures) (c .before .before .before .lacks .ensures)
+    (not-false (c .before .before .before .lacks .result) (c .before .before .if1 .left)) (c .cell-of .ensures)
 
 pub note-spec : {M : Type 1} → statement M
 note-spec =
     tie.close
     (tie.spec
     word-key-requires
-    search-requires
+    lacks-requires
     returns
     mul-cells
     element-copy-out-cells
