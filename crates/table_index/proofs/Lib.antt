@@ -2,3 +2,6 @@ pub mod Chains
 pub mod Meanings
 pub mod Words
 pub mod Noting
+pub mod Found
+pub mod Taken
+pub mod Loaded

@@ -1,0 +1,173 @@
+-- What a search finds in cells in which words were noted: the cell of the last word with the key.
+use Prim.Native.Nat.{ℕ, zero, suc, _+_, _*_, _/_, _%_, _≤_, _<_}
+use native.Mathlib.Omega.{arith}
+use mathlib.Core.Path.{_≡_, refl, sym, ap, subst, _∙_}
+use mathlib.Core.Bool.{Bool, true, false, cond}
+use mathlib.Core.List.{List}
+use lib.ListN.{length, getD, set, replicate, length-set, length-replicate, getD-replicate}
+use lib.Seq.{getD-set-same, getD-set-other}
+use lib.Dec.{eqb, ltb}
+use borrow.Author.Tests.{eqb-true, eqb-false, ltb-true, ltb-false}
+use Rattle.table_index.specs.Cells.{wordKey, cellOf, chase, search, fresh, noted, notedBefore}
+use Rattle.table_index.proofs.Chains.{chase-zero, chase-here, chase-ends, chase-on, chase-more, search-empty}
+use Rattle.table_index.proofs.Words.{Small, cell-key, cell-order}
+
+-- A cell is 0 or of an order below n.
+abbrev Older : ℕ → ℕ → Type 0
+Older n c = (c ≡ 0 → ⊥) → c % 64 < n
+
+-- ---- one word more
+
+-- The cells with `new` as the head of a bucket and `old` behind it, for the entry n.
+module _ (cells : List ℕ) (n bucket old new : ℕ) (head : bucket < 64) where
+  abbrev After : List ℕ
+  After = set (set cells (64 + n) old) bucket new
+
+  link-kept : (i : ℕ) → i < n → getD After (64 + i) 0 ≡ getD cells (64 + i) 0
+  link-kept i h =
+      getD-set-other (set cells (64 + n) old) bucket (64 + i) new 0 (λ e. omega arith) ∙ getD-set-other cells (64 + n) (64 + i) old 0 (λ e. omega arith)
+
+  head-kept : (h : ℕ) → h < 64 → (h ≡ bucket → ⊥) → getD After h 0 ≡ getD cells h 0
+  head-kept h l d =
+      getD-set-other (set cells (64 + n) old) bucket h new 0 d ∙ getD-set-other cells (64 + n) h old 0 (λ e. omega arith)
+
+  -- A chain of older cells is as it was.
+  chase-kept : (key room c : ℕ) → Older n c → chase room After key c ≡ chase room cells key c
+  unfolding chase
+  chase-kept key zero c low = refl
+  chase-kept key (suc room) c low = by-cell (eqb c 0) refl (chase-kept key room (getD cells (64 + c % 64) 0))
+    where
+      next : ℕ
+      next = getD cells (64 + c % 64) 0
+
+      by-order : (t : Bool) → ltb (next % 64) (c % 64) ≡ t → (Older n next → chase room After key next ≡ chase room cells key next) → c % 64 < n
+          → cond (eqb (c / 2048) key) c (cond t (chase room After key next) 0) ≡ cond (eqb (c / 2048) key) c (cond t (chase room cells key next) 0)
+      by-order true e rest h = rw (rest (λ d. omega (arith, ltb-true (next % 64) (c % 64) e))) refl
+      by-order false e rest h = refl
+
+      by-cell : (t : Bool) → eqb c 0 ≡ t → (Older n next → chase room After key next ≡ chase room cells key next)
+          → chase (suc room) After key c ≡ chase (suc room) cells key c
+      by-cell true e rest = rw (eqb-true c 0 e) (chase-zero After key (suc room) ∙ sym (chase-zero cells key (suc room)))
+      by-cell false e rest =
+          let h = low (eqb-false c 0 e) in
+          rw (link-kept (c % 64) h) (by-order (ltb (next % 64) (c % 64)) refl rest h)
+
+module _ (w n : ℕ) (s : Small w) (few : n < 64) (cells : List ℕ) (long : length cells ≡ 128) (low : (h : ℕ) → h < 64 → Older n (getD cells h 0)) where
+  abbrev Bucket : ℕ
+  Bucket = wordKey w % 64
+
+  abbrev Old : ℕ
+  Old = getD cells Bucket 0
+
+  abbrev With : List ℕ
+  With = set (set cells (64 + n) Old) Bucket (cellOf w n)
+
+  bucket-low : Bucket < 64
+  bucket-low = omega arith
+
+  long-with : length With ≡ 128
+  long-with = length-set (set cells (64 + n) Old) Bucket (cellOf w n) ∙ length-set cells (64 + n) Old ∙ long
+
+  head-is : getD With Bucket 0 ≡ cellOf w n
+  head-is = getD-set-same (set cells (64 + n) Old) Bucket (cellOf w n) 0 (omega (arith, length-set cells (64 + n) Old, long, bucket-low))
+
+  link-is : getD With (64 + n) 0 ≡ Old
+  link-is =
+      getD-set-other (set cells (64 + n) Old) Bucket (64 + n) (cellOf w n) 0 (λ e. omega (arith, bucket-low, e)) ∙ getD-set-same cells (64 + n) Old 0 (omega (arith, long))
+
+  low-with : (h : ℕ) → h < 64 → Older (suc n) (getD With h 0)
+  low-with h l = go (eqb h Bucket) refl
+    where
+      go : (t : Bool) → eqb h Bucket ≡ t → Older (suc n) (getD With h 0)
+      go true e = rw (eqb-true h Bucket e, head-is) (λ d. omega (arith, cell-order w s n few))
+      go false e = rw (head-kept cells n Bucket Old (cellOf w n) bucket-low h l (eqb-false h Bucket e)) (λ d. omega (arith, low h l d))
+
+  found-own : search With (wordKey w) ≡ cellOf w n
+  unfolding search
+  found-own = rw head-is (chase-here With (wordKey w) 63 (cellOf w n) (cell-key w s n few))
+
+  next-is : getD With (64 + cellOf w n % 64) 0 ≡ Old
+  next-is = rw (cell-order w s n few) link-is
+
+  module _ (key : ℕ) (other : wordKey w ≡ key → ⊥) where
+    not-here : cellOf w n / 2048 ≡ key → ⊥
+    not-here e = other (sym (cell-key w s n few) ∙ e)
+
+    -- Behind the new head stands the old one.
+    past-head : (t : Bool) → eqb Old 0 ≡ t → chase 64 With key (cellOf w n) ≡ chase 64 cells key Old
+    past-head true e = go (ltb 0 n) refl ∙ sym (rw (eqb-true Old 0 e) (chase-zero cells key 64))
+      where
+        go : (t : Bool) → ltb 0 n ≡ t → chase 64 With key (cellOf w n) ≡ 0
+        go true p =
+            chase-on With key 63 (cellOf w n) not-here (omega (arith, next-is, eqb-true Old 0 e, cell-order w s n few, ltb-true 0 n p))
+            ∙ ap (chase 63 With key) (next-is ∙ eqb-true Old 0 e)
+            ∙ chase-zero With key 63
+        go false p = chase-ends With key 63 (cellOf w n) not-here (omega (arith, cell-order w s n few, ltb-false 0 n p))
+    past-head false e =
+        let older = low Bucket bucket-low in
+        let h = older (eqb-false Old 0 e) in
+        chase-on With key 63 (cellOf w n) not-here (omega (arith, next-is, h, cell-order w s n few))
+        ∙ ap (chase 63 With key) next-is
+        ∙ chase-kept cells n Bucket Old (cellOf w n) bucket-low key 63 Old older
+        ∙ chase-more cells key 63 Old (omega (arith, h))
+
+    found-other : search With key ≡ search cells key
+    unfolding search
+    found-other = go (eqb (key % 64) Bucket) refl
+      where
+        go : (t : Bool) → eqb (key % 64) Bucket ≡ t → chase 64 With key (getD With (key % 64) 0) ≡ chase 64 cells key (getD cells (key % 64) 0)
+        go true e = rw (eqb-true (key % 64) Bucket e, head-is) (past-head (eqb Old 0) refl)
+        go false e =
+            rw (head-kept cells n Bucket Old (cellOf w n) bucket-low (key % 64) (omega arith) (eqb-false (key % 64) Bucket e))
+            (chase-kept cells n Bucket Old (cellOf w n) bucket-low key 64 (getD cells (key % 64) 0) (low (key % 64) (omega arith)))
+
+-- ---- all words
+
+-- The cell of the last of the first k words with a key; 0 where there is none.
+unfoldable pub standing : (ℕ → ℕ) → ℕ → ℕ → ℕ
+standing word zero key = 0
+standing word (suc k) key = cond (eqb (wordKey (word k)) key) (cellOf (word k) k) (standing word k key)
+
+-- The cells after some words, with nothing before them.
+abbrev pub made : (ℕ → ℕ) → ℕ → List ℕ
+made word k = notedBefore word (replicate 128 0) k
+
+record Stands (word : ℕ → ℕ) (k : ℕ) (cells : List ℕ) : Type 0 where
+  pub long : length cells ≡ 128
+  pub low : (h : ℕ) → h < 64 → Older k (getD cells h 0)
+  pub found : (key : ℕ) → search cells key ≡ standing word k key
+
+module _ (word : ℕ → ℕ) where
+  stands-none : Stands word 0 (replicate 128 0)
+  unfolding standing
+  stands-none =
+      record {
+        long = length-replicate {A = ℕ} 128 0;
+        low = λ h l d. absurd (d (getD-replicate 128 h 0 0 (omega arith)));
+        found = λ key. search-empty (replicate 128 0) key (getD-replicate 128 (key % 64) 0 0 (omega arith));
+      }
+
+  stands-more : (k : ℕ) (cells : List ℕ) → k < 64 → Small (word k) → fresh (word k) cells ≡ true → Stands word k cells → Stands word (suc k) (noted (word k) k cells)
+  unfolding noted standing
+  stands-more k cells few s new st =
+      subst (λ (t : Bool). Stands word (suc k) (cond t (With (word k) k s few cells (st .long) (st .low)) cells)) (sym new)
+      record {
+        long = long-with (word k) k s few cells (st .long) (st .low);
+        low = low-with (word k) k s few cells (st .long) (st .low);
+        found = λ key. go key (eqb (wordKey (word k)) key) refl;
+      }
+    where
+      go : (key : ℕ) (t : Bool) → eqb (wordKey (word k)) key ≡ t
+          → search (With (word k) k s few cells (st .long) (st .low)) key ≡ cond t (cellOf (word k) k) (standing word k key)
+      go key true e = rw (← eqb-true (wordKey (word k)) key e) (found-own (word k) k s few cells (st .long) (st .low))
+      go key false e = found-other (word k) k s few cells (st .long) (st .low) key (eqb-false (wordKey (word k)) key e) ∙ st .found key
+
+  stands : (k : ℕ) → k ≤ 64 → ((j : ℕ) → j < k → Small (word j)) → ((j : ℕ) → j < k → fresh (word j) (made word j) ≡ true) → Stands word k (made word k)
+  unfolding notedBefore
+  stands zero few small new = stands-none
+  stands (suc k) few small new =
+      stands-more k (made word k) few (small k (omega arith)) (new k (omega arith)) (stands k (omega arith) (λ j l. small j (omega arith)) (λ j l. new j (omega arith)))
+
+  pub found-standing : (k : ℕ) → k ≤ 64 → ((j : ℕ) → j < k → Small (word j)) → ((j : ℕ) → j < k → fresh (word j) (made word j) ≡ true)
+      → (key : ℕ) → search (made word k) key ≡ standing word k key
+  found-standing k few small new = stands k few small new .found

@@ -1,0 +1,223 @@
+-- An index in cells that were cleared shows the words that were taken.
+use Prim.Native.Nat.{ℕ, zero, suc, _+_, _/_, _%_, _≤_, _<_}
+use native.Mathlib.Omega.{arith}
+use mathlib.Core.Path.{_≡_, refl, sym, ap, _∙_}
+use mathlib.Core.Bool.{Bool, true, false, cond, not, _&&_, _||_, or-true, or-false, and-false}
+use mathlib.Core.List.{List, [], _∷_, _++_, map}
+use lib.ListN.{replicate}
+use lib.Seq.{append-snoc}
+use lib.Dec.{eqb, ltb}
+use borrow.Author.Tests.{eqb-true, eqb-false, eq-eqb, ne-eqb, ltb-true, ltb-false}
+use Rattle.hproto_table.specs.Entry.{entry, find, meaning}
+use Rattle.hproto_table.specs.Load.{pair, seen}
+use Rattle.hproto_table.specs.Schema.{schemaOf}
+use Rattle.hproto_table.specs.Repeat.{distinct}
+use Rattle.hproto_table.specs.declared.Meaning.the-variants.{Raw}
+use Rattle.hproto_table.proofs.Bools.{and-left, and-right}
+use Rattle.hproto_table.proofs.Repeat.{seen-append, seen-one}
+use Rattle.hproto_table.proofs.Schemas.{same-schema}
+use Rattle.hproto_table.proofs.Valid.{distinct-snoc}
+use Rattle.table_index.specs.Cells.{keyOf, wordKey, cellOf, meaningIn, search, fresh, notedBefore, taken, takenFrom, cellFor, indexed}
+use Rattle.table_index.proofs.Meanings.{raw}
+use Rattle.table_index.proofs.Words.{Small, cell-some, cell-order, cell-means, key-fits, key-pair}
+use Rattle.table_index.proofs.Found.{standing, made, found-standing}
+
+-- The first k words, each given by its place.
+unfoldable pub wordsOf : (ℕ → ℕ) → ℕ → List ℕ
+wordsOf word zero = []
+wordsOf word (suc k) = wordsOf word k ++ (word k ∷ [])
+
+-- ---- the words with a key
+
+-- Whether a word's entry is for a number and a tag.
+abbrev fits : ℕ → ℕ → ℕ → Bool
+fits n t w = eqb (entry w .number) n && eqb (entry w .tag) t
+
+module _ (word : ℕ → ℕ) where
+  abbrev SmallBefore : ℕ → Type 0
+  SmallBefore k = (j : ℕ) → j < k → Small (word j)
+
+  -- A pair was seen exactly where a cell stands for its key.
+  seen-standing : (w k : ℕ) → Small w → k ≤ 64 → SmallBefore k → seen (pair w) (wordsOf word k) ≡ not (eqb (standing word k (wordKey w)) 0)
+  unfolding wordsOf standing seen
+  seen-standing w zero s few small = refl
+  seen-standing w (suc k) s few small =
+      seen-append (pair w) (wordsOf word k) (word k ∷ [])
+      ∙ rw (seen-one (pair w) (word k), ← key-pair w s (word k) (small k (omega arith)), seen-standing w k s (omega arith) (λ j l. small j (omega arith)))
+      (go (eqb (wordKey (word k)) (wordKey w)))
+    where
+      go : (t : Bool) → not (eqb (standing word k (wordKey w)) 0) || t ≡ not (eqb (cond t (cellOf (word k) k) (standing word k (wordKey w))) 0)
+      go true = rw (ne-eqb (cellOf (word k) k) 0 (cell-some (word k) (small k (omega arith)) k few)) (or-true (not (eqb (standing word k (wordKey w)) 0)))
+      go false = or-false (not (eqb (standing word k (wordKey w)) 0))
+
+  module _ (n t : ℕ) (h : t < 65536) where
+    -- Words of which none stands for a key are passed over.
+    find-past : (k : ℕ) → SmallBefore k → k ≤ 64 → standing word k (keyOf n t) ≡ 0 → (ws : List ℕ) → find (map entry (wordsOf word k ++ ws)) n t ≡ find (map entry ws) n t
+    unfolding wordsOf standing find
+    find-past zero small few e ws = refl
+    find-past (suc k) small few e ws =
+        go (eqb (wordKey (word k)) (keyOf n t)) refl e (λ z. find-past k (λ j l. small j (omega arith)) (omega arith) z (word k ∷ ws))
+      where
+        go : (b : Bool) → eqb (wordKey (word k)) (keyOf n t) ≡ b → cond b (cellOf (word k) k) (standing word k (keyOf n t)) ≡ 0
+            → (standing word k (keyOf n t) ≡ 0 → find (map entry (wordsOf word k ++ (word k ∷ ws))) n t ≡ find (map entry (word k ∷ ws)) n t)
+            → find (map entry (wordsOf word (suc k) ++ ws)) n t ≡ find (map entry ws) n t
+        go true p z rest = absurd (cell-some (word k) (small k (omega arith)) k few z)
+        go false p z rest =
+            let f : fits n t (word k) ≡ false = sym (key-fits (word k) (small k (omega arith)) n t h) ∙ p in
+            ap (λ (l : List ℕ). find (map entry l) n t) (append-snoc (wordsOf word k) (word k) ws) ∙ rest z ∙ rw f refl
+
+    find-snoc : (ws : List ℕ) (w : ℕ) → fits n t w ≡ false → find (map entry (ws ++ (w ∷ []))) n t ≡ find (map entry ws) n t
+    unfolding find
+    find-snoc [] w e = rw e refl
+    find-snoc (x ∷ ws) w e = rw (find-snoc ws w e) refl
+
+    -- The cell that stands for a key means what the first word for its number and tag says, where no key stood before its word.
+    find-standing : (k : ℕ) → SmallBefore k → k ≤ 64 → ((j : ℕ) → j < k → standing word j (wordKey (word j)) ≡ 0)
+        → meaningIn (standing word k (keyOf n t)) ≡ find (map entry (wordsOf word k)) n t
+    unfolding wordsOf standing find
+    find-standing zero small few new = sym (raw 0 refl)
+    find-standing (suc k) small few new =
+        go (eqb (wordKey (word k)) (keyOf n t)) refl (find-standing k (λ j l. small j (omega arith)) (omega arith) (λ j l. new j (omega arith)))
+      where
+        s : Small (word k)
+        s = small k (omega arith)
+
+        go : (b : Bool) → eqb (wordKey (word k)) (keyOf n t) ≡ b → meaningIn (standing word k (keyOf n t)) ≡ find (map entry (wordsOf word k)) n t
+            → meaningIn (cond b (cellOf (word k) k) (standing word k (keyOf n t))) ≡ find (map entry (wordsOf word k ++ (word k ∷ []))) n t
+        go true p rest =
+            let f : fits n t (word k) ≡ true = sym (key-fits (word k) s n t h) ∙ p in
+            let z : standing word k (keyOf n t) ≡ 0 = ap (standing word k) (sym (eqb-true (wordKey (word k)) (keyOf n t) p)) ∙ new k (omega arith) in
+            cell-means (word k) s k few ∙ sym (find-past k (λ j l. small j (omega arith)) (omega arith) z (word k ∷ []) ∙ rw f refl)
+        go false p rest =
+            let f : fits n t (word k) ≡ false = sym (key-fits (word k) s n t h) ∙ p in
+            rest ∙ sym (find-snoc (wordsOf word k) (word k) f)
+
+  -- A cell that stands for a key has the order of a word with that key.
+  pub standing-order : (k key : ℕ) → SmallBefore k → k ≤ 64 → (standing word k key ≡ 0 → ⊥) → (standing word k key % 64 < k) × (wordKey (word (standing word k key % 64)) ≡ key)
+  unfolding standing
+  standing-order zero key small few d = absurd (d refl)
+  standing-order (suc k) key small few d = go (eqb (wordKey (word k)) key) refl d (standing-order k key (λ j l. small j (omega arith)) (omega arith))
+    where
+      go : (b : Bool) → eqb (wordKey (word k)) key ≡ b → (cond b (cellOf (word k) k) (standing word k key) ≡ 0 → ⊥)
+          → ((standing word k key ≡ 0 → ⊥) → (standing word k key % 64 < k) × (wordKey (word (standing word k key % 64)) ≡ key))
+          → (cond b (cellOf (word k) k) (standing word k key) % 64 < suc k) × (wordKey (word (cond b (cellOf (word k) k) (standing word k key) % 64)) ≡ key)
+      go true p d rest =
+          let o = cell-order (word k) (small k (omega arith)) k few in
+          (omega (arith, o), rw o (eqb-true (wordKey (word k)) key p))
+      go false p d rest = (omega (arith, rest d .0), rest d .1)
+
+-- ---- the words that were taken
+
+taken-few : (good : ℕ → Bool) (word : ℕ → ℕ) (cells : List ℕ) (left i : ℕ) → takenFrom good word cells i left ≤ i + left
+unfolding takenFrom
+taken-few good word cells zero i = omega arith
+taken-few good word cells (suc left) i = go (taken good word cells i) (taken-few good word cells left (suc i))
+  where
+    go : (a : Bool) → takenFrom good word cells (suc i) left ≤ suc i + left → cond a (takenFrom good word cells (suc i) left) i ≤ i + suc left
+    go true h = omega arith
+    go false h = omega arith
+
+taken-each : (good : ℕ → Bool) (word : ℕ → ℕ) (cells : List ℕ) (left i j : ℕ) → i ≤ j → j < takenFrom good word cells i left → taken good word cells j ≡ true
+unfolding takenFrom
+taken-each good word cells zero i j h l = absurd (omega arith)
+taken-each good word cells (suc left) i j h l = go (taken good word cells i) refl l (eqb i j) refl (λ a b. taken-each good word cells left (suc i) j a b)
+  where
+    go : (a : Bool) → taken good word cells i ≡ a → j < cond a (takenFrom good word cells (suc i) left) i → (b : Bool) → eqb i j ≡ b
+        → (suc i ≤ j → j < takenFrom good word cells (suc i) left → taken good word cells j ≡ true) → taken good word cells j ≡ true
+    go false e m b q rest = absurd (omega arith)
+    go true e m true q rest = rw (← eqb-true i j q) e
+    go true e m false q rest = rest (omega (arith, eqb-false i j q)) m
+
+taken-stops : (good : ℕ → Bool) (word : ℕ → ℕ) (cells : List ℕ) (left i : ℕ) → takenFrom good word cells i left < i + left
+    → taken good word cells (takenFrom good word cells i left) ≡ false
+unfolding takenFrom
+taken-stops good word cells zero i l = absurd (omega arith)
+taken-stops good word cells (suc left) i l = go (taken good word cells i) refl l (taken-stops good word cells left (suc i))
+  where
+    go : (a : Bool) → taken good word cells i ≡ a → cond a (takenFrom good word cells (suc i) left) i < i + suc left
+        → (takenFrom good word cells (suc i) left < suc i + left → taken good word cells (takenFrom good word cells (suc i) left) ≡ false)
+        → taken good word cells (cond a (takenFrom good word cells (suc i) left) i) ≡ false
+    go true e m rest = rest (omega arith)
+    go false e m rest = e
+
+-- A tag over 65,535 is in no word.
+find-large : (ws : List ℕ) (n t : ℕ) → 65536 ≤ t → find (map entry ws) n t ≡ Raw
+unfolding find entry
+find-large [] n t h = refl
+find-large (w ∷ ws) n t h =
+    let e : eqb (w / 65536 % 65536) t ≡ false = ne-eqb (w / 65536 % 65536) t (λ q. omega arith) in
+    rw (e, and-false (eqb (w / 4294967296) n)) (find-large ws n t h)
+
+module _ (good : ℕ → Bool) (word : ℕ → ℕ) (range : (j : ℕ) → good j ≡ true → Small (word j)) (most : ℕ) (few : most ≤ 64)
+    (k : ℕ) (count : k ≡ takenFrom good word (replicate 128 0) 0 most) where
+  pub within : k ≤ most
+  within = omega (arith, taken-few good word (replicate 128 0) most 0)
+
+  each : (j : ℕ) → j < k → taken good word (replicate 128 0) j ≡ true
+  each j l = taken-each good word (replicate 128 0) most 0 j (omega arith) (omega arith)
+
+  pub each-good : (j : ℕ) → j < k → good j ≡ true
+  unfolding taken
+  each-good j l = and-left (good j) (fresh (word j) (made word j)) (each j l)
+
+  each-fresh : (j : ℕ) → j < k → fresh (word j) (made word j) ≡ true
+  unfolding taken
+  each-fresh j l = and-right (good j) (fresh (word j) (made word j)) (each j l)
+
+  small-before : (i : ℕ) → i ≤ k → (j : ℕ) → j < i → Small (word j)
+  small-before i h j l = range j (each-good j (omega arith))
+
+  found : (i : ℕ) → i ≤ k → (key : ℕ) → search (made word i) key ≡ standing word i key
+  found i h = found-standing word i (omega (arith, within)) (small-before i h) (λ j l. each-fresh j (omega arith))
+
+  -- A good word is fresh exactly where its pair was not seen.
+  seen-is : (i : ℕ) → i ≤ k → good i ≡ true → seen (pair (word i)) (wordsOf word i) ≡ not (fresh (word i) (made word i))
+  unfolding fresh
+  seen-is i h g =
+      seen-standing word (word i) i (range i g) (omega (arith, within)) (small-before i h) ∙ rw (found i h (wordKey (word i))) refl
+
+  pub apart : (i : ℕ) → i ≤ k → distinct (wordsOf word i) ≡ true
+  unfolding wordsOf distinct
+  apart zero h = refl
+  apart (suc i) h =
+      distinct-snoc (wordsOf word i) (word i) (apart i (omega arith)) (seen-is i (omega arith) (each-good i h) ∙ rw (each-fresh i h) refl)
+
+  -- The word at which it stops is not good, or its pair was seen.
+  pub stopped : k < most → good k ≡ true → seen (pair (word k)) (wordsOf word k) ≡ true
+  unfolding taken
+  stopped l g =
+      let e : good k && fresh (word k) (made word k) ≡ false =
+      ap (taken good word (replicate 128 0)) count ∙ taken-stops good word (replicate 128 0) most 0 (omega arith) in
+      let f : fresh (word k) (made word k) ≡ false = ap (λ (b : Bool). b && fresh (word k) (made word k)) (sym g) ∙ e in
+      seen-is k (omega arith) g ∙ rw f refl
+
+  new-before : (j : ℕ) → j < k → standing word j (wordKey (word j)) ≡ 0
+  unfolding fresh
+  new-before j l = sym (found j (omega arith) (wordKey (word j))) ∙ eqb-true (search (made word j) (wordKey (word j))) 0 (each-fresh j l)
+
+  pub same-taken : indexed (made word k) ≡ schemaOf (map entry (wordsOf word k))
+  unfolding indexed cellFor schemaOf
+  same-taken = same-schema (indexed (made word k)) (schemaOf (map entry (wordsOf word k))) (λ n t. go n t (ltb t 65536) refl)
+    where
+      go : (n t : ℕ) (b : Bool) → ltb t 65536 ≡ b → meaningIn (cond b (search (made word k) (keyOf n t)) 0) ≡ find (map entry (wordsOf word k)) n t
+      go n t true e =
+          ap meaningIn (found k (omega arith) (keyOf n t))
+          ∙ find-standing word n t (ltb-true t 65536 e) k (small-before k (omega arith)) (omega (arith, within)) new-before
+      go n t false e = sym (raw 0 refl) ∙ sym (find-large (wordsOf word k) n t (ltb-false t 65536 e))
+
+  -- The cell of a number and a tag has the order of the word whose entry is for them.
+  abbrev Ordered : ℕ → ℕ → ℕ → Type 0
+  Ordered n t c = (c % 64 < k) × (fits n t (word (c % 64)) ≡ true)
+
+  pub order-taken : (n t : ℕ) → (cellFor (made word k) n t ≡ 0 → ⊥) → Ordered n t (cellFor (made word k) n t)
+  unfolding cellFor
+  order-taken n t d = go (ltb t 65536) refl d
+    where
+      go : (b : Bool) → ltb t 65536 ≡ b → (cond b (search (made word k) (keyOf n t)) 0 ≡ 0 → ⊥) → Ordered n t (cond b (search (made word k) (keyOf n t)) 0)
+      go true e d =
+          let f = found k (omega arith) (keyOf n t) in
+          let c = standing word k (keyOf n t) in
+          let o = standing-order word k (keyOf n t) (small-before k (omega arith)) (omega (arith, within)) (λ z. d (f ∙ z)) in
+          let s = small-before k (omega arith) (c % 64) (o .0) in
+          rw f (o .0, sym (key-fits (word (c % 64)) s n t (ltb-true t 65536 e)) ∙ eq-eqb (wordKey (word (c % 64))) (keyOf n t) (o .1))
+      go false e d = absurd (d refl)
