@@ -3,22 +3,22 @@ use Prim.Native.Nat.{ℕ, zero, suc, _*_, _%_, _≤_, _<_, min}
 use native.Mathlib.Numerals.{add-one}
 use native.Mathlib.Omega.{arith}
 use mathlib.Core.Path.{_≡_, refl, sym, ap, _∙_}
-use mathlib.Core.Bool.{Bool, true, false, not, _&&_, _||_, and-false}
+use mathlib.Core.Bool.{Bool, true, false, not, _&&_, _||_, and-false, true≢false, false≢true}
 use mathlib.Core.List.{List, [], _∷_, map}
-use lib.ListN.{length, take, getD, replicate}
+use lib.ListN.{length, take, getD, replicate, length-take}
 use lib.Seq.{take-length}
 use lib.Dec.{eqb, leb, ltb}
-use borrow.Author.Tests.{eqb-true, eq-eqb, ne-eqb, ltb-true, ltb-false}
+use borrow.Author.Tests.{eqb-true, eqb-false, ltb-true, ltb-false}
 use Rattle.hproto_table.specs.Entry.{entry, entries}
 use Rattle.hproto_table.specs.Load.{inRange, recordAt, wordAt, wellFormed, wordsBefore, pair, seen, faulty, accepted, refused, load}
 use Rattle.hproto_table.specs.Repeat.{distinct, firstRepeat}
 use Rattle.hproto_table.specs.Schema.{schemaOf, schema}
 use Rattle.hproto_table.specs.Valid.{allInRange, valid}
 use Rattle.hproto_table.specs.declared.Table.{Table}
-use Rattle.hproto_table.proofs.Bools.{or-first, or-second}
+use Rattle.hproto_table.proofs.Bools.{and-both, or-first, or-second}
 use Rattle.hproto_table.proofs.Lists.{take-more}
 use Rattle.hproto_table.proofs.Load.{length-words, load-whole, load-fault, faulty-form, faulty-late, wellFormed-range}
-use Rattle.hproto_table.proofs.Repeat.{distinct-is}
+use Rattle.hproto_table.proofs.Repeat.{distinct-is, seen-at}
 use Rattle.hproto_table.proofs.Schemas.{words-schema}
 use Rattle.hproto_table.proofs.Valid.{range-at, parts}
 use Rattle.table_index.specs.Cells.{notedBefore, takenFrom, indexed}
@@ -79,3 +79,80 @@ module _ (s : List ℕ) (n : ℕ) (count : n ≡ takenFrom (λ i. wellFormed (re
   unfolding accepted
   octets-schema cells e h =
       rw (e, octets-accepted h, words-schema (wordsBefore s n), ← words-are s n) (same-taken good (wordAt s) range 64 (omega arith) n count)
+
+-- ---- from words
+
+words-taken : (ws : List ℕ) (k : ℕ) → k ≤ length ws → wordsOf (λ i. getD ws i 0) k ≡ take k ws
+unfolding wordsOf
+words-taken ws zero h = refl
+words-taken ws (suc k) h = rw (words-taken ws k (omega arith), ← add-one k) (sym (take-more ws k (omega arith)))
+
+all-range : (ws : List ℕ) → ((j : ℕ) → j < length ws → inRange (entry (getD ws j 0)) ≡ true) → allInRange ws ≡ true
+unfolding allInRange
+all-range [] h = refl
+all-range (w ∷ ws) h = and-both (inRange (entry w)) (allInRange ws) (h 0 (omega arith)) (all-range ws (λ j l. h (suc j) (omega arith)))
+
+-- A pair that was seen before stands twice.
+distinct-not : (ws : List ℕ) (k : ℕ) → k < length ws → seen (pair (getD ws k 0)) (take k ws) ≡ true → distinct ws ≡ false
+unfolding distinct seen
+distinct-not [] k h e = absurd (omega arith)
+distinct-not (w ∷ ws) zero h e = absurd (false≢true e)
+distinct-not (w ∷ ws) (suc k) h e = go (eqb (pair w) (pair (getD ws k 0))) refl e (distinct-not ws k (omega arith))
+  where
+    go : (a : Bool) → eqb (pair w) (pair (getD ws k 0)) ≡ a → a || seen (pair (getD ws k 0)) (take k ws) ≡ true
+        → (seen (pair (getD ws k 0)) (take k ws) ≡ true → distinct ws ≡ false) → not (seen (pair w) ws) && distinct ws ≡ false
+    go true q r rest = rw (seen-at (pair w) ws k (omega arith) (sym (eqb-true (pair w) (pair (getD ws k 0)) q))) refl
+    go false q r rest = rw (rest r) (and-false (not (seen (pair w) ws)))
+
+module _ (ws : List ℕ) (size : length ws ≤ 64) (n : ℕ) (count : n ≡ takenFrom (λ i. inRange (entry (getD ws i 0))) (λ i. getD ws i 0) (replicate 128 0) 0 (min 64 (length ws))) where
+  abbrev good-word : ℕ → Bool
+  good-word i = inRange (entry (getD ws i 0))
+
+  abbrev word : ℕ → ℕ
+  word i = getD ws i 0
+
+  most-is : min 64 (length ws) ≡ length ws
+  most-is = omega arith
+
+  taken-is : n ≡ takenFrom good-word word (replicate 128 0) 0 (length ws)
+  taken-is = count ∙ ap (takenFrom good-word word (replicate 128 0) 0) most-is
+
+  small-word : (j : ℕ) → good-word j ≡ true → Small (word j)
+  small-word j g = small (word j) g
+
+  words-within : n ≤ length ws
+  words-within = within good-word word small-word (length ws) size n taken-is
+
+  all-words : n ≡ length ws → wordsOf word n ≡ ws
+  all-words e = words-taken ws n words-within ∙ rw e (take-length ws)
+
+  -- All words were taken exactly where they are in range with no pair twice.
+  pub words-used : eqb n (length ws) ≡ allInRange ws && distinct ws
+  words-used = go (eqb n (length ws)) refl
+    where
+      some-bad : n < length ws → (a : Bool) → good-word n ≡ a → (b : Bool) → allInRange ws ≡ b → false ≡ b && distinct ws
+      some-bad l a e false p = refl
+      some-bad l false e true p = absurd (true≢false (sym (range-at ws n p l) ∙ e))
+      some-bad l true e true p = sym (distinct-not ws n l (rw (← words-taken ws n words-within) (stopped good-word word small-word (length ws) size n taken-is l e)))
+
+      go : (a : Bool) → eqb n (length ws) ≡ a → a ≡ allInRange ws && distinct ws
+      go true e =
+          let q : n ≡ length ws = eqb-true n (length ws) e in
+          let d : distinct ws ≡ true = ap distinct (sym (all-words q)) ∙ apart good-word word small-word (length ws) size n taken-is n (omega arith) in
+          let r : allInRange ws ≡ true = all-range ws (λ j l. each-good good-word word small-word (length ws) size n taken-is j (omega arith)) in
+          rw (r, d) refl
+      go false e = some-bad (omega (arith, words-within, eqb-false n (length ws) e)) (good-word n) refl (allInRange ws) refl
+
+  words-schema-is : n ≡ length ws → indexed (made word n) ≡ schemaOf (map entry ws)
+  words-schema-is e = same-taken good-word word small-word (length ws) size n taken-is ∙ ap (λ (l : List ℕ). schemaOf (map entry l)) (all-words e)
+
+-- Of a table value that the loader can give, the index of its words has the schema.
+pub table-schema : (t : Table) (n : ℕ) (ws cells : List ℕ) → valid t ≡ true → ws ≡ take (t .count) (t .words)
+    → n ≡ takenFrom (λ i. inRange (entry (getD ws i 0))) (λ i. getD ws i 0) (replicate 128 0) 0 (min 64 (length ws))
+    → cells ≡ notedBefore (λ i. getD ws i 0) (replicate 128 0) n → indexed cells ≡ schema t
+unfolding schema entries
+table-schema t n ws cells v e count c =
+    let p = parts t v in
+    let size : length ws ≤ 64 = omega (arith, ap length e, length-take (t .count) (t .words), p .few) in
+    let all : n ≡ length ws = eqb-true n (length ws) (words-used ws size n count ∙ and-both (allInRange ws) (distinct ws) (rw e (p .range)) (rw e (p .apart))) in
+    ap indexed c ∙ words-schema-is ws size n count all ∙ ap (λ (l : List ℕ). schemaOf (map entry l)) e
