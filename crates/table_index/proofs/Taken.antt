@@ -17,7 +17,7 @@ use Rattle.hproto_table.proofs.Bools.{and-left, and-right}
 use Rattle.hproto_table.proofs.Repeat.{seen-append, seen-one}
 use Rattle.hproto_table.proofs.Schemas.{same-schema}
 use Rattle.hproto_table.proofs.Valid.{distinct-snoc}
-use Rattle.table_index.specs.Cells.{keyOf, wordKey, cellOf, meaningIn, search, fresh, notedBefore, taken, takenFrom, cellFor, indexed}
+use Rattle.table_index.specs.Cells.{keyOf, wordKey, cellOf, meaningIn, orderIn, search, fresh, notedBefore, taken, takenFrom, cellFor, indexed}
 use Rattle.table_index.proofs.Meanings.{raw}
 use Rattle.table_index.proofs.Words.{Small, cell-some, cell-order, cell-means, key-fits, key-pair}
 use Rattle.table_index.proofs.Found.{standing, made, found-standing}
@@ -207,10 +207,10 @@ module _ (good : ℕ → Bool) (word : ℕ → ℕ) (range : (j : ℕ) → good 
 
   -- The cell of a number and a tag has the order of the word whose entry is for them.
   abbrev Ordered : ℕ → ℕ → ℕ → Type 0
-  Ordered n t c = (c % 64 < k) × (fits n t (word (c % 64)) ≡ true)
+  Ordered n t c = (orderIn c < k) × (fits n t (word (orderIn c)) ≡ true)
 
   pub order-taken : (n t : ℕ) → (cellFor (made word k) n t ≡ 0 → ⊥) → Ordered n t (cellFor (made word k) n t)
-  unfolding cellFor
+  unfolding cellFor orderIn
   order-taken n t d = go (ltb t 65536) refl d
     where
       go : (b : Bool) → ltb t 65536 ≡ b → (cond b (search (made word k) (keyOf n t)) 0 ≡ 0 → ⊥) → Ordered n t (cond b (search (made word k) (keyOf n t)) 0)

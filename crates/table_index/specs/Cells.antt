@@ -12,10 +12,10 @@ use Rattle.hproto_table.specs.Schema.{Schema}
 use Rattle.hproto_table.specs.declared.Meaning.{Meaning}
 use Rattle.hproto_table.specs.declared.Meaning.the-variants.{Raw, Uint, Int, String, Text, Message}
 
--- The keys of a message number begin here. Numbers are 65,554 apart: more than there are tags, and 18 more than a multiple of 64, so that
+-- The keys of a message number begin here. Numbers are 65,555 apart: more than there are tags, and 19 more than a multiple of 64, so that
 -- the tags of neighbouring numbers lie in different buckets. No cell has a key from 2^21 on.
 unfoldable pub keysFrom : ℕ → ℕ
-keysFrom n = cond (ltb n 16) (n * 65554) (2 ^ 21)
+keysFrom n = cond (ltb n 16) (n * 65555) (2 ^ 21)
 
 -- The key of a message number and a tag, and that of the entry in a word. The remainder by 64 is the bucket.
 unfoldable pub keyOf : ℕ → ℕ → ℕ
@@ -37,6 +37,10 @@ meaningIn c =
     (cond (eqb code 2) Int
     (cond (eqb code 3) String
     (cond (eqb code 4) Text (Message (code - 5))))))
+
+-- The order in the table of the entry in a cell.
+unfoldable pub orderIn : ℕ → ℕ
+orderIn c = c % 64
 
 -- The cell with a key in the chain that begins with a cell; 0 where there is none. Along a chain the order falls, so 64 cells are enough.
 unfoldable pub chase : ℕ → List ℕ → ℕ → ℕ → ℕ

@@ -4,18 +4,18 @@ use hproto_record::Record;
 use hproto_table::Meaning;
 ghost use mathlib.Core.Path.{_≡_};
 ghost use mathlib.Core.Bool.{true};
-ghost use Prim.Native.Nat.{_<_, _%_, min};
+ghost use Prim.Native.Nat.{_<_, min};
 ghost use lib.Dec.{eqb};
 ghost use lib.ListN.{length, getD};
 ghost use Rattle.hproto_table.specs.Entry.{entry};
 ghost use Rattle.hproto_table.specs.Load.{inRange, recordAt, wordAt, wellFormed};
-ghost use Rattle.table_index.specs.Cells.{keysFrom, wordKey, cellOf, meaningIn, search as search-of, fresh, noted, notedBefore, takenFrom, cellFor, indexed};
+ghost use Rattle.table_index.specs.Cells.{keysFrom, wordKey, cellOf, meaningIn, orderIn, search as search-of, fresh, noted, notedBefore, takenFrom, cellFor, indexed};
 
 // The first key of a message number. There is no test of the number in a search, so that a loop over fields computes this once.
 fn keys_from(number: u64) -> u64
     ensures { λ r. ⌜ r ≡ keysFrom number ⌝ }
 {
-    if number < 16 { number * 65554 } else { 2097152 }
+    if number < 16 { number * 65555 } else { 2097152 }
 }
 
 fn wide(x: u32) -> u64
@@ -47,7 +47,7 @@ fn word_key(w: u64) -> u64
     requires { ⌜ inRange (entry w) ≡ true ⌝ }
     ensures { λ r. ⌜ r ≡ wordKey w ⌝ }
 {
-    (w >> 32) * 65554 + (w >> 16) % 65536
+    (w >> 32) * 65555 + (w >> 16) % 65536
 }
 
 // The cell of a word that is the i-th of its table.
@@ -138,10 +138,10 @@ pub fn cell(cells: &[u32; 128], number: u64, tag: u64) -> u64
 }
 
 // What a cell means.
-pub fn meaning(c: u64) -> Meaning
-    ensures { λ r. ⌜ r ≡ meaningIn c ⌝ }
+pub fn meaning(cell: u64) -> Meaning
+    ensures { λ r. ⌜ r ≡ meaningIn cell ⌝ }
 {
-    let code = (c >> 6) % 32;
+    let code = (cell >> 6) % 32;
     match code {
         0 => Meaning::Raw,
         1 => Meaning::Uint,
@@ -153,10 +153,10 @@ pub fn meaning(c: u64) -> Meaning
 }
 
 // The order in the table of the entry in a cell, from 0.
-pub fn order(c: u64) -> u64
-    ensures { λ r. ⌜ r ≡ c % 64 ⌝ }
+pub fn order(cell: u64) -> u64
+    ensures { λ r. ⌜ r ≡ orderIn cell ⌝ }
 {
-    c % 64
+    cell % 64
 }
 
 // What a tag means in messages of a number.
