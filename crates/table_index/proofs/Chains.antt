@@ -7,7 +7,7 @@ use mathlib.Core.List.{List}
 use lib.ListN.{getD}
 use lib.Dec.{eqb, ltb}
 use borrow.Author.Tests.{ltb-true, lt-ltb, le-ltb, eq-eqb, ne-eqb}
-use Rattle.table_index.specs.Cells.{keysFrom, chase, search}
+use Rattle.table_index.specs.internal.Cells.{keysFrom, chase, search}
 
 -- ---- the first key of a number
 

@@ -8,7 +8,7 @@ use lib.ListN.{length, getD, set, replicate, length-set, length-replicate, getD-
 use lib.Seq.{getD-set-same, getD-set-other}
 use lib.Dec.{eqb, ltb}
 use borrow.Author.Tests.{eqb-true, eqb-false, ltb-true, ltb-false}
-use Rattle.table_index.specs.Cells.{wordKey, cellOf, chase, search, fresh, noted, notedBefore}
+use Rattle.table_index.specs.internal.Cells.{wordKey, cellOf, chase, search, fresh, noted, notedBefore}
 use Rattle.table_index.proofs.Chains.{chase-zero, chase-here, chase-ends, chase-on, chase-more, search-empty}
 use Rattle.table_index.proofs.Words.{Small, cell-key, cell-order}
 

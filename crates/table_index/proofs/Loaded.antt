@@ -11,7 +11,8 @@ use lib.Dec.{eqb, leb, ltb}
 use borrow.Author.Tests.{eqb-true, eqb-false, ltb-true, ltb-false}
 use Rattle.hproto_table.specs.Entry.{entry, entries}
 use Rattle.hproto_table.specs.Load.{inRange, recordAt, wordAt, wellFormed, wordsBefore, pair, seen, faulty, accepted, refused, load}
-use Rattle.hproto_table.specs.Repeat.{distinct, firstRepeat}
+use Rattle.hproto_table.specs.Repeat.{distinct}
+use Rattle.hproto_table.specs.internal.FirstRepeat.{firstRepeat}
 use Rattle.hproto_table.specs.Schema.{schemaOf, schema}
 use Rattle.hproto_table.specs.Valid.{allInRange, valid}
 use Rattle.hproto_table.specs.declared.Table.{Table}
@@ -21,7 +22,7 @@ use Rattle.hproto_table.proofs.Load.{length-words, load-whole, load-fault, faul
 use Rattle.hproto_table.proofs.Repeat.{distinct-is, seen-at}
 use Rattle.hproto_table.proofs.Schemas.{words-schema}
 use Rattle.hproto_table.proofs.Valid.{range-at, parts}
-use Rattle.table_index.specs.Cells.{notedBefore, takenFrom, indexed}
+use Rattle.table_index.specs.internal.Cells.{notedBefore, takenFrom, indexed}
 use Rattle.table_index.proofs.Words.{Small, small}
 use Rattle.table_index.proofs.Found.{made}
 use Rattle.table_index.proofs.Taken.{wordsOf, within, each-good, apart, stopped, same-taken}

@@ -10,10 +10,10 @@ use lib.Dec.{eqb}
 use Rattle.hproto_table.specs.Entry.{entry}
 use Rattle.hproto_table.specs.Load.{inRange, recordAt, wordAt, wellFormed}
 use Rattle.hproto_table.proofs.Load.{wellFormed-range}
-use Rattle.hproto_record.specs.Record.{recordOf}
+use Rattle.hproto_record.specs.internal.Record.{recordOf}
 use Rattle.hproto_record.specs.declared.Record.the-variants.{Word, Wrong}
 use Rattle.hproto_record.proofs.RecordLaws.{place-is, recordOf-word, recordOf-wrong}
-use Rattle.table_index.specs.Cells.{wordKey, cellOf, search, fresh, noted, notedBefore, taken, takenFrom}
+use Rattle.table_index.specs.internal.Cells.{wordKey, cellOf, search, fresh, noted, notedBefore, taken, takenFrom}
 
 -- ---- one word
 

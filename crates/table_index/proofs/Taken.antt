@@ -17,7 +17,7 @@ use Rattle.hproto_table.proofs.Bools.{and-left, and-right}
 use Rattle.hproto_table.proofs.Repeat.{seen-append, seen-one}
 use Rattle.hproto_table.proofs.Schemas.{same-schema}
 use Rattle.hproto_table.proofs.Valid.{distinct-snoc}
-use Rattle.table_index.specs.Cells.{keyOf, wordKey, cellOf, meaningIn, orderIn, search, fresh, notedBefore, taken, takenFrom, cellFor, indexed}
+use Rattle.table_index.specs.internal.Cells.{keyOf, wordKey, cellOf, meaningIn, orderIn, search, fresh, notedBefore, taken, takenFrom, cellFor, indexed}
 use Rattle.table_index.proofs.Meanings.{raw}
 use Rattle.table_index.proofs.Words.{Small, cell-some, cell-order, cell-means, key-fits, key-pair}
 use Rattle.table_index.proofs.Found.{standing, made, found-standing}

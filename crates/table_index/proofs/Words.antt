@@ -10,7 +10,7 @@ use Rattle.hproto_table.specs.Load.{inRange, pair}
 use Rattle.hproto_table.specs.declared.Meaning.{Meaning}
 use Rattle.hproto_table.specs.declared.Meaning.the-variants.{Raw, Uint, Int, String, Text, Message}
 use Rattle.hproto_table.proofs.Bools.{and-four}
-use Rattle.table_index.specs.Cells.{keysFrom, keyOf, wordKey, cellOf, meaningIn}
+use Rattle.table_index.specs.internal.Cells.{keysFrom, keyOf, wordKey, cellOf, meaningIn}
 use Rattle.table_index.proofs.Chains.{keys-small, keys-large}
 
 -- The numbers in a word whose entry is in range.

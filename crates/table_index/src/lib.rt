@@ -9,7 +9,7 @@ ghost use lib.Dec.{eqb};
 ghost use lib.ListN.{length, getD};
 ghost use Rattle.hproto_table.specs.Entry.{entry};
 ghost use Rattle.hproto_table.specs.Load.{inRange, recordAt, wordAt, wellFormed};
-ghost use Rattle.table_index.specs.Cells.{keysFrom, wordKey, cellOf, meaningIn, orderIn, search as search-of, fresh, noted, notedBefore, takenFrom, cellFor, indexed};
+ghost use Rattle.table_index.specs.internal.Cells.{keysFrom, wordKey, cellOf, meaningIn, orderIn, search as search-of, fresh, noted, notedBefore, takenFrom, cellFor, indexed};
 
 // The first key of a message number. There is no test of the number in a search, so that a loop over fields computes this once.
 fn keys_from(number: u64) -> u64

@@ -1,6 +1,6 @@
 -- `find` gives the meaning of the cell.
 use mathlib.Core.Path.{ap, _∙_}
-use Rattle.table_index.specs.Cells.{meaningIn, indexed}
+use Rattle.table_index.specs.internal.Cells.{meaningIn, indexed}
 use borrow.Author.Needs.{needs}
 use Rattle.table_index.proofs.find.Statement.{statement}
 use Rattle.table_index.proofs.find.Tie as tie

@@ -1,5 +1,5 @@
 use mathlib.Core.Path.{refl}
-use Rattle.table_index.specs.Cells.{orderIn}
+use Rattle.table_index.specs.internal.Cells.{orderIn}
 use Rattle.table_index.proofs.order.Statement.{statement}
 use Rattle.table_index.proofs.order.Tie as tie
 

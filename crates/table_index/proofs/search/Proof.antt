@@ -2,7 +2,7 @@
 use native.Mathlib.Omega.{arith}
 use Prim.Native.Nat.{_%_}
 use mathlib.Core.Path.{_≡_, sym, ap, _∙_}
-use Rattle.table_index.specs.Cells.{chase, search}
+use Rattle.table_index.specs.internal.Cells.{chase, search}
 use Rattle.table_index.proofs.Chains.{chase-zero, chase-here, chase-ends, chase-next}
 use Rattle.table_index.proofs.search.Statement.{statement}
 use Rattle.table_index.proofs.search.Tie as tie
