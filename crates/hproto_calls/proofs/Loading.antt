@@ -1,20 +1,20 @@
 -- A call by the octets of a table, case by case.
 use Prim.Native.Nat.{ℕ, _*_, _≤_, _<_}
 use native.Mathlib.Omega.{arith}
-use mathlib.Core.Path.{_≡_, refl, sym, _∙_}
+use mathlib.Core.Path.{_≡_, refl, sym, ap, _∙_}
 use mathlib.Core.Bool.{true}
-use mathlib.Core.List.{List, []}
+use mathlib.Core.List.{List}
 use lib.ListN.{length, replicate}
 use borrow.Author.Tests.{le-ltb, lt-ltb, eq-eqb, ne-eqb}
 use Rattle.octets.specs.Number.{Octets}
 use Rattle.hproto_table.specs.Schema.{schema}
-use Rattle.hproto_table.specs.Load.{wordAt, load}
+use Rattle.hproto_table.specs.Load.{recordAt, wordAt, wellFormed, accepted, refused, load}
 use Rattle.hproto_table.specs.Valid.{valid}
 use Rattle.hproto_table.specs.declared.Table.{Table}
 use Rattle.hproto_table.specs.declared.Loaded.{Loaded}
 use Rattle.hproto_table.proofs.Placed.{loaded-valid}
-use Rattle.hproto_index.specs.internal.Slots.{notedBefore, takenFrom, indexed}
-use Rattle.hproto_index.proofs.Loaded.{taken-few, octets-accepted, octets-schema}
+use Rattle.table_index.specs.internal.Cells.{notedBefore, takenFrom, indexed}
+use Rattle.table_index.proofs.Loaded.{octets-accepted, octets-refused, octets-schema}
 use Rattle.hproto_check.proofs.Counts.{under-valid}
 use Rattle.hproto_shorten.proofs.Answers.{answer-under, buffer-under}
 use Rattle.hproto_calls.specs.Calls.{withTable, checkOctets, shortenOctets, shortenBuffer}
@@ -39,42 +39,49 @@ module _ {A : Type 0} (octets s : List ℕ) (under : Table → A) (refuse : ℕ 
     unfolding withTable
     table-loaded z = rw (le-ltb messageLimit (length s) h, ← e, eq-eqb (l .refusal) 0 z)
 
--- An index that has all records of a table's octets: the table loads, and the calls answer under the index as under the table.
-module _ (octets s : List ℕ) (o : Octets octets) (h : length s ≤ 65536) (n : ℕ) (slots ws : List ℕ) (counted : n ≡ takenFrom octets (replicate 256 0) 0 64)
-    (all : length octets ≤ n * 8) (noted : slots ≡ notedBefore (wordAt octets) (replicate 256 0) n) (none : ws ≡ []) (m : ℕ) where
-  whole : length octets ≤ 8 * n
-  whole = omega arith
+-- An index of a table's octets, made in cells that were cleared.
+module _ (octets s : List ℕ) (h : length s ≤ 65536) (n : ℕ)
+    (counted : n ≡ takenFrom (λ i. wellFormed (recordAt octets i)) (wordAt octets) (replicate 128 0) 0 64) where
+  -- It has not all records: the loader refuses the one after them.
+  pub index-refused : {A : Type 0} (under : Table → A) (refuse : ℕ → ℕ → A) → n * 8 < length octets → refuse 2 (n * 8) ≡ withTable octets s under refuse
+  unfolding refused
+  index-refused under refuse l =
+      let p : 8 * n ≡ n * 8 = omega arith in
+      let e : load octets ≡ refused (n * 8) = octets-refused octets n counted (omega arith) ∙ ap refused p in
+      table-refused octets s under refuse h (refused (n * 8)) (sym e) (λ z. omega arith)
 
-  loads : load octets .refusal ≡ 0
-  loads = octets-accepted octets n counted whole
+  -- It has all: the table loads, and the calls answer under the index as under the table.
+  module _ (o : Octets octets) (all : length octets ≤ n * 8) (cells : List ℕ) (noted : cells ≡ notedBefore (wordAt octets) (replicate 128 0) n) (m : ℕ) where
+    whole : length octets ≤ 8 * n
+    whole = omega arith
 
-  same : indexed slots ws ≡ schema (load octets .table)
-  same = octets-schema octets n counted whole slots ws noted none
+    loads : load octets .refusal ≡ 0
+    unfolding accepted
+    loads = rw (octets-accepted octets n counted whole) refl
 
-  good : valid (load octets .table) ≡ true
-  good = loaded-valid octets (load octets) o refl loads
+    same : indexed cells ≡ schema (load octets .table)
+    same = octets-schema octets n counted cells noted whole
 
-  pub check-by-index : checkUnder (indexed slots ws) m s ≡ checkOctets octets m s
-  unfolding checkOctets
-  check-by-index =
-      under-valid (load octets .table) m s h good (indexed slots ws) same
-      ∙ table-loaded octets s (λ (t : Table). check t m s) answers.refusal h (load octets) refl loads
+    good : valid (load octets .table) ≡ true
+    good = loaded-valid octets (load octets) o refl loads
 
-  pub shorten-by-index : (out : List ℕ) → answerUnder (indexed slots ws) m s out ≡ shortenOctets octets m s out
-  unfolding shortenOctets
-  shorten-by-index out =
-      answer-under (load octets .table) (indexed slots ws) same m s out h good
-      ∙ table-loaded octets s (λ (t : Table). answer t m s out) shortens.refusal h (load octets) refl loads
+    pub check-by-index : checkUnder (indexed cells) m s ≡ checkOctets octets m s
+    unfolding checkOctets
+    check-by-index =
+        under-valid (load octets .table) m s h good (indexed cells) same
+        ∙ table-loaded octets s (λ (t : Table). check t m s) answers.refusal h (load octets) refl loads
 
-  pub buffer-by-index : (out : List ℕ) → bufferUnder (indexed slots ws) m s out ≡ shortenBuffer octets m s out
-  unfolding shortenBuffer
-  buffer-by-index out =
-      buffer-under (load octets .table) (indexed slots ws) same m s out h good
-      ∙ table-loaded octets s (λ (t : Table). buffer t m s out) (λ (number place : ℕ). out) h (load octets) refl loads
+    pub shorten-by-index : (out : List ℕ) → answerUnder (indexed cells) m s out ≡ shortenOctets octets m s out
+    unfolding shortenOctets
+    shorten-by-index out =
+        answer-under (load octets .table) (indexed cells) same m s out h good
+        ∙ table-loaded octets s (λ (t : Table). answer t m s out) shortens.refusal h (load octets) refl loads
 
--- An index has at most 64 records.
-pub counted-few : (octets slots : List ℕ) (n : ℕ) → n ≡ takenFrom octets slots 0 64 → n ≤ 64
-counted-few octets slots n e = omega (arith, taken-few octets slots 64 0)
+    pub buffer-by-index : (out : List ℕ) → bufferUnder (indexed cells) m s out ≡ shortenBuffer octets m s out
+    unfolding shortenBuffer
+    buffer-by-index out =
+        buffer-under (load octets .table) (indexed cells) same m s out h good
+        ∙ table-loaded octets s (λ (t : Table). buffer t m s out) (λ (number place : ℕ). out) h (load octets) refl loads
 
 -- Where a table loads and a message is within the limit, the calls that take the table's octets answer as those that take the table: what
 -- demand 3 says of check and shortener holds of them.

@@ -7,25 +7,17 @@ ghost use mathlib.Core.Path.{_≡_};
 ghost use Prim.Native.Nat.{_+_, _≤_};
 ghost use lib.ListN.{length};
 ghost use Rattle.reading.specs.Reading.{messageLimit};
-ghost use Rattle.hproto_index.specs.internal.Slots.{indexed};
+ghost use Rattle.table_index.specs.internal.Cells.{indexed};
 ghost use Rattle.hproto_message.specs.Reading.{messageFrom};
 ghost use Rattle.hproto_check.specs.Check.{check as check-of, checkUnder};
 ghost use Rattle.hproto_check.specs.internal.Walks.{walk as walk-of};
 
 // A message of number `n` whose octets start at a place, in the field that starts at `from`. `levels` is how many messages deep it may
-// be, itself counted; a nested message has one less. A tag that has no slot is looked for in `rest`, which has words of the table.
-fn nested(
-    slots: &[u16; 256],
-    rest: &[u64],
-    n: u64,
-    levels: u64,
-    from: u64,
-    at: u64,
-    s: &[u8],
-) -> Walk
+// be, itself counted; a nested message has one less.
+fn nested(cells: &[u32; 128], n: u64, levels: u64, from: u64, at: u64, s: &[u8]) -> Walk
     requires { ⌜ at + length (now s) ≤ messageLimit ⌝ }
     requires { ⌜ levels ≤ 8 ⌝ }
-    ensures { λ r. ⌜ r ≡ walk-of (messageFrom (indexed (now (slots .entry)) (now (rest .entry))) levels n from at (now (s .entry))) ⌝ }
+    ensures { λ r. ⌜ r ≡ walk-of (messageFrom (indexed (now (cells .entry))) levels n from at (now (s .entry))) ⌝ }
 {
     if levels == 0 {
         return Walk::Refused(5, from);
@@ -34,7 +26,7 @@ fn nested(
     let mut fields: u64 = 0;
     let mut depth: u64 = 1;
     loop {
-        match hproto_field::step(slots, rest, n, &s[i..]) {
+        match hproto_field::step(cells, n, &s[i..]) {
             Step::Done => return Walk::Accepted(fields, depth),
             Step::Fault(k) => return Walk::Refused(k, at + (i as u64)),
             Step::Over(control, contents) => {
@@ -46,7 +38,7 @@ fn nested(
                 let e = a + contents;
                 let here = at + (i as u64);
                 let inside = at + (a as u64);
-                match nested(slots, rest, m, levels - 1, here, inside, &s[a..e]) {
+                match nested(cells, m, levels - 1, here, inside, &s[a..e]) {
                     Walk::Accepted(f, d) => {
                         i = e;
                         fields = fields + (1 + f);
@@ -59,10 +51,9 @@ fn nested(
     }
 }
 
-// The check under an index and words, whatever they are. It is no entry: an entry refuses with 2 words that no loader gives. A caller that
-// has just loaded the table, or tested it, need not have it tested again.
-pub fn check_under(slots: &[u16; 256], words: &[u64], number: u64, message: &[u8]) -> Checked
-    ensures { λ r. ⌜ r ≡ checkUnder (indexed (now (slots .entry)) (now (words .entry))) number (now (message .entry)) ⌝ }
+// The check under an index, whatever it is. It is no entry: an entry refuses with 2 a table that no loader gives.
+pub fn check_under(cells: &[u32; 128], number: u64, message: &[u8]) -> Checked
+    ensures { λ r. ⌜ r ≡ checkUnder (indexed (now (cells .entry))) number (now (message .entry)) ⌝ }
 {
     if 65536 < message.len() {
         return reading::refused(1, 0);
@@ -70,7 +61,7 @@ pub fn check_under(slots: &[u16; 256], words: &[u64], number: u64, message: &[u8
     if 15 < number {
         return reading::refused(2, 0);
     }
-    reading::answer(nested(slots, words, number, 8, 0, 0, message))
+    reading::answer(nested(cells, number, 8, 0, 0, message))
 }
 
 // The check of a message of a number under a table.
@@ -84,8 +75,8 @@ pub fn check(t: Table, number: u64, message: &[u8]) -> Checked
     if !hproto_valid::valid(t) {
         return reading::refused(2, 0);
     }
-    let mut slots = [0u16; 256];
+    let mut cells = [0u32; 128];
     let words = hproto_find::first(&t.words, t.count);
-    hproto_index::index_words(words, &mut slots);
-    check_under(&slots, words, number, message)
+    table_index::index_words(words, &mut cells);
+    check_under(&cells, number, message)
 }

@@ -13,7 +13,7 @@ ghost use Rattle.hproto_table.specs.Schema.{schemaOf};
 ghost use Rattle.hproto_message.specs.Reading.{step as step-of, stepByKind};
 ghost use Rattle.hproto_field.specs.internal.Fronts.{front as front-of, part as part-of, nothing as nothing-of};
 ghost use Rattle.hproto_field.specs.internal.Held.{heldIn};
-ghost use Rattle.hproto_index.specs.internal.Slots.{indexed};
+ghost use Rattle.table_index.specs.internal.Cells.{indexed};
 
 // The tag, the kind and the sizes of the control part and of the contents of a whole field; raw and zeros where there is none.
 pub struct Field {
@@ -72,10 +72,10 @@ fn by_kind(kind: Meaning, size: usize, contents: &[u8]) -> Step
     }
 }
 
-// The field at the front of octets in a message of a number, under an index and words of a table. The announced length is
-// compared with what is left after the control part.
-pub fn step(slots: &[u16; 256], words: &[u64], number: u64, s: &[u8]) -> Step
-    ensures { λ r. ⌜ r ≡ step-of (indexed (now (slots .entry)) (now (words .entry))) number (now (s .entry)) ⌝ }
+// The field at the front of octets in a message of a number, under the index of a table. The announced length is compared with what is
+// left after the control part.
+pub fn step(cells: &[u32; 128], number: u64, s: &[u8]) -> Step
+    ensures { λ r. ⌜ r ≡ step-of (indexed (now (cells .entry))) number (now (s .entry)) ⌝ }
 {
     match octets_read::control(s) {
         Control::Absent => Step::Done,
@@ -87,11 +87,7 @@ pub fn step(slots: &[u16; 256], words: &[u64], number: u64, s: &[u8]) -> Step
                 return Step::Fault(4);
             }
             let end = start + (length as usize);
-            by_kind(
-                hproto_index::find(slots, words, number, tag),
-                start,
-                &s[start..end],
-            )
+            by_kind(table_index::find(cells, number, tag), start, &s[start..end])
         }
     }
 }
@@ -157,14 +153,14 @@ pub fn field_at(words: &[u64], count: usize, number: u64, s: &[u8]) -> Field
     }
 }
 
-// The same under an index too.
-pub fn field_in(slots: &[u16; 256], words: &[u64], number: u64, s: &[u8]) -> Field
-    ensures { λ r. ⌜ r ≡ front-of (indexed (now (slots .entry)) (now (words .entry))) number (now (s .entry)) ⌝ }
+// The same under the index of a table.
+pub fn field_in(cells: &[u32; 128], number: u64, s: &[u8]) -> Field
+    ensures { λ r. ⌜ r ≡ front-of (indexed (now (cells .entry))) number (now (s .entry)) ⌝ }
 {
     match part(s) {
         Extent::None => nothing(),
         Extent::Found(tag, control, contents) => {
-            let kind = hproto_index::find(slots, words, number, tag);
+            let kind = table_index::find(cells, number, tag);
             Field {
                 tag,
                 kind,

@@ -13,7 +13,7 @@ ghost use Rattle.octets.specs.Signed.{integer, leastInt};
 ghost use Rattle.octets.specs.Control.{leastControl};
 ghost use Rattle.hproto_store.specs.Store.{stored};
 ghost use Rattle.hproto_store.specs.internal.Moved.{moved};
-ghost use Rattle.hproto_index.specs.internal.Slots.{indexed};
+ghost use Rattle.table_index.specs.internal.Cells.{indexed};
 ghost use Rattle.hproto_field.specs.internal.Fronts.{front as front-of};
 ghost use Rattle.hproto_message.specs.Cut.{Contents};
 ghost use Rattle.hproto_message.specs.internal.Accepts.{Accepts};
@@ -147,8 +147,8 @@ fn wrap(tag: u16, out: &mut [u8], to: usize, n: usize) -> usize
 }
 
 // The field at the front of octets, its contents unread. Most control parts are one octet, so that case is tested first.
-fn next_field(slots: &[u16; 256], words: &[u64], number: u64, s: &[u8]) -> Field
-    ensures { λ r. ⌜ r ≡ front-of (indexed (now (slots .entry)) (now (words .entry))) number (now (s .entry)) ⌝ }
+fn next_field(cells: &[u32; 128], number: u64, s: &[u8]) -> Field
+    ensures { λ r. ⌜ r ≡ front-of (indexed (now (cells .entry))) number (now (s .entry)) ⌝ }
 {
     if 0 < s.len() {
         let c = s[0];
@@ -157,35 +157,27 @@ fn next_field(slots: &[u16; 256], words: &[u64], number: u64, s: &[u8]) -> Field
         if tag < 14 && n < 12 && n < s.len() {
             return Field {
                 tag,
-                kind: hproto_index::find(slots, words, number, tag),
+                kind: table_index::find(cells, number, tag),
                 control: 1,
                 contents: n,
             };
         }
     }
-    hproto_field::field_in(slots, words, number, s)
+    hproto_field::field_in(cells, number, s)
 }
 
 // Writes the shortest form of an accepted message at `to` and answers the place after it. A nested message is written first, so that
 // its control part is chosen when its length is final.
-fn write(
-    slots: &[u16; 256],
-    words: &[u64],
-    number: u64,
-    levels: u64,
-    s: &[u8],
-    out: &mut [u8],
-    to: usize,
-) -> usize
+fn write(cells: &[u32; 128], number: u64, levels: u64, s: &[u8], out: &mut [u8], to: usize) -> usize
     requires { ⌜ Octets (now s) ⌝ }
-    requires { ⌜ Accepts (indexed (now slots) (now words)) levels number (now s) ⌝ }
-    requires { ⌜ to + length (short (indexed (now slots) (now words)) levels number (now s)) ≤ length (now out) ⌝ }
-    ensures { λ r. ⌜ Put (now (out .entry)) to (short (indexed (now (slots .entry)) (now (words .entry))) levels number (now (s .entry))) r (now (out .exit)) ⌝ }
+    requires { ⌜ Accepts (indexed (now cells)) levels number (now s) ⌝ }
+    requires { ⌜ to + length (short (indexed (now cells)) levels number (now s)) ≤ length (now out) ⌝ }
+    ensures { λ r. ⌜ Put (now (out .entry)) to (short (indexed (now (cells .entry))) levels number (now (s .entry))) r (now (out .exit)) ⌝ }
 {
     let mut i: usize = 0;
     let mut end = to;
     while i < s.len() {
-        let f = next_field(slots, words, number, &s[i..]);
+        let f = next_field(cells, number, &s[i..]);
         let kind = f.kind;
         let a = i + f.control;
         let e = a + f.contents;
@@ -197,7 +189,7 @@ fn write(
                 i = e;
             }
             Holds::Number(m) => {
-                let after = write(slots, words, m, levels - 1, &s[a..e], out, end + 1);
+                let after = write(cells, m, levels - 1, &s[a..e], out, end + 1);
                 end = wrap(tag, out, end, after - (end + 1));
                 i = e;
             }
@@ -254,16 +246,16 @@ fn value_size(kind: Meaning, tag: u16, s: &[u8]) -> usize
 }
 
 // How many octets the shortest form of an accepted message takes.
-fn measure(slots: &[u16; 256], words: &[u64], number: u64, levels: u64, s: &[u8]) -> usize
+fn measure(cells: &[u32; 128], number: u64, levels: u64, s: &[u8]) -> usize
     requires { ⌜ length (now s) ≤ messageLimit ⌝ }
     requires { ⌜ Octets (now s) ⌝ }
-    requires { ⌜ Accepts (indexed (now slots) (now words)) levels number (now s) ⌝ }
-    ensures { λ r. ⌜ r ≡ length (short (indexed (now (slots .entry)) (now (words .entry))) levels number (now (s .entry))) ⌝ }
+    requires { ⌜ Accepts (indexed (now cells)) levels number (now s) ⌝ }
+    ensures { λ r. ⌜ r ≡ length (short (indexed (now (cells .entry))) levels number (now (s .entry))) ⌝ }
 {
     let mut i: usize = 0;
     let mut size: usize = 0;
     while i < s.len() {
-        let f = hproto_field::field_in(slots, words, number, &s[i..]);
+        let f = hproto_field::field_in(cells, number, &s[i..]);
         let kind = f.kind;
         let a = i + f.control;
         let e = a + f.contents;
@@ -274,7 +266,7 @@ fn measure(slots: &[u16; 256], words: &[u64], number: u64, levels: u64, s: &[u8]
                 i = e;
             }
             Holds::Number(m) => {
-                let n = measure(slots, words, m, levels - 1, &s[a..e]);
+                let n = measure(cells, m, levels - 1, &s[a..e]);
                 size = size + (hproto_put::control_size(tag, n as u64) + n);
                 i = e;
             }
@@ -285,16 +277,16 @@ fn measure(slots: &[u16; 256], words: &[u64], number: u64, levels: u64, s: &[u8]
 
 // Whether the shortest form of an accepted message takes at most `len` octets. It is no longer than the message, so only a smaller
 // buffer needs it measured.
-fn has_room(slots: &[u16; 256], words: &[u64], number: u64, message: &[u8], len: usize) -> bool
+fn has_room(cells: &[u32; 128], number: u64, message: &[u8], len: usize) -> bool
     requires { ⌜ length (now message) ≤ messageLimit ⌝ }
     requires { ⌜ Octets (now message) ⌝ }
-    requires { ⌜ Accepts (indexed (now slots) (now words)) 8 number (now message) ⌝ }
-    ensures { λ r. ⌜ r ≡ leb (length (short (indexed (now (slots .entry)) (now (words .entry))) 8 number (now (message .entry)))) len ⌝ }
+    requires { ⌜ Accepts (indexed (now cells)) 8 number (now message) ⌝ }
+    ensures { λ r. ⌜ r ≡ leb (length (short (indexed (now (cells .entry))) 8 number (now (message .entry)))) len ⌝ }
 {
     if message.len() <= len {
         return true;
     }
-    measure(slots, words, number, 8, message) <= len
+    measure(cells, number, 8, message) <= len
 }
 
 // The answer where the message is refused, or there is no room.
@@ -308,27 +300,20 @@ pub fn refused(number: u64, place: u64) -> Shortened
     }
 }
 
-// Writes the shortest octets that read the same as a message at the front of a second buffer and answers their length, under an index
-// and words, whatever they are. It is no entry: an entry refuses with 2 words that no loader gives. A caller that has just loaded the
-// table, or tested it, need not have it tested again.
-pub fn shorten_under(
-    slots: &[u16; 256],
-    words: &[u64],
-    number: u64,
-    message: &[u8],
-    out: &mut [u8],
-) -> Shortened
-    ensures { λ r. ⌜ r ≡ answerUnder (indexed (now (slots .entry)) (now (words .entry))) number (now (message .entry)) (now (out .entry)) ⌝ }
-    ensures { λ r. ⌜ now (out .exit) ≡ bufferUnder (indexed (now (slots .entry)) (now (words .entry))) number (now (message .entry)) (now (out .entry)) ⌝ }
+// Writes the shortest octets that read the same as a message at the front of a second buffer and answers their length, under an index,
+// whatever it is. It is no entry: an entry refuses with 2 a table that no loader gives.
+pub fn shorten_under(cells: &[u32; 128], number: u64, message: &[u8], out: &mut [u8]) -> Shortened
+    ensures { λ r. ⌜ r ≡ answerUnder (indexed (now (cells .entry))) number (now (message .entry)) (now (out .entry)) ⌝ }
+    ensures { λ r. ⌜ now (out .exit) ≡ bufferUnder (indexed (now (cells .entry))) number (now (message .entry)) (now (out .entry)) ⌝ }
 {
-    let c = hproto_check::check_under(slots, words, number, message);
+    let c = hproto_check::check_under(cells, number, message);
     if c.refusal != 0 {
         return refused(c.refusal, c.place);
     }
-    if !has_room(slots, words, number, message, out.len()) {
+    if !has_room(cells, number, message, out.len()) {
         return refused(9, 0);
     }
-    let end = write(slots, words, number, 8, message, out, 0);
+    let end = write(cells, number, 8, message, out, 0);
     Shortened {
         refusal: 0,
         place: 0,
@@ -347,8 +332,8 @@ pub fn shorten(t: Table, number: u64, message: &[u8], out: &mut [u8]) -> Shorten
     if !hproto_valid::valid(t) {
         return refused(2, 0);
     }
-    let mut slots = [0u16; 256];
+    let mut cells = [0u32; 128];
     let words = hproto_find::first(&t.words, t.count);
-    hproto_index::index_words(words, &mut slots);
-    shorten_under(&slots, words, number, message, out)
+    table_index::index_words(words, &mut cells);
+    shorten_under(&cells, number, message, out)
 }

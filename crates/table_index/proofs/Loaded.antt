@@ -48,8 +48,8 @@ module _ (s : List ℕ) (n : ℕ) (count : n ≡ takenFrom (λ i. wellFormed (re
   range : (j : ℕ) → good j ≡ true → Small (wordAt s j)
   range j g = small (wordAt s j) (wellFormed-range s j g)
 
-  few : n ≤ 64
-  few = within good (wordAt s) range 64 (omega arith) n count
+  pub octets-few : n ≤ 64
+  octets-few = within good (wordAt s) range 64 (omega arith) n count
 
   formed : (j : ℕ) → j < n → good j ≡ true
   formed = each-good good (wordAt s) range 64 (omega arith) n count
@@ -61,11 +61,11 @@ module _ (s : List ℕ) (n : ℕ) (count : n ≡ takenFrom (λ i. wellFormed (re
 
   -- The octets end after the records that were taken: the loader accepts them.
   pub octets-accepted : length s ≤ 8 * n → load s ≡ accepted (wordsBefore s n)
-  octets-accepted h = load-whole s n few formed no-repeat h
+  octets-accepted h = load-whole s n octets-few formed no-repeat h
 
   -- They do not: the loader refuses the record after those.
   pub octets-refused : 8 * n < length s → load s ≡ refused (8 * n)
-  octets-refused h = load-fault s n few formed no-repeat h (by-count (ltb n 64) refl)
+  octets-refused h = load-fault s n octets-few formed no-repeat h (by-count (ltb n 64) refl)
     where
       by-form : n < 64 → (a : Bool) → good n ≡ a → faulty s n ≡ true
       by-form l true e = faulty-seen s n (rw (← words-are s n) (stopped good (wordAt s) range 64 (omega arith) n count l e))

@@ -1,13 +1,13 @@
--- `check` reads under the index of a table where that has all its records, else under the loaded table.
+-- `check` refuses a table of which the index has not all records, and reads under the index of any other.
 use native.Mathlib.Omega.{arith}
 use mathlib.Core.Path.{_∙_}
-use lib.ListN.{replicate}
 use Rattle.hproto_table.specs.declared.Table.{Table}
 use Rattle.reading.specs.Checks.{refusal}
 use Rattle.hproto_check.specs.Check.{check}
 use Rattle.octets.proofs.Number.{octets-of-slice}
+use Rattle.table_index.proofs.Loaded.{octets-few}
 use Rattle.hproto_calls.specs.Calls.{checkOctets}
-use Rattle.hproto_calls.proofs.Loading.{message-too-long, counted-few, check-by-index}
+use Rattle.hproto_calls.proofs.Loading.{message-too-long, index-refused, check-by-index}
 use borrow.Author.Needs.{needs}
 use Rattle.hproto_calls.proofs.check.Statement.{statement}
 use Rattle.hproto_calls.proofs.check.Tie as tie
@@ -24,35 +24,34 @@ returns c =
 index-requires : tie.Need-index-requires
 index-requires c κs = search needs
 
-mul-if2 : tie.Need-mul-if2
-mul-if2 c =
+mul-end : tie.Need-mul-end
+mul-end c =
     let a = c .before .before .before .before .before .args in
-    omega (arith, counted-few (a .table .now) (replicate 256 0) (c .index .result) (c .index .ensures .0))
+    omega (arith, octets-few (a .table .now) (c .index .result) (c .index .ensures .0))
 
-check-loaded-requires : tie.Need-check-loaded-requires
-check-loaded-requires c κs = search needs
+refused-requires-2 : tie.Need-refused-requires-2
+refused-requires-2 c κs = search needs
 
 returns-2 : tie.Need-returns-2
-returns-2 c = search needs
-
-slice-aggregate-first : tie.Need-slice-aggregate-first
-slice-aggregate-first c = search needs
-
-first-requires : tie.Need-first-requires
-first-requires c κs = search needs
+unfolding checkOctets
+returns-2 c =
+    let a = c .before .before .before .before .before .before .before .args in
+    let x = c .before .before .index in
+    c .refused2 .ensures
+    ∙ index-refused (a .table .now) (a .message .now) (c .before .before .before .before .if1 .left) (x .result) (x .ensures .0)
+    (λ (t : Table). check t (a .number) (a .message .now)) refusal (c .before .if2 .taken)
 
 check-under-requires : tie.Need-check-under-requires
 check-under-requires c κs = search needs
 
 returns-3 : tie.Need-returns-3
 returns-3 c =
-    let a = c .before .before .before .before .before .before .before .before .before .before .args in
-    let x = c .before .before .before .before .before .index in
-    let f = c .before .first in
-    let o = octets-of-slice (a .table .now) (λ i. c .before .before .before .before .before .before .before .before .before .shared-slice-known .given i .fits) in
+    let a = c .before .before .before .before .before .before .before .before .args in
+    let x = c .before .before .before .index in
+    let o = octets-of-slice (a .table .now) (λ i. c .before .before .before .before .before .before .before .shared-slice-known .given i .fits) in
     c .check-under .ensures
-    ∙ check-by-index (a .table .now) (a .message .now) o (c .before .before .before .before .before .before .before .if1 .left) (x .result) (x .last .1 .0) (f .result .now) (x .ensures .0)
-    (c .before .before .before .before .if2 .left) (x .ensures .1) (f .ensures) (a .number)
+    ∙ check-by-index (a .table .now) (a .message .now) (c .before .before .before .before .before .if1 .left) (x .result) (x .ensures .0)
+    o (c .before .before .if2 .left) (x .last .1 .0) (x .ensures .1) (a .number)
 
 pub check-spec : {M : Type 1} → statement M
 check-spec =
@@ -61,10 +60,8 @@ check-spec =
     refused-requires
     returns
     index-requires
-    mul-if2
-    check-loaded-requires
+    mul-end
+    refused-requires-2
     returns-2
-    slice-aggregate-first
-    first-requires
     check-under-requires
     returns-3)

@@ -7,7 +7,7 @@ use lib.ListN.{length, take, drop, length-take, length-drop}
 use lib.Seq.{take-all}
 use denote.Ref.{now}
 use Rattle.hproto_table.specs.Schema.{Schema}
-use Rattle.hproto_index.specs.internal.Slots.{indexed}
+use Rattle.table_index.specs.internal.Cells.{indexed}
 use Rattle.hproto_message.specs.Reading.{messageFrom, fieldsFrom, step}
 use Rattle.reading.specs.internal.Walks.{walkOf}
 use Rattle.hproto_check.specs.internal.Walks as walks
@@ -22,21 +22,21 @@ use Rattle.hproto_field.proofs.step.Reads as step-reads
 use Rattle.hproto_check.proofs.+nested.{statement}
 use Rattle.hproto_check.proofs.+nested.Tie.{close}
 
-abbrev μ-nested : Measures 3 nested-kinds.ps ℕ
-μ-nested κs a = a .1 .1 .1 .0
+abbrev μ-nested : Measures 2 nested-kinds.ps ℕ
+μ-nested κs a = a .1 .1 .0
 
-abbrev nested-at : ℕ → In 3 nested-kinds.ps
-nested-at t = and 3 nested-kinds.ps (is 3 nested-kinds.ps μ-nested t) nested.Pre
+abbrev nested-at : ℕ → In 2 nested-kinds.ps
+nested-at t = and 2 nested-kinds.ps (is 2 nested-kinds.ps μ-nested t) nested.Pre
 
-abbrev nested-below : ℕ → In 3 nested-kinds.ps
-nested-below t = and 3 nested-kinds.ps (falls 3 nested-kinds.ps _<_ μ-nested t) nested.Pre
+abbrev nested-below : ℕ → In 2 nested-kinds.ps
+nested-below t = and 2 nested-kinds.ps (falls 2 nested-kinds.ps _<_ μ-nested t) nested.Pre
 
 abbrev nested-Inv-loop : nested-lts.InvT-loop
-nested-Inv-loop slots rest n levels from at s i₀ fields₀ depth₀ i fields depth =
-    (1 ≤ levels) × State (indexed slots rest) (messageFrom (indexed slots rest) (levels - 1)) n at s i fields depth
+nested-Inv-loop cells n levels from at s i₀ fields₀ depth₀ i fields depth =
+    (1 ≤ levels) × State (indexed cells) (messageFrom (indexed cells) (levels - 1)) n at s i fields depth
 
 abbrev nested-μ-loop : nested-lts.MeasureT-loop
-nested-μ-loop slots rest n levels from at s i₀ fields₀ depth₀ i fields depth = length s - i
+nested-μ-loop cells n levels from at s i₀ fields₀ depth₀ i fields depth = length s - i
 
 -- The places in the code that the facts below speak of.
 abbrev After-step : ℕ → Type 0
@@ -52,11 +52,11 @@ abbrev After-inner : ℕ → Type 0
 After-inner t = nested-lts.After-known-told4 (step-reads.Asked, step-reads.Learnt, nested-below t, nested.Post, larger-reads.Asked, larger-reads.Learnt) (nested-at t) nested.Post nested-Inv-loop nested-μ-loop
 
 module _ (t : ℕ) (c : After-step t) where
-  abbrev args : nested-lts.Args (step-reads.Asked, step-reads.Learnt, nested-below t, nested.Post, larger-reads.Asked, larger-reads.Learnt) (nested-at t) nested.Post nested-Inv-loop nested-μ-loop (c .before .before .before .before .before .before .κs)
-  args = c .before .before .before .before .before .before .args
+  abbrev args : nested-lts.Args (step-reads.Asked, step-reads.Learnt, nested-below t, nested.Post, larger-reads.Asked, larger-reads.Learnt) (nested-at t) nested.Post nested-Inv-loop nested-μ-loop (c .before .before .before .before .before .κs)
+  args = c .before .before .before .before .before .args
 
   abbrev sc : Schema
-  sc = indexed (now (args .slots)) (now (args .rest))
+  sc = indexed (now (args .cells))
 
   abbrev octets : List ℕ
   octets = now (args .s)
@@ -71,7 +71,7 @@ module _ (t : ℕ) (c : After-step t) where
   room-left = c .before .before .loop .inv .0
 
   abbrev bounds : (args .at + length octets ≤ 65536) × (args .levels ≤ 8)
-  bounds = c .before .before .before .before .before .before .pre .1
+  bounds = c .before .before .before .before .before .pre .1
 
   -- What the step found at the octets that are left.
   step-found : c .step .result ≡ step sc (args .n) (drop i octets)
@@ -117,8 +117,8 @@ nested-returns t c = rw (c .if1 .taken)
 
 nested-loop-holds : (t : ℕ) → nested-lts.Need-loop-holds (step-reads.Asked, step-reads.Learnt, nested-below t, nested.Post, larger-reads.Asked, larger-reads.Learnt) (nested-at t) nested.Post nested-Inv-loop nested-μ-loop
 nested-loop-holds t c =
-    let a = c .before .before .before .args in
-    let e = indexed (now (a .slots)) (now (a .rest)) in
+    let a = c .before .before .args in
+    let e = indexed (now (a .cells)) in
     let h = c .if1 .left in
     (omega arith, start e (messageFrom e (a .levels - 1)) (a .n) (a .at) (now (a .s)))
 
@@ -145,8 +145,8 @@ nested-returns-2 t c =
 nested-enum-known-k : (t : ℕ) → nested-lts.Need-enum-known-k (step-reads.Asked, step-reads.Learnt, nested-below t, nested.Post, larger-reads.Asked, larger-reads.Learnt) (nested-at t) nested.Post nested-Inv-loop nested-μ-loop
 nested-enum-known-k t c = search needs
 
-nested-add-t32 : (t : ℕ) → nested-lts.Need-add-t32 (step-reads.Asked, step-reads.Learnt, nested-below t, nested.Post, larger-reads.Asked, larger-reads.Learnt) (nested-at t) nested.Post nested-Inv-loop nested-μ-loop
-nested-add-t32 t c = let b = c .before .before .before in let h = state t b .inside in let k = bounds t b .0 in omega arith
+nested-add-t31 : (t : ℕ) → nested-lts.Need-add-t31 (step-reads.Asked, step-reads.Learnt, nested-below t, nested.Post, larger-reads.Asked, larger-reads.Learnt) (nested-at t) nested.Post nested-Inv-loop nested-μ-loop
+nested-add-t31 t c = let b = c .before .before .before in let h = state t b .inside in let k = bounds t b .0 in omega arith
 
 nested-returns-3 : (t : ℕ) → nested-lts.Need-returns-3 (step-reads.Asked, step-reads.Learnt, nested-below t, nested.Post, larger-reads.Asked, larger-reads.Learnt) (nested-at t) nested.Post nested-Inv-loop nested-μ-loop
 nested-returns-3 t c =
@@ -210,7 +210,7 @@ nested-nested-requires t c κs =
     let k = bounds t b .0 in
     let l = bounds t b .1 in
     let r = room-left t b in
-    let p = b .before .before .before .before .before .before .pre .0 in
+    let p = b .before .before .before .before .before .pre .0 in
     let v = d .before .m .given .0 in
     let m : length (take (i t b + v .1 .0 + v .1 .1 .0 - (i t b + v .1 .0)) (drop (i t b + v .1 .0) (octets t b))) ≤ v .1 .1 .0 =
     simp length-take (omega arith) in
@@ -299,7 +299,7 @@ pub +nested-spec : {M : Type 1} → statement M
     (nested-enum-told t)
     (nested-returns-2 t)
     (nested-enum-known-k t)
-    (nested-add-t32 t)
+    (nested-add-t31 t)
     (nested-returns-3 t)
     (nested-enum-known-control t)
     (nested-add-i t)

@@ -1,8 +1,8 @@
 -- `check` refuses a table that no loader gives, and reads under the index of any other.
 use mathlib.Core.Path.{sym, _∙_}
 use borrow.Author.Tests.{not-true, not-false}
-use Rattle.hproto_index.proofs.Loaded.{table-schema}
-use Rattle.hproto_index.specs.internal.Slots.{indexed}
+use Rattle.table_index.proofs.Loaded.{table-schema}
+use Rattle.table_index.specs.internal.Cells.{indexed}
 use Rattle.hproto_check.proofs.Counts.{too-long, bad-table, under-valid}
 use borrow.Author.Needs.{needs}
 use Rattle.hproto_check.proofs.check.Statement.{statement}
@@ -47,7 +47,7 @@ returns-3 c =
     let g = sym (v .ensures) ∙ not-false (v .result) (c .before .before .before .before .before .before .before .before .if2 .left) in
     c .check-under .ensures
     ∙ under-valid (a .t1) (a .number) (a .message .now) (c .before .before .before .before .before .before .before .before .before .before .if1 .left) g
-    (indexed (x .last .1 .0) (f .result .now)) (table-schema (a .t1) (x .last .1 .0) (f .result .now) g (f .ensures) (x .ensures))
+    (indexed (x .last .1 .0)) (table-schema (a .t1) (x .result) (f .result .now) (x .last .1 .0) g (f .ensures) (x .ensures .0) (x .ensures .1))
 
 pub check-spec : {M : Type 1} → statement M
 check-spec =

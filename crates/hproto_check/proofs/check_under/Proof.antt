@@ -2,7 +2,7 @@
 use borrow.Author.Needs.{needs}
 use mathlib.Core.Path.{_∙_}
 use denote.Ref.{now}
-use Rattle.hproto_index.specs.internal.Slots.{indexed}
+use Rattle.table_index.specs.internal.Cells.{indexed}
 use Rattle.hproto_check.proofs.Counts.{too-long-under, bad-number, by-walk}
 use Rattle.hproto_check.proofs.check_under.Statement.{statement}
 use Rattle.hproto_check.proofs.check_under.Tie as tie
@@ -12,17 +12,17 @@ refused-requires c κs = search needs
 
 returns : tie.Need-returns
 returns c =
-    let a = c .before .before .before .before .args in
-    c .refused .ensures ∙ too-long-under (indexed (now (a .slots)) (now (a .words))) (a .number) (now (a .message)) (c .before .if1 .taken)
+    let a = c .before .before .before .args in
+    c .refused .ensures ∙ too-long-under (indexed (now (a .cells))) (a .number) (now (a .message)) (c .before .if1 .taken)
 
 refused-requires-2 : tie.Need-refused-requires-2
 refused-requires-2 c κs = search needs
 
 returns-2 : tie.Need-returns-2
 returns-2 c =
-    let a = c .before .before .before .before .before .args in
+    let a = c .before .before .before .before .args in
     c .refused2 .ensures
-    ∙ bad-number (indexed (now (a .slots)) (now (a .words))) (a .number) (now (a .message)) (c .before .before .if1 .left) (c .before .if2 .taken)
+    ∙ bad-number (indexed (now (a .cells))) (a .number) (now (a .message)) (c .before .before .if1 .left) (c .before .if2 .taken)
 
 nested-requires : tie.Need-nested-requires
 nested-requires c κs = search needs
@@ -32,10 +32,10 @@ answer-requires c κs = search needs
 
 returns-3 : tie.Need-returns-3
 returns-3 c =
-    let a = c .before .before .before .before .before .before .args in
+    let a = c .before .before .before .before .before .args in
     let n = c .before .nested in
     c .answer .ensures
-    ∙ by-walk (indexed (now (a .slots)) (now (a .words))) (a .number) (now (a .message)) (c .before .before .before .if1 .left) (c .before .before .if2 .left) (n .result) (n .ensures)
+    ∙ by-walk (indexed (now (a .cells))) (a .number) (now (a .message)) (c .before .before .before .if1 .left) (c .before .before .if2 .left) (n .result) (n .ensures)
 
 pub check-under-spec : {M : Type 1} → statement M
 check-under-spec =

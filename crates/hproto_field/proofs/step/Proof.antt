@@ -2,7 +2,7 @@ use borrow.Author.Needs.{needs}
 use native.Mathlib.Omega.{arith}
 use mathlib.Core.Path.{sym, _∙_}
 use denote.Ref.{now}
-use Rattle.hproto_index.specs.internal.Slots.{indexed}
+use Rattle.table_index.specs.internal.Cells.{indexed}
 use Rattle.hproto_field.proofs.Fields.{at-end, in-control, size-inside, past-end, whole-field}
 use Rattle.hproto_field.proofs.step.Statement.{statement}
 use Rattle.hproto_field.proofs.step.Tie as tie
@@ -22,14 +22,14 @@ enum-known-tag c = search needs
 sub-left : tie.Need-sub-left
 sub-left c =
     let v = c .before .tag .given in
-    size-inside (now (c .before .before .before .before .before .before .args .s)) (v .0 .0) (v .0 .1 .0) (v .0 .1 .1 .0)
+    size-inside (now (c .before .before .before .before .before .args .s)) (v .0 .0) (v .0 .1 .0) (v .0 .1 .1 .0)
     (sym (c .before .before .before .control .ensures) ∙ v .1)
 
 returns : tie.Need-returns
 returns c =
-    let a = c .before .before .before .before .before .before .before .args in
+    let a = c .before .before .before .before .before .before .args in
     let v = c .before .before .tag .given in
-    past-end (indexed (now (a .slots)) (now (a .words))) (a .number) (now (a .s)) (v .0 .0) (v .0 .1 .0) (v .0 .1 .1 .0)
+    past-end (indexed (now (a .cells))) (a .number) (now (a .s)) (v .0 .0) (v .0 .1 .0) (v .0 .1 .1 .0)
     (sym (c .before .before .before .before .control .ensures) ∙ v .1) (c .if1 .taken)
 
 add-end : tie.Need-add-end
@@ -47,7 +47,7 @@ part-by-kind-start c = search needs
 part-by-kind-end : tie.Need-part-by-kind-end
 part-by-kind-end c =
     let v = c .before .before .before .tag .given in
-    let a = c .before .before .before .before .before .before .before .before .args in
+    let a = c .before .before .before .before .before .before .before .args in
     let k = size-inside (now (a .s)) (v .0 .0) (v .0 .1 .0) (v .0 .1 .1 .0) (sym (c .before .before .before .before .before .control .ensures) ∙ v .1) in
     omega arith
 
@@ -56,20 +56,20 @@ by-kind-requires c κs = search needs
 
 returns-2 : tie.Need-returns-2
 returns-2 c =
-    let a = c .before .before .before .before .before .args in
-    at-end (indexed (now (a .slots)) (now (a .words))) (a .number) (now (a .s)) (sym (c .before .before .control .ensures) ∙ c .enum-told .given .1)
+    let a = c .before .before .before .before .args in
+    at-end (indexed (now (a .cells))) (a .number) (now (a .s)) (sym (c .before .before .control .ensures) ∙ c .enum-told .given .1)
 
 returns-3 : tie.Need-returns-3
 returns-3 c =
-    let a = c .before .before .before .before .before .args in
-    in-control (indexed (now (a .slots)) (now (a .words))) (a .number) (now (a .s)) (sym (c .before .before .control .ensures) ∙ c .enum-told2 .given .1)
+    let a = c .before .before .before .before .args in
+    in-control (indexed (now (a .cells))) (a .number) (now (a .s)) (sym (c .before .before .control .ensures) ∙ c .enum-told2 .given .1)
 
 returns-4 : tie.Need-returns-4
 returns-4 c =
-    let a = c .before .before .before .before .before .before .before .before .before .before .args in
+    let a = c .before .before .before .before .before .before .before .before .before .args in
     let v = c .before .before .before .before .before .tag .given in
     c .by-kind .ensures ∙ rw (c .before .before .find .ensures)
-    (whole-field (indexed (now (a .slots)) (now (a .words))) (a .number) (now (a .s)) (v .0 .0) (v .0 .1 .0) (v .0 .1 .1 .0)
+    (whole-field (indexed (now (a .cells))) (a .number) (now (a .s)) (v .0 .0) (v .0 .1 .0) (v .0 .1 .1 .0)
     (sym (c .before .before .before .before .before .before .before .control .ensures) ∙ v .1) (c .before .before .before .if1 .left))
 
 pub step-spec : {M : Type 1} → statement M

@@ -10,7 +10,7 @@ use Rattle.hproto_message.proofs.Accepted.{accepts-levels}
 use Rattle.hproto_field.proofs.HeldKinds.{message-of, plain-of}
 use Rattle.octets.specs.Number.{Octets}
 use Rattle.hproto_table.specs.Schema.{Schema}
-use Rattle.hproto_index.specs.internal.Slots.{indexed}
+use Rattle.table_index.specs.internal.Cells.{indexed}
 use Rattle.hproto_field.specs.internal.Fronts.{front}
 use Rattle.hproto_shorten.specs.internal.Stores.{short}
 use Rattle.octets.proofs.Number.{octets-part}
@@ -28,20 +28,20 @@ use Rattle.hproto_shorten.proofs.value_size.Reads as value-size-reads
 use Rattle.hproto_shorten.proofs.+measure.{statement}
 use Rattle.hproto_shorten.proofs.+measure.Tie.{close}
 
-abbrev μ-measure : Measures 3 measure-kinds.ps ℕ
-μ-measure κs a = a .1 .1 .1 .0
+abbrev μ-measure : Measures 2 measure-kinds.ps ℕ
+μ-measure κs a = a .1 .1 .0
 
-abbrev measure-at : ℕ → In 3 measure-kinds.ps
-measure-at t = and 3 measure-kinds.ps (is 3 measure-kinds.ps μ-measure t) measure.Pre
+abbrev measure-at : ℕ → In 2 measure-kinds.ps
+measure-at t = and 2 measure-kinds.ps (is 2 measure-kinds.ps μ-measure t) measure.Pre
 
-abbrev measure-below : ℕ → In 3 measure-kinds.ps
-measure-below t = and 3 measure-kinds.ps (falls 3 measure-kinds.ps _<_ μ-measure t) measure.Pre
+abbrev measure-below : ℕ → In 2 measure-kinds.ps
+measure-below t = and 2 measure-kinds.ps (falls 2 measure-kinds.ps _<_ μ-measure t) measure.Pre
 
 abbrev measure-Inv-loop : measure-lts.InvT-loop
-measure-Inv-loop slots words number levels s i₀ size₀ i size = Counted (indexed slots words) (levels - 1) number s i size
+measure-Inv-loop cells number levels s i₀ size₀ i size = Counted (indexed cells) (levels - 1) number s i size
 
 abbrev measure-μ-loop : measure-lts.MeasureT-loop
-measure-μ-loop slots words number levels s i₀ size₀ i size = length s - i
+measure-μ-loop cells number levels s i₀ size₀ i size = length s - i
 
 -- The place after the field at the front of the octets that are left was found.
 abbrev Found : ℕ → Type 0
@@ -52,7 +52,7 @@ At-start t = measure-lts.Start (field-in-reads.Asked, field-in-reads.Learnt, hel
 
 module _ (t : ℕ) (b : At-start t) where
   abbrev sc : Schema
-  sc = indexed (now (b .args .slots)) (now (b .args .words))
+  sc = indexed (now (b .args .cells))
 
   abbrev few : length (now (b .args .s)) ≤ 65536
   few = b .pre .1 .0
@@ -75,7 +75,7 @@ module _ (t : ℕ) (b : At-start t) where
 
 module _ (t : ℕ) (c : Found t) where
   abbrev b : At-start t
-  b = c .before .before .before .before .before .before
+  b = c .before .before .before .before .before
 
   abbrev i : ℕ
   i = c .before .before .before .loop .i
@@ -95,7 +95,7 @@ module _ (t : ℕ) (c : Found t) where
 
 measure-loop-holds : (t : ℕ) → measure-lts.Need-loop-holds (field-in-reads.Asked, field-in-reads.Learnt, held-reads.Asked, held-reads.Learnt, value-size-reads.Asked, value-size-reads.Learnt, measure-below t, measure.Post, control-size-reads.Asked, control-size-reads.Learnt) (measure-at t) measure.Post measure-Inv-loop measure-μ-loop
 measure-loop-holds t c =
-    let s = c .before .before in
+    let s = c .before in
     counted-none (sc t s) (s .args .levels - 1) (s .args .number) (now (s .args .s)) (accepts t s)
 
 measure-sub-field-in : (t : ℕ) → measure-lts.Need-sub-field-in (field-in-reads.Asked, field-in-reads.Learnt, held-reads.Asked, held-reads.Learnt, value-size-reads.Asked, value-size-reads.Learnt, measure-below t, measure.Post, control-size-reads.Asked, control-size-reads.Learnt) (measure-at t) measure.Post measure-Inv-loop measure-μ-loop
@@ -214,7 +214,7 @@ measure-loop-again-2 t c =
 
 measure-returns : (t : ℕ) → measure-lts.Need-returns (field-in-reads.Asked, field-in-reads.Learnt, held-reads.Asked, held-reads.Learnt, value-size-reads.Asked, value-size-reads.Learnt, measure-below t, measure.Post, control-size-reads.Asked, control-size-reads.Learnt) (measure-at t) measure.Post measure-Inv-loop measure-μ-loop
 measure-returns t c =
-    let s = c .before .before .before .before in
+    let s = c .before .before .before in
     counted-all (sc t s) (s .args .levels - 1) (s .args .number) (now (s .args .s)) (c .before .loop .i) (c .before .loop .size) (c .before .loop .inv) (c .loop-test .left)
     ∙ ap (λ (r : ℕ). length (short (sc t s) r (s .args .number) (now (s .args .s)))) (levels-is t s)
 

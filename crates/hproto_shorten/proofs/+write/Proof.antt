@@ -10,7 +10,7 @@ use Rattle.hproto_message.proofs.Accepted.{accepts-levels}
 use Rattle.hproto_field.proofs.HeldKinds.{message-of, plain-of}
 use Rattle.octets.specs.Number.{Octets}
 use Rattle.hproto_table.specs.Schema.{Schema}
-use Rattle.hproto_index.specs.internal.Slots.{indexed}
+use Rattle.table_index.specs.internal.Cells.{indexed}
 use Rattle.hproto_field.specs.internal.Fronts.{front}
 use Rattle.hproto_shorten.specs.internal.Stores.{short, Put}
 use Rattle.octets.proofs.Number.{octets-part}
@@ -28,20 +28,20 @@ use Rattle.hproto_shorten.proofs.wrap.Reads as wrap-reads
 use Rattle.hproto_shorten.proofs.+write.{statement}
 use Rattle.hproto_shorten.proofs.+write.Tie.{close}
 
-abbrev μ-write : Measures 4 write-kinds.ps ℕ
-μ-write κs a = a .1 .1 .1 .0
+abbrev μ-write : Measures 3 write-kinds.ps ℕ
+μ-write κs a = a .1 .1 .0
 
-abbrev write-at : ℕ → In 4 write-kinds.ps
-write-at t = and 4 write-kinds.ps (is 4 write-kinds.ps μ-write t) write.Pre
+abbrev write-at : ℕ → In 3 write-kinds.ps
+write-at t = and 3 write-kinds.ps (is 3 write-kinds.ps μ-write t) write.Pre
 
-abbrev write-below : ℕ → In 4 write-kinds.ps
-write-below t = and 4 write-kinds.ps (falls 4 write-kinds.ps _<_ μ-write t) write.Pre
+abbrev write-below : ℕ → In 3 write-kinds.ps
+write-below t = and 3 write-kinds.ps (falls 3 write-kinds.ps _<_ μ-write t) write.Pre
 
 abbrev write-Inv-loop : write-lts.InvT-loop
-write-Inv-loop slots words number levels s out₀ to i₀ end₀ out i end = Progress (indexed slots words) (levels - 1) number s out₀ to i end out
+write-Inv-loop cells number levels s out₀ to i₀ end₀ out i end = Progress (indexed cells) (levels - 1) number s out₀ to i end out
 
 abbrev write-μ-loop : write-lts.MeasureT-loop
-write-μ-loop slots words number levels s out₀ to i₀ end₀ out i end = length s - i
+write-μ-loop cells number levels s out₀ to i₀ end₀ out i end = length s - i
 
 -- The place after the field at the front of the octets that are left was found.
 abbrev Found : ℕ → Type 0
@@ -52,7 +52,7 @@ At-start t = write-lts.Start (next-field-reads.Asked, next-field-reads.Learnt, h
 
 module _ (t : ℕ) (b : At-start t) where
   abbrev sc : Schema
-  sc = indexed (now (b .args .slots)) (now (b .args .words))
+  sc = indexed (now (b .args .cells))
 
   abbrev octets : Octets (now (b .args .s))
   octets = b .pre .1 .0
@@ -68,7 +68,7 @@ module _ (t : ℕ) (b : At-start t) where
 
 module _ (t : ℕ) (c : Found t) where
   abbrev b : At-start t
-  b = c .before .before .before .before .before .before .before
+  b = c .before .before .before .before .before .before
 
   abbrev i : ℕ
   i = c .before .before .before .loop .i
@@ -84,7 +84,7 @@ module _ (t : ℕ) (c : Found t) where
 
 write-loop-holds : (t : ℕ) → write-lts.Need-loop-holds (next-field-reads.Asked, next-field-reads.Learnt, held-reads.Asked, held-reads.Learnt, put-value-reads.Asked, put-value-reads.Learnt, write-below t, write.Post, wrap-reads.Asked, wrap-reads.Learnt) (write-at t) write.Post write-Inv-loop write-μ-loop
 write-loop-holds t c =
-    let s = c .before .before .before in
+    let s = c .before .before in
     begun (sc t s) (s .args .levels - 1) (s .args .number) (now (s .args .s)) (now (s .args .out)) (s .args .to) (accepts t s)
 
 write-sub-next-field : (t : ℕ) → write-lts.Need-sub-next-field (next-field-reads.Asked, next-field-reads.Learnt, held-reads.Asked, held-reads.Learnt, put-value-reads.Asked, put-value-reads.Learnt, write-below t, write.Post, wrap-reads.Asked, wrap-reads.Learnt) (write-at t) write.Post write-Inv-loop write-μ-loop
@@ -192,12 +192,12 @@ write-add-wrap t c =
 write-sub-wrap : (t : ℕ) → write-lts.Need-sub-wrap (next-field-reads.Asked, next-field-reads.Learnt, held-reads.Asked, held-reads.Learnt, put-value-reads.Asked, put-value-reads.Learnt, write-below t, write.Post, wrap-reads.Asked, wrap-reads.Learnt) (write-at t) write.Post write-Inv-loop write-μ-loop
 write-sub-wrap t c =
     let f = c .before .before .before .before .before .before .before .before .before .before .before .before .before in
-    inner-after (sc t (b t f)) (b t f .args .levels - 1) (b t f .args .number) (now (b t f .args .s)) (now (b t f .args .out)) (b t f .args .to) (fits t (b t f)) (i t f) (f .before .before .before .loop .end) (f .before .before .before .loop .out) (state t f) (more t f) (octets t (b t f)) (f .next-field .result) (found t f) (c .before .before .before .before .before .before .before .m .given .0 .0) (message-of (f .next-field .result .kind) (c .before .before .before .before .before .before .before .m .given .0 .0) (sym (c .before .before .before .before .before .before .before .before .before .held .ensures) ∙ c .before .before .before .before .before .before .before .m .given .1)) (c .before .before .before .write .result) (c .before .before .before .write .last .1 .1 .1 .1 .1 .0) (c .before .before .before .write .ensures)
+    inner-after (sc t (b t f)) (b t f .args .levels - 1) (b t f .args .number) (now (b t f .args .s)) (now (b t f .args .out)) (b t f .args .to) (fits t (b t f)) (i t f) (f .before .before .before .loop .end) (f .before .before .before .loop .out) (state t f) (more t f) (octets t (b t f)) (f .next-field .result) (found t f) (c .before .before .before .before .before .before .before .m .given .0 .0) (message-of (f .next-field .result .kind) (c .before .before .before .before .before .before .before .m .given .0 .0) (sym (c .before .before .before .before .before .before .before .before .before .held .ensures) ∙ c .before .before .before .before .before .before .before .m .given .1)) (c .before .before .before .write .result) (c .before .before .before .write .last .1 .1 .1 .1 .0) (c .before .before .before .write .ensures)
 
 write-wrap-requires : (t : ℕ) → write-lts.Need-wrap-requires (next-field-reads.Asked, next-field-reads.Learnt, held-reads.Asked, held-reads.Learnt, put-value-reads.Asked, put-value-reads.Learnt, write-below t, write.Post, wrap-reads.Asked, wrap-reads.Learnt) (write-at t) write.Post write-Inv-loop write-μ-loop
 write-wrap-requires t c κs =
     let f = c .before .before .before .before .before .before .before .before .before .before .before .before .before in
-    wrap-fits (sc t (b t f)) (b t f .args .levels - 1) (b t f .args .number) (now (b t f .args .s)) (now (b t f .args .out)) (b t f .args .to) (fits t (b t f)) (i t f) (f .before .before .before .loop .end) (f .before .before .before .loop .out) (state t f) (more t f) (octets t (b t f)) (f .next-field .result) (found t f) (c .before .before .before .before .before .before .before .m .given .0 .0) (message-of (f .next-field .result .kind) (c .before .before .before .before .before .before .before .m .given .0 .0) (sym (c .before .before .before .before .before .before .before .before .before .held .ensures) ∙ c .before .before .before .before .before .before .before .m .given .1)) (c .before .before .before .write .result) (c .before .before .before .write .last .1 .1 .1 .1 .1 .0) (c .before .before .before .write .ensures)
+    wrap-fits (sc t (b t f)) (b t f .args .levels - 1) (b t f .args .number) (now (b t f .args .s)) (now (b t f .args .out)) (b t f .args .to) (fits t (b t f)) (i t f) (f .before .before .before .loop .end) (f .before .before .before .loop .out) (state t f) (more t f) (octets t (b t f)) (f .next-field .result) (found t f) (c .before .before .before .before .before .before .before .m .given .0 .0) (message-of (f .next-field .result .kind) (c .before .before .before .before .before .before .before .m .given .0 .0) (sym (c .before .before .before .before .before .before .before .before .before .held .ensures) ∙ c .before .before .before .before .before .before .before .m .given .1)) (c .before .before .before .write .result) (c .before .before .before .write .last .1 .1 .1 .1 .0) (c .before .before .before .write .ensures)
 
 write-loop-less-2 : (t : ℕ) → write-lts.Need-loop-less-2 (next-field-reads.Asked, next-field-reads.Learnt, held-reads.Asked, held-reads.Learnt, put-value-reads.Asked, put-value-reads.Learnt, write-below t, write.Post, wrap-reads.Asked, wrap-reads.Learnt) (write-at t) write.Post write-Inv-loop write-μ-loop
 write-loop-less-2 t c = let f = c .before .before .before .before .before .before .before .before .before .before .before .before .before .before .before .before in let h = next-onward (sc t (b t f)) (b t f .args .levels - 1) (b t f .args .number) (now (b t f .args .s)) (now (b t f .args .out)) (b t f .args .to) (fits t (b t f)) (i t f) (f .before .before .before .loop .end) (f .before .before .before .loop .out) (state t f) (more t f) (octets t (b t f)) (f .next-field .result) (found t f) in let p = h .0 in let q = h .1 in omega arith
@@ -205,17 +205,17 @@ write-loop-less-2 t c = let f = c .before .before .before .before .before .befor
 write-loop-again-2 : (t : ℕ) → write-lts.Need-loop-again-2 (next-field-reads.Asked, next-field-reads.Learnt, held-reads.Asked, held-reads.Learnt, put-value-reads.Asked, put-value-reads.Learnt, write-below t, write.Post, wrap-reads.Asked, wrap-reads.Learnt) (write-at t) write.Post write-Inv-loop write-μ-loop
 write-loop-again-2 t c =
     let f = c .before .before .before .before .before .before .before .before .before .before .before .before .before .before .before .before in
-    nested-written (sc t (b t f)) (b t f .args .levels - 1) (b t f .args .number) (now (b t f .args .s)) (now (b t f .args .out)) (b t f .args .to) (fits t (b t f)) (i t f) (f .before .before .before .loop .end) (f .before .before .before .loop .out) (state t f) (more t f) (octets t (b t f)) (f .next-field .result) (found t f) (c .before .before .before .before .before .before .before .before .before .before .m .given .0 .0) (message-of (f .next-field .result .kind) (c .before .before .before .before .before .before .before .before .before .before .m .given .0 .0) (sym (c .before .before .before .before .before .before .before .before .before .before .before .before .held .ensures) ∙ c .before .before .before .before .before .before .before .before .before .before .m .given .1)) (c .before .before .before .before .before .before .write .result) (c .before .before .before .before .before .before .write .last .1 .1 .1 .1 .1 .0) (c .before .before .before .before .before .before .write .ensures)
+    nested-written (sc t (b t f)) (b t f .args .levels - 1) (b t f .args .number) (now (b t f .args .s)) (now (b t f .args .out)) (b t f .args .to) (fits t (b t f)) (i t f) (f .before .before .before .loop .end) (f .before .before .before .loop .out) (state t f) (more t f) (octets t (b t f)) (f .next-field .result) (found t f) (c .before .before .before .before .before .before .before .before .before .before .m .given .0 .0) (message-of (f .next-field .result .kind) (c .before .before .before .before .before .before .before .before .before .before .m .given .0 .0) (sym (c .before .before .before .before .before .before .before .before .before .before .before .before .held .ensures) ∙ c .before .before .before .before .before .before .before .before .before .before .m .given .1)) (c .before .before .before .before .before .before .write .result) (c .before .before .before .before .before .before .write .last .1 .1 .1 .1 .0) (c .before .before .before .before .before .before .write .ensures)
     (c .before .before .wrap .result) (c .before .before .wrap .last .1 .0) (c .before .before .wrap .ensures .0) (c .before .before .wrap .ensures .1)
 
 write-same-length : (t : ℕ) → write-lts.Need-same-length (next-field-reads.Asked, next-field-reads.Learnt, held-reads.Asked, held-reads.Learnt, put-value-reads.Asked, put-value-reads.Learnt, write-below t, write.Post, wrap-reads.Asked, wrap-reads.Learnt) (write-at t) write.Post write-Inv-loop write-μ-loop
 write-same-length t c =
-    let s = c .before .before .before .before .before in
+    let s = c .before .before .before .before in
     same-length (sc t s) (s .args .levels - 1) (s .args .number) (now (s .args .s)) (now (s .args .out)) (s .args .to) (c .before .loop .i) (c .before .loop .end) (c .before .loop .out) (c .before .loop .inv)
 
 write-returns : (t : ℕ) → write-lts.Need-returns (next-field-reads.Asked, next-field-reads.Learnt, held-reads.Asked, held-reads.Learnt, put-value-reads.Asked, put-value-reads.Learnt, write-below t, write.Post, wrap-reads.Asked, wrap-reads.Learnt) (write-at t) write.Post write-Inv-loop write-μ-loop
 write-returns t c =
-    let s = c .before .before .before .before .before in
+    let s = c .before .before .before .before in
     subst (λ (r : ℕ). Put (now (s .args .out)) (s .args .to) (short (sc t s) r (s .args .number) (now (s .args .s))) (c .before .loop .end) (c .before .loop .out)) (levels-is t s)
     (ended (sc t s) (s .args .levels - 1) (s .args .number) (now (s .args .s)) (now (s .args .out)) (s .args .to) (c .before .loop .i) (c .before .loop .end) (c .before .loop .out) (c .before .loop .inv) (c .loop-test .left))
 

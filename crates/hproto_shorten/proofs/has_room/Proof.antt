@@ -4,7 +4,7 @@ use mathlib.Core.Path.{sym}
 use denote.Ref.{now}
 use lib.ListN.{length}
 use borrow.Author.Tests.{le-leb}
-use Rattle.hproto_index.specs.internal.Slots.{indexed}
+use Rattle.table_index.specs.internal.Cells.{indexed}
 use Rattle.hproto_shorten.specs.internal.Stores.{short}
 use Rattle.hproto_shorten.proofs.Measuring.{short-few}
 use Rattle.hproto_shorten.proofs.has_room.Statement.{statement}
@@ -12,8 +12,8 @@ use Rattle.hproto_shorten.proofs.has_room.Tie as tie
 
 returns : tie.Need-returns
 returns c =
-    let s = c .before .before .before in
-    let es = indexed (now (s .args .slots)) (now (s .args .words)) in
+    let s = c .before .before in
+    let es = indexed (now (s .args .cells)) in
     let h = short-few es 8 (s .args .number) (now (s .args .message)) (s .pre .1 .0) (s .pre .1 .1) in
     let k = c .if1 .taken in
     sym (le-leb (length (short es 8 (s .args .number) (now (s .args .message)))) (s .args .len) (omega arith))

@@ -6,7 +6,7 @@ use denote.Ref.{now}
 use lib.Bits.{bitAnd, mask-lt}
 use lib.ListN.{getD, length}
 use borrow.Author.Tests.{ltb-true}
-use Rattle.hproto_index.specs.internal.Slots.{indexed}
+use Rattle.table_index.specs.internal.Cells.{indexed}
 use Rattle.hproto_shorten.proofs.Directs.{direct-front}
 use Rattle.hproto_shorten.proofs.next_field.Statement.{statement}
 use Rattle.hproto_shorten.proofs.next_field.Tie as tie
@@ -15,20 +15,20 @@ shared-slice-read-c : tie.Need-shared-slice-read-c
 shared-slice-read-c c = search needs
 
 cast-tag : tie.Need-cast-tag
-cast-tag c = let h = c .before .before .shared-slice-known2 .given 0 .fits in omega arith
+cast-tag c = let h = c .before .before .shared-slice-known .given 0 .fits in omega arith
 
 cast-n : tie.Need-cast-n
-cast-n c = let h = mask-lt (getD (now (c .before .before .before .before .args .s)) 0 0) 4 in omega arith
+cast-n c = let h = mask-lt (getD (now (c .before .before .before .args .s)) 0 0) 4 in omega arith
 
 find-requires : tie.Need-find-requires
 find-requires c κs = search needs
 
 returns : tie.Need-returns
 returns c =
-    let a = c .before .before .before .before .before .before .before .before .args in
+    let a = c .before .before .before .before .before .before .before .args in
     let s = now (a .s) in
     let x = getD s 0 0 in
-    direct-front (indexed (now (a .slots)) (now (a .words))) (a .number) s (x / 16) (bitAnd x 15) (c .find .result) refl refl
+    direct-front (indexed (now (a .cells))) (a .number) s (x / 16) (bitAnd x 15) (c .find .result) refl refl
     (c .before .before .before .if2 .taken) (ltb-true (bitAnd x 15) 12 (c .before .before .if3 .taken)) (ltb-true (bitAnd x 15) (length s) (c .before .if4 .taken)) (c .find .ensures)
 
 field-in-requires : tie.Need-field-in-requires

@@ -3,8 +3,8 @@ use native.Mathlib.Omega.{arith}
 use mathlib.Core.Path.{sym, _∙_}
 use denote.Ref.{now}
 use borrow.Author.Tests.{not-true, not-false}
-use Rattle.hproto_index.specs.internal.Slots.{indexed}
-use Rattle.hproto_index.proofs.Loaded.{table-schema}
+use Rattle.table_index.specs.internal.Cells.{indexed}
+use Rattle.table_index.proofs.Loaded.{table-schema}
 use Rattle.reading.specs.Checks as answers
 use Rattle.hproto_check.specs.Check.{check}
 use Rattle.hproto_check.proofs.Counts.{too-long, bad-table}
@@ -62,8 +62,8 @@ returns-3 c =
     let h = c .before .before .before .before .before .before .before .before .before .before .before .before .before .if1 .left in
     let x = c .before .before .before .before .before .index-words in
     let f = c .before .before .before .before .before .before .before .first in
-    let sc = indexed (x .last .1 .0) (f .result .now) in
-    let e = table-schema (a .t1) (x .last .1 .0) (f .result .now) g (f .ensures) (x .ensures) in
+    let sc = indexed (x .last .1 .0) in
+    let e = table-schema (a .t1) (x .result) (f .result .now) (x .last .1 .0) g (f .ensures) (x .ensures .0) (x .ensures .1) in
     let s = c .before .before .shorten-under .ensures in
     (s .0 ∙ answer-under (a .t1) sc e (a .number) m (now (a .out)) h g, s .1 ∙ buffer-under (a .t1) sc e (a .number) m (now (a .out)) h g)
 

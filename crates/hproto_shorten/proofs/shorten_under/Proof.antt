@@ -4,7 +4,7 @@ use mathlib.Core.Path.{sym, ap, _∙_}
 use denote.Ref.{now}
 use lib.ListN.{length}
 use borrow.Author.Tests.{leb-true, leb-false, not-true, not-false}
-use Rattle.hproto_index.specs.internal.Slots.{indexed}
+use Rattle.table_index.specs.internal.Cells.{indexed}
 use Rattle.hproto_check.specs.Check.{checkUnder}
 use Rattle.reading.specs.declared.Checked.{Checked}
 use Rattle.hproto_shorten.specs.internal.Stores.{short}
@@ -24,8 +24,8 @@ refused-requires c κs = search needs
 returns : tie.Need-returns
 unfolding refusal answerUnder bufferUnder
 returns c =
-    let a = c .before .before .before .before .before .before .before .args in
-    let es = indexed (now (a .slots)) (now (a .words)) in
+    let a = c .before .before .before .before .before .before .args in
+    let es = indexed (now (a .cells)) in
     let m = now (a .message) in
     let k = c .before .before .before .check-under in
     let r = refused-first (checkUnder es (a .number) m) (shortUnder es (a .number) m) (now (a .out)) (k .result) (k .ensures) (c .before .if1 .taken) in
@@ -33,11 +33,11 @@ returns c =
 
 has-room-requires : tie.Need-has-room-requires
 has-room-requires c κs =
-    let a = c .before .before .before .before .before .before .args in
-    let es = indexed (now (a .slots)) (now (a .words)) in
+    let a = c .before .before .before .before .before .args in
+    let es = indexed (now (a .cells)) in
     let m = now (a .message) in
     let h = passed-accepts es (a .number) m (ap (λ (x : Checked). x .refusal) (sym (c .before .before .check-under .ensures)) ∙ c .if1 .left) in
-    (h .0, (octets-of-slice m (λ i. c .before .before .before .before .shared-slice-known2 .given i .fits), h .1))
+    (h .0, (octets-of-slice m (λ i. c .before .before .before .before .shared-slice-known .given i .fits), h .1))
 
 refused-requires-2 : tie.Need-refused-requires-2
 refused-requires-2 c κs = search needs
@@ -45,8 +45,8 @@ refused-requires-2 c κs = search needs
 returns-2 : tie.Need-returns-2
 unfolding refusal answerUnder bufferUnder
 returns-2 c =
-    let a = c .before .before .before .before .before .before .before .before .before .args in
-    let es = indexed (now (a .slots)) (now (a .words)) in
+    let a = c .before .before .before .before .before .before .before .before .args in
+    let es = indexed (now (a .cells)) in
     let m = now (a .message) in
     let h = c .before .before .has-room in
     let k = leb-false (length (short es 8 (a .number) m)) (length (now (a .out))) (sym (h .ensures) ∙ not-true (h .result) (c .before .if2 .taken)) in
@@ -55,13 +55,13 @@ returns-2 c =
 
 write-requires : tie.Need-write-requires
 write-requires c κs =
-    let a = c .before .before .before .before .before .before .before .before .before .args in
-    let es = indexed (now (a .slots)) (now (a .words)) in
+    let a = c .before .before .before .before .before .before .before .before .args in
+    let es = indexed (now (a .cells)) in
     let m = now (a .message) in
     let h = c .before .before .has-room in
     let p = passed-accepts es (a .number) m (ap (λ (x : Checked). x .refusal) (sym (c .before .before .before .before .before .check-under .ensures)) ∙ c .before .before .before .if1 .left) in
     let k = leb-true (length (short es 8 (a .number) m)) (length (now (a .out))) (sym (h .ensures) ∙ not-false (h .result) (c .before .if2 .left)) in
-    (octets-of-slice m (λ i. c .before .before .before .before .before .before .before .shared-slice-known2 .given i .fits), (p .1, omega arith))
+    (octets-of-slice m (λ i. c .before .before .before .before .before .before .before .shared-slice-known .given i .fits), (p .1, omega arith))
 
 same-length : tie.Need-same-length
 same-length c = search needs
@@ -69,14 +69,14 @@ same-length c = search needs
 returns-3 : tie.Need-returns-3
 unfolding answerUnder bufferUnder
 returns-3 c =
-    let a = c .before .before .before .before .before .before .before .before .before .before .before .before .args in
-    let es = indexed (now (a .slots)) (now (a .words)) in
+    let a = c .before .before .before .before .before .before .before .before .before .before .before .args in
+    let es = indexed (now (a .cells)) in
     let m = now (a .message) in
     let h = c .before .before .before .before .before .has-room in
     let w = c .before .before .write .ensures in
     let e = short-under es (a .number) m in
     let k = leb-true (length (short es 8 (a .number) m)) (length (now (a .out))) (sym (h .ensures) ∙ not-false (h .result) (c .before .before .before .before .if2 .left)) in
-    let r = shortened (checkUnder es (a .number) m) (shortUnder es (a .number) m) (now (a .out)) (ap (λ (x : Checked). x .refusal) (sym (c .before .before .before .before .before .before .before .before .check-under .ensures)) ∙ c .before .before .before .before .before .before .if1 .left) (c .before .before .write .result) (c .before .before .write .last .1 .1 .1 .1 .1 .0) (rw e k) (rw e (w .place)) (rw e (w .buffer)) in
+    let r = shortened (checkUnder es (a .number) m) (shortUnder es (a .number) m) (now (a .out)) (ap (λ (x : Checked). x .refusal) (sym (c .before .before .before .before .before .before .before .before .check-under .ensures)) ∙ c .before .before .before .before .before .before .if1 .left) (c .before .before .write .result) (c .before .before .write .last .1 .1 .1 .1 .0) (rw e k) (rw e (w .place)) (rw e (w .buffer)) in
     (r .answered, r .left)
 
 pub shorten-under-spec : {M : Type 1} → statement M

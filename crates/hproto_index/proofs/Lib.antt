@@ -1,4 +1,0 @@
-pub mod Noting
-pub mod Finding
-pub mod Showing
-pub mod Loaded
