@@ -17,13 +17,16 @@ use Rattle.table_index.specs.internal.Cells.{notedBefore, takenFrom, indexed}
 use Rattle.table_index.proofs.Loaded.{octets-accepted, octets-refused, octets-schema}
 use Rattle.hproto_check.proofs.Counts.{under-valid}
 use Rattle.hproto_shorten.proofs.Answers.{answer-under, buffer-under}
-use Rattle.hproto_calls.specs.Calls.{withTable, checkOctets, shortenOctets, shortenBuffer}
+use Rattle.hproto_calls.specs.Calls.{withTable, checkOctets, shortenOctets, shortenBuffer, lookupOctets, lookupLastOctets}
 use Rattle.reading.specs.Reading.{messageLimit}
 use Rattle.reading.specs.Checks as answers
 use Rattle.hproto_check.specs.Check.{checkUnder, check}
 use Rattle.hproto_shorten.specs.Shorten as shortens
 use Rattle.hproto_shorten.specs.Shorten.{answer, buffer}
 use Rattle.hproto_shorten.specs.internal.Under.{answerUnder, bufferUnder}
+use Rattle.hproto_lookup.specs.Lookup as lookups
+use Rattle.hproto_lookup.specs.internal.Under.{lookupUnder, lookupLastUnder}
+use Rattle.hproto_lookup.proofs.Answers.{lookup-under, last-under}
 
 module _ {A : Type 0} (octets s : List ℕ) (under : Table → A) (refuse : ℕ → ℕ → A) where
   pub message-too-long : 65536 < length s → refuse 1 0 ≡ withTable octets s under refuse
@@ -82,6 +85,18 @@ module _ (octets s : List ℕ) (h : length s ≤ 65536) (n : ℕ)
     buffer-by-index out =
         buffer-under (load octets .table) (indexed cells) same m s out h good
         ∙ table-loaded octets s (λ (t : Table). buffer t m s out) (λ (number place : ℕ). out) h (load octets) refl loads
+
+    pub lookup-by-index : (tag k : ℕ) → lookupUnder (indexed cells) m s tag k ≡ lookupOctets octets m s tag k
+    unfolding lookupOctets
+    lookup-by-index tag k =
+        lookup-under (load octets .table) (indexed cells) same m s h good tag k
+        ∙ table-loaded octets s (λ (t : Table). lookups.lookup t m s tag k) lookups.refusal h (load octets) refl loads
+
+    pub last-by-index : (tag : ℕ) → lookupLastUnder (indexed cells) m s tag ≡ lookupLastOctets octets m s tag
+    unfolding lookupLastOctets
+    last-by-index tag =
+        last-under (load octets .table) (indexed cells) same m s h good tag
+        ∙ table-loaded octets s (λ (t : Table). lookups.lookupLast t m s tag) lookups.refusal h (load octets) refl loads
 
 -- Where a table loads and a message is within the limit, the calls that take the table's octets answer as those that take the table: what
 -- demand 3 says of check and shortener holds of them.

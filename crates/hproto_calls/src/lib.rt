@@ -1,6 +1,6 @@
 // The calls that take a field table as its octets. A message that is too long is refused before the table is looked at, a faulty table
-// before the message number is. Check and shortener make only the index of the table: where it does not have every record, the one after
-// those that it has is faulty. For a lookup the table is loaded.
+// before the message number is. Only the index is made of the table: where it does not have every record, the one after those that it has
+// is faulty.
 use hproto_lookup::Found;
 use hproto_shorten::Shortened;
 use reading::Checked;
@@ -45,11 +45,12 @@ pub fn lookup(table: &[u8], number: u64, message: &[u8], tag: u64, k: u64) -> Fo
     if 65536 < message.len() {
         return hproto_lookup::refused(1, 0);
     }
-    let l = hproto_load::load(table);
-    if l.refusal != 0 {
-        return hproto_lookup::refused(l.refusal, l.place);
+    let mut cells = [0u32; 128];
+    let end = table_index::index(table, &mut cells) * 8;
+    if end < table.len() {
+        return hproto_lookup::refused(2, end as u64);
     }
-    hproto_lookup::lookup(l.table, number, message, tag, k)
+    hproto_lookup::lookup_under(&cells, number, message, tag, k)
 }
 
 // The last of them.
@@ -59,9 +60,10 @@ pub fn lookup_last(table: &[u8], number: u64, message: &[u8], tag: u64) -> Found
     if 65536 < message.len() {
         return hproto_lookup::refused(1, 0);
     }
-    let l = hproto_load::load(table);
-    if l.refusal != 0 {
-        return hproto_lookup::refused(l.refusal, l.place);
+    let mut cells = [0u32; 128];
+    let end = table_index::index(table, &mut cells) * 8;
+    if end < table.len() {
+        return hproto_lookup::refused(2, end as u64);
     }
-    hproto_lookup::lookup_last(l.table, number, message, tag)
+    hproto_lookup::lookup_last_under(&cells, number, message, tag)
 }

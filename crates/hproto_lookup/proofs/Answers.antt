@@ -2,7 +2,7 @@
 use Prim.Native.Nat.{ℕ, _+_, _-_, _≤_}
 use native.Mathlib.Omega.{arith}
 use mathlib.Core.Path.{_≡_, refl, sym, ap, _∙_}
-use mathlib.Core.Bool.{false}
+use mathlib.Core.Bool.{true, false}
 use mathlib.Core.List.{List}
 use mathlib.Core.Option.{Option, none, some, Option·map}
 use lib.ListN.{length, take, drop, length-drop}
@@ -14,15 +14,17 @@ use Rattle.hproto_table.specs.Entry.{kindNumber}
 use Rattle.hproto_table.specs.Schema.{Schema, schema}
 use Rattle.hproto_table.specs.declared.Meaning.{Meaning}
 use Rattle.hproto_table.specs.declared.Meaning.the-variants.{Raw, Uint, Int, String, Text, Message}
+use Rattle.hproto_table.specs.Valid.{valid}
 use Rattle.hproto_table.specs.declared.Table.{Table}
 use Rattle.hproto_message.specs.Cut.{Cut, Contents, Good}
 use Rattle.hproto_message.specs.Tree.{value}
 use Rattle.reading.specs.Reading.{accepted}
 use Rattle.hproto_message.specs.Reading.{reading}
 use Rattle.hproto_message.proofs.Accepted.{accepted-good}
-use Rattle.hproto_check.specs.Check.{check}
+use Rattle.hproto_check.specs.Check.{check, checkUnder}
 use Rattle.reading.specs.declared.Checked.{Checked}
-use Rattle.hproto_lookup.specs.Lookup.{Item, Outer, outermost, itemTag, withTag, chosen, itemKind, uintOf, intOf, refusal, found, foundIn, answer}
+use Rattle.hproto_lookup.specs.Lookup.{Item, Outer, outermost, itemTag, withTag, chosen, itemKind, uintOf, intOf, refusal, found, foundIn, answer, lookup, lookupLast}
+use Rattle.hproto_lookup.specs.internal.Under.{answerUnder, lookupUnder, lookupLastUnder}
 use Rattle.hproto_lookup.specs.internal.Spots.{places, spotOf, nthSpot, lastSpot, chosenSpot, uintIn, intIn, read}
 use Rattle.hproto_lookup.specs.declared.Occurrence.{Occurrence}
 use Rattle.hproto_lookup.specs.declared.Occurrence.the-variants.{Nth, Last}
@@ -31,7 +33,8 @@ use Rattle.hproto_lookup.specs.declared.Spot.the-variants.{Absent, At}
 use Rattle.hproto_lookup.proofs.Choosing.{Of, chosen-map, chosen-each, withTag-each}
 use Rattle.hproto_lookup.proofs.Outers.{itemOf, Held, each-held, placeOf, places-are}
 use Rattle.hproto_lookup.specs.InTree.{Shows}
-use Rattle.hproto_check.proofs.Passed.{check-passed}
+use Rattle.hproto_check.proofs.Passed.{under-passed}
+use Rattle.hproto_check.proofs.Counts.{under-valid}
 
 -- Contents that are allowed for a kind are answered with the kind's number and their value.
 read-leaf : (k : Meaning) (t start : ℕ) (b : List ℕ) → Contents k b
@@ -65,82 +68,104 @@ unfolding chosenSpot nthSpot lastSpot chosen
 chosen-spot t (Nth k) s = refl
 chosen-spot t Last s = refl
 
-pub passed-cut : (t : Table) (n : ℕ) (s : List ℕ) → check t n s .refusal ≡ 0 → (cut : Cut) × (reading (schema t) n s ≡ accepted cut)
-passed-cut t n s e = check-passed t n s e .1
+-- Under the schema of a table that the loader can give, a lookup answers as under the table.
+module _ (t : Table) (sc : Schema) (same : sc ≡ schema t) (n : ℕ) (s : List ℕ) (h : length s ≤ 65536) (v : valid t ≡ true) (tag : ℕ) where
+  pub answer-under : (which : Occurrence) → answerUnder sc n s tag which ≡ answer t n s tag which
+  unfolding answerUnder answer
+  answer-under which = rw (under-valid t n s h v sc same, same) refl
 
-module _ (t : Table) (n : ℕ) (s : List ℕ) where
-  module _ (tag : ℕ) (which : Occurrence) where
-    pub refused-first : (c : Checked) → c ≡ check t n s → (c .refusal ≡ 0 → ⊥) → refusal (c .refusal) (c .place) ≡ answer t n s tag which
-    unfolding answer
-    refused-first c e ne =
-        let f : eqb (check t n s .refusal) 0 ≡ false = ap (λ (x : Checked). eqb (x .refusal) 0) (sym e) ∙ ne-eqb (c .refusal) 0 ne in
-        rw (f, ← e)
+  pub lookup-under : (k : ℕ) → lookupUnder sc n s tag k ≡ lookup t n s tag k
+  unfolding lookupUnder lookup
+  lookup-under k = answer-under (Nth k)
 
-    -- The outermost field that is wanted.
-    unfoldable pub wanted : Cut → Option Outer
-    wanted cut = chosen which (withTag itemOf tag (outermost (schema t) n 0 cut))
+  pub last-under : lookupLastUnder sc n s tag ≡ lookupLast t n s tag
+  unfolding lookupLastUnder lookupLast
+  last-under = answer-under Last
 
-    pub answered : check t n s .refusal ≡ 0 → (cut : Cut) → reading (schema t) n s ≡ accepted cut → answer t n s tag which ≡ found (wanted cut)
-    unfolding answer foundIn wanted
-    answered e cut f = rw (eq-eqb (check t n s .refusal) 0 e, f)
+module _ (sc : Schema) (n : ℕ) (s : List ℕ) (tag : ℕ) (which : Occurrence) where
+  pub refused-under : (c : Checked) → c ≡ checkUnder sc n s → (c .refusal ≡ 0 → ⊥) → refusal (c .refusal) (c .place) ≡ answerUnder sc n s tag which
+  unfolding answerUnder
+  refused-under c e ne =
+      let f : eqb (checkUnder sc n s .refusal) 0 ≡ false = ap (λ (x : Checked). eqb (x .refusal) 0) (sym e) ∙ ne-eqb (c .refusal) 0 ne in
+      rw (f, ← e)
 
-    -- It stands in the message.
-    pub wanted-held : (cut : Cut) → Good (schema t) 8 n s cut
-        → Of (λ (o : Outer). Held (schema t) 7 n s o × (itemTag (o .item) ≡ tag)) (wanted cut)
-    unfolding wanted
-    wanted-held cut g =
-        chosen-each (λ (o : Outer). Held (schema t) 7 n s o × (itemTag (o .item) ≡ tag)) which (withTag itemOf tag (outermost (schema t) n 0 cut))
-        (withTag-each (Held (schema t) 7 n s) itemOf tag (outermost (schema t) n 0 cut)
-        (each-held (schema t) 7 n s cut 0 (sym (g .divides)) (g .allowed) (g .shallow)))
+  -- The outermost field that is wanted.
+  unfoldable pub wanted : Cut → Option Outer
+  wanted cut = chosen which (withTag itemOf tag (outermost sc n 0 cut))
 
-    -- The walk finds its place.
-    spot-is : (cut : Cut) → Good (schema t) 8 n s cut → chosenSpot tag which s ≡ spotOf (Option·map placeOf (wanted cut))
-    unfolding wanted
-    spot-is cut g =
-        chosen-spot tag which s
-        ∙ rw (places-are (schema t) n tag 8 s cut g, chosen-map placeOf which (withTag itemOf tag (outermost (schema t) n 0 cut)))
+  pub answered-under : checkUnder sc n s .refusal ≡ 0 → (cut : Cut) → reading sc n s ≡ accepted cut → answerUnder sc n s tag which ≡ found (wanted cut)
+  unfolding answerUnder foundIn wanted
+  answered-under e cut f = rw (eq-eqb (checkUnder sc n s .refusal) 0 e, f)
 
-    module _ (e : check t n s .refusal ≡ 0) where
-      cut : Cut
-      cut = passed-cut t n s e .0
+  -- It stands in the message.
+  pub wanted-held : (cut : Cut) → Good sc 8 n s cut
+      → Of (λ (o : Outer). Held sc 7 n s o × (itemTag (o .item) ≡ tag)) (wanted cut)
+  unfolding wanted
+  wanted-held cut g =
+      chosen-each (λ (o : Outer). Held sc 7 n s o × (itemTag (o .item) ≡ tag)) which (withTag itemOf tag (outermost sc n 0 cut))
+      (withTag-each (Held sc 7 n s) itemOf tag (outermost sc n 0 cut)
+      (each-held sc 7 n s cut 0 (sym (g .divides)) (g .allowed) (g .shallow)))
 
-      is-good : Good (schema t) 8 n s cut
-      unfolding reading cut
-      is-good = accepted-good (schema t) 8 n 0 0 s (passed-cut t n s e .0) (passed-cut t n s e .1)
+  -- The walk finds its place.
+  spot-is : (cut : Cut) → Good sc 8 n s cut → chosenSpot tag which s ≡ spotOf (Option·map placeOf (wanted cut))
+  unfolding wanted
+  spot-is cut g =
+      chosen-spot tag which s
+      ∙ rw (places-are sc n tag 8 s cut g, chosen-map placeOf which (withTag itemOf tag (outermost sc n 0 cut)))
 
-      is-answered : answer t n s tag which ≡ found (wanted cut)
-      unfolding cut
-      is-answered = answered e (passed-cut t n s e .0) (passed-cut t n s e .1)
+  module _ (e : checkUnder sc n s .refusal ≡ 0) where
+    cut : Cut
+    cut = under-passed sc n s e .1 .0
 
-      pub absent : (p : Spot) → p ≡ chosenSpot tag which s → p ≡ Absent → refusal 18 0 ≡ answer t n s tag which
-      unfolding spotOf found
-      absent p f a = sym (is-answered ∙ go (wanted cut) (sym (spot-is cut is-good) ∙ sym f ∙ a))
-        where
-          go : (o : Option Outer) → spotOf (Option·map placeOf o) ≡ Absent → found o ≡ refusal 18 0
-          go none h = refl
-          go (some o) h = let z : _≡_ {A = ℕ} 0 1 = cc in absurd (omega arith)
+    is-good : Good sc 8 n s cut
+    unfolding reading cut
+    is-good = accepted-good sc 8 n 0 0 s (under-passed sc n s e .1 .0) (under-passed sc n s e .1 .1)
 
-      -- The place of the field that is wanted, and what is read there.
-      pub record Present (start end : ℕ) : Type 0 where
-        pub ordered : start ≤ end
-        pub inside : end ≤ length s
-        pub answers : read (kindNumber (schema t .means n tag)) start (take (end - start) (drop start s)) ≡ answer t n s tag which
+    is-answered : answerUnder sc n s tag which ≡ found (wanted cut)
+    unfolding cut
+    is-answered = answered-under e (under-passed sc n s e .1 .0) (under-passed sc n s e .1 .1)
 
-      pub present : (start end : ℕ) (p : Spot) → p ≡ chosenSpot tag which s → p ≡ At start end → Present start end
-      unfolding spotOf Of
-      present start end p f a = go (wanted cut) refl (wanted-held cut is-good) (sym (spot-is cut is-good) ∙ sym f ∙ a)
-        where
-          go : (o : Option Outer) → wanted cut ≡ o → Of (λ (o : Outer). Held (schema t) 7 n s o × (itemTag (o .item) ≡ tag)) o
-              → spotOf (Option·map placeOf o) ≡ At start end → Present start end
-          go none w h d = let z : _≡_ {A = ℕ} 0 1 = cc in absurd (omega arith)
-          go (some o) w h d =
-              let x : o .start ≡ start = cc in
-              let y : o .start + o .length ≡ end = cc in
-              let k = h .0 .inside in
-              let l : end - start ≡ o .length = omega arith in
-              let r = read-outer (schema t) 7 n s o tag (h .0) (h .1) in
-              record {
-                ordered = omega arith;
-                inside = omega arith;
-                answers = rw (l, ← x) (r ∙ sym (is-answered ∙ ap found w));
-              }
+    pub absent : (p : Spot) → p ≡ chosenSpot tag which s → p ≡ Absent → refusal 18 0 ≡ answerUnder sc n s tag which
+    unfolding spotOf found
+    absent p f a = sym (is-answered ∙ go (wanted cut) (sym (spot-is cut is-good) ∙ sym f ∙ a))
+      where
+        go : (o : Option Outer) → spotOf (Option·map placeOf o) ≡ Absent → found o ≡ refusal 18 0
+        go none h = refl
+        go (some o) h = let z : _≡_ {A = ℕ} 0 1 = cc in absurd (omega arith)
+
+    -- The place of the field that is wanted, and what is read there.
+    pub record Present (start end : ℕ) : Type 0 where
+      pub ordered : start ≤ end
+      pub inside : end ≤ length s
+      pub answers : read (kindNumber (sc .means n tag)) start (take (end - start) (drop start s)) ≡ answerUnder sc n s tag which
+
+    pub present : (start end : ℕ) (p : Spot) → p ≡ chosenSpot tag which s → p ≡ At start end → Present start end
+    unfolding spotOf Of
+    present start end p f a = go (wanted cut) refl (wanted-held cut is-good) (sym (spot-is cut is-good) ∙ sym f ∙ a)
+      where
+        go : (o : Option Outer) → wanted cut ≡ o → Of (λ (o : Outer). Held sc 7 n s o × (itemTag (o .item) ≡ tag)) o
+            → spotOf (Option·map placeOf o) ≡ At start end → Present start end
+        go none w h d = let z : _≡_ {A = ℕ} 0 1 = cc in absurd (omega arith)
+        go (some o) w h d =
+            let x : o .start ≡ start = cc in
+            let y : o .start + o .length ≡ end = cc in
+            let k = h .0 .inside in
+            let l : end - start ≡ o .length = omega arith in
+            let r = read-outer sc 7 n s o tag (h .0) (h .1) in
+            record {
+              ordered = omega arith;
+              inside = omega arith;
+              answers = rw (l, ← x) (r ∙ sym (is-answered ∙ ap found w));
+            }
+
+module _ (t : Table) (n : ℕ) (s : List ℕ) (tag : ℕ) (which : Occurrence) where
+  pub refused-first : (c : Checked) → c ≡ check t n s → (c .refusal ≡ 0 → ⊥) → refusal (c .refusal) (c .place) ≡ answer t n s tag which
+  unfolding answer
+  refused-first c e ne =
+      let f : eqb (check t n s .refusal) 0 ≡ false = ap (λ (x : Checked). eqb (x .refusal) 0) (sym e) ∙ ne-eqb (c .refusal) 0 ne in
+      rw (f, ← e)
+
+  pub answered : check t n s .refusal ≡ 0 → (cut : Cut) → reading (schema t) n s ≡ accepted cut
+      → answer t n s tag which ≡ found (wanted (schema t) n s tag which cut)
+  unfolding answer foundIn wanted
+  answered e cut f = rw (eq-eqb (check t n s .refusal) 0 e, f)

@@ -27,14 +27,14 @@ module _ (t : Table) (n : ℕ) (s : List ℕ) (tag : ℕ) (which : Occurrence) w
   refused-as-checked ne = sym (refused-first t n s tag which (check t n s) refl ne)
 
   module _ (e : check t n s .refusal ≡ 0) (cut : Cut) (g : Good (schema t) 8 n s cut) where
-    wanted-item : Option·map itemOf (wanted t n s tag which cut) ≡ occurrence (tree (schema t) n cut) tag which
+    wanted-item : Option·map itemOf (wanted (schema t) n s tag which cut) ≡ occurrence (tree (schema t) n cut) tag which
     unfolding wanted occurrence
     wanted-item =
         sym (chosen-map itemOf which (withTag itemOf tag (outermost (schema t) n 0 cut)))
         ∙ ap (chosen which) (sym (withTag-map itemOf (λ (i : Item). i) tag (outermost (schema t) n 0 cut)))
         ∙ ap (λ (l : List Item). chosen which (withTag (λ (i : Item). i) tag l)) (items-are (schema t) n 0 cut)
 
-    is-found : answer t n s tag which ≡ found (wanted t n s tag which cut)
+    is-found : answer t n s tag which ≡ found (wanted (schema t) n s tag which cut)
     unfolding reading
     is-found = answered t n s tag which e cut (good-accepted (schema t) 8 n 0 0 s cut g)
 
@@ -42,7 +42,7 @@ module _ (t : Table) (n : ℕ) (s : List ℕ) (tag : ℕ) (which : Occurrence) w
     pub answers-tree : Answers (schema t) n s tag (occurrence (tree (schema t) n cut) tag which) (answer t n s tag which)
     unfolding Answers Of found
     answers-tree =
-        rw (← wanted-item, is-found) (go (wanted t n s tag which cut) (wanted-held t n s tag which cut g))
+        rw (← wanted-item, is-found) (go (wanted (schema t) n s tag which cut) (wanted-held (schema t) n s tag which cut g))
       where
         go : (o : Option Outer) → Of (λ (o : Outer). Held (schema t) 7 n s o × (itemTag (o .item) ≡ tag)) o
             → Answers (schema t) n s tag (Option·map itemOf o) (found o)

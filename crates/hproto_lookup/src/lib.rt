@@ -6,6 +6,8 @@ ghost use mathlib.Core.Path.{_≡_};
 ghost use lib.ListN.{length, take, drop};
 ghost use Rattle.hproto_field.specs.internal.Fronts.{part};
 ghost use Rattle.hproto_lookup.specs.Lookup.{refusal, answer, lookup as lookup-of, lookupLast};
+ghost use Rattle.table_index.specs.internal.Cells.{indexed};
+ghost use Rattle.hproto_lookup.specs.internal.Under.{answerUnder, lookupUnder, lookupLastUnder};
 ghost use Rattle.hproto_lookup.specs.internal.Spots.{nthSpot, lastSpot, chosenSpot, uintIn, intIn, read};
 
 // Which of the fields with a tag is wanted.
@@ -164,19 +166,19 @@ fn contents(kind: u64, start: u64, s: &[u8]) -> Found
     }
 }
 
-// The whole message is checked before any field is looked for, so a fault after the wanted field is refused too.
-fn look(t: Table, number: u64, message: &[u8], tag: u64, which: Occurrence) -> Found
-    ensures { λ r. ⌜ r ≡ answer t number (now (message .entry)) tag which ⌝ }
+// A lookup under an index, whatever it is. The whole message is checked before any field is looked for, so a fault after the wanted field
+// is refused too.
+fn look_under(cells: &[u32; 128], number: u64, message: &[u8], tag: u64, which: Occurrence) -> Found
+    ensures { λ r. ⌜ r ≡ answerUnder (indexed (now (cells .entry))) number (now (message .entry)) tag which ⌝ }
 {
-    let c = hproto_check::check(t, number, message);
+    let c = hproto_check::check_under(cells, number, message);
     if c.refusal != 0 {
         return refused(c.refusal, c.place);
     }
     match pick(message, tag, which) {
         Spot::Absent => refused(18, 0),
         Spot::At { start, end } => {
-            let words = t.words;
-            let kind = hproto_find::find(&words, t.count, number, tag);
+            let kind = table_index::find(cells, number, tag);
             contents(
                 hproto_find::kind_number(kind),
                 start as u64,
@@ -186,14 +188,43 @@ fn look(t: Table, number: u64, message: &[u8], tag: u64, which: Occurrence) -> F
     }
 }
 
-// The k-th, from 0, of the outermost fields with a tag.
+// The k-th, from 0, of the outermost fields with a tag, and the last of them, under an index. They are no entries: an entry refuses with
+// 2 a table that no loader gives.
+pub fn lookup_under(cells: &[u32; 128], number: u64, message: &[u8], tag: u64, k: u64) -> Found
+    ensures { λ r. ⌜ r ≡ lookupUnder (indexed (now (cells .entry))) number (now (message .entry)) tag k ⌝ }
+{
+    look_under(cells, number, message, tag, Occurrence::Nth(k))
+}
+
+pub fn lookup_last_under(cells: &[u32; 128], number: u64, message: &[u8], tag: u64) -> Found
+    ensures { λ r. ⌜ r ≡ lookupLastUnder (indexed (now (cells .entry))) number (now (message .entry)) tag ⌝ }
+{
+    look_under(cells, number, message, tag, Occurrence::Last)
+}
+
+// A lookup under a table. The refusals of the table come before all that is read under it.
+fn look(t: Table, number: u64, message: &[u8], tag: u64, which: Occurrence) -> Found
+    ensures { λ r. ⌜ r ≡ answer t number (now (message .entry)) tag which ⌝ }
+{
+    if 65536 < message.len() {
+        return refused(1, 0);
+    }
+    if !hproto_valid::valid(t) {
+        return refused(2, 0);
+    }
+    let mut cells = [0u32; 128];
+    let words = hproto_find::first(&t.words, t.count);
+    table_index::index_words(words, &mut cells);
+    look_under(&cells, number, message, tag, which)
+}
+
+// The same two under a table.
 pub fn lookup(t: Table, number: u64, message: &[u8], tag: u64, k: u64) -> Found
     ensures { λ r. ⌜ r ≡ lookup-of t number (now (message .entry)) tag k ⌝ }
 {
     look(t, number, message, tag, Occurrence::Nth(k))
 }
 
-// The last of the outermost fields with a tag.
 pub fn lookup_last(t: Table, number: u64, message: &[u8], tag: u64) -> Found
     ensures { λ r. ⌜ r ≡ lookupLast t number (now (message .entry)) tag ⌝ }
 {

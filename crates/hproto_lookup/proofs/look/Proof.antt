@@ -1,112 +1,71 @@
-use borrow.Author.Needs.{needs}
+-- `look` refuses a table that no loader gives, and looks under the index of any other.
 use native.Mathlib.Omega.{arith}
-use Prim.Native.Nat.{ℕ}
-use mathlib.Core.Path.{_≡_, sym, ap, _∙_}
-use denote.Ref.{now}
-use Rattle.hproto_table.specs.Entry.{entries}
-use Rattle.hproto_table.specs.Schema.{schemaOf, schema}
-use Rattle.hproto_check.specs.Check.{check}
-use Rattle.reading.specs.declared.Checked.{Checked}
-use Rattle.hproto_lookup.proofs.Answers.{refused-first, absent, Present, present}
+use mathlib.Core.Path.{sym, _∙_}
+use borrow.Author.Tests.{not-true, not-false}
+use Rattle.table_index.specs.internal.Cells.{indexed}
+use Rattle.table_index.proofs.Loaded.{table-schema}
+use Rattle.reading.specs.Checks as answers
+use Rattle.hproto_check.proofs.Counts.{too-long, bad-table}
+use Rattle.hproto_lookup.specs.Lookup.{refusal}
+use Rattle.hproto_lookup.proofs.Answers.{refused-first, answer-under}
+use borrow.Author.Needs.{needs}
 use Rattle.hproto_lookup.proofs.look.Statement.{statement}
 use Rattle.hproto_lookup.proofs.look.Tie as tie
-
--- The check refused nothing.
-passed : (c : tie.Else1)
-    → check (c .before .before .before .before .args .t) (c .before .before .before .before .args .number) (now (c .before .before .before .before .args .message)) .refusal ≡ 0
-passed c = ap (λ (x : Checked). x .refusal) (sym (c .before .before .check .ensures)) ∙ c .if1 .left
-
-module _ (c : tie.After-start) where
-  abbrev b : tie.Start
-  b = c .before .before .before .before .before .before .before
-
-  abbrev start : ℕ
-  start = c .start .given .0 .0
-
-  abbrev end : ℕ
-  end = c .start .given .0 .1 .0
-
-  -- The walk found a field.
-  here : Present (b .args .t) (b .args .number) (now (b .args .message)) (b .args .tag) (b .args .which) (passed (c .before .before .before)) start end
-  here =
-      present (b .args .t) (b .args .number) (now (b .args .message)) (b .args .tag) (b .args .which) (passed (c .before .before .before)) start end
-      (c .before .before .pick .result) (c .before .before .pick .ensures) (c .start .given .1)
-
-check-requires : tie.Need-check-requires
-check-requires c κs = search needs
 
 refused-requires : tie.Need-refused-requires
 refused-requires c κs = search needs
 
 returns : tie.Need-returns
+unfolding answers.refusal
 returns c =
-    let a = c .before .before .before .before .before .args in
-    let k = c .before .before .before .check in
-    c .refused .ensures ∙ refused-first (a .t) (a .number) (now (a .message)) (a .tag) (a .which) (k .result) (k .ensures) (c .before .if1 .taken)
+    let a = c .before .before .before .args in
+    c .refused .ensures
+    ∙ refused-first (a .t1) (a .number) (a .message .now) (a .tag) (a .which) (answers.refusal 1 0) (too-long (a .t1) (a .number) (a .message .now) (c .before .if1 .taken)) (λ z. omega arith)
 
-pick-requires : tie.Need-pick-requires
-pick-requires c κs = search needs
-
-enum-told : tie.Need-enum-told
-enum-told c = search needs
+valid-requires : tie.Need-valid-requires
+valid-requires c κs = search needs
 
 refused-requires-2 : tie.Need-refused-requires-2
 refused-requires-2 c κs = search needs
 
-enum-known-start : tie.Need-enum-known-start
-enum-known-start c = search needs
-
-slice-aggregate-find : tie.Need-slice-aggregate-find
-slice-aggregate-find c = search needs
-
-find-requires : tie.Need-find-requires
-find-requires c κs = search needs
-
-kind-number-requires : tie.Need-kind-number-requires
-kind-number-requires c κs = search needs
-
-sub-contents : tie.Need-sub-contents
-sub-contents c = here (c .before .before .before .before .before) .ordered
-
-part-contents-start : tie.Need-part-contents-start
-part-contents-start c = let h = here (c .before .before .before .before .before) .ordered in search needs
-
-part-contents-end : tie.Need-part-contents-end
-part-contents-end c = let h = here (c .before .before .before .before .before) in let o = h .ordered in let k = h .inside in omega arith
-
-contents-requires : tie.Need-contents-requires
-contents-requires c κs = search needs
-
 returns-2 : tie.Need-returns-2
+unfolding answers.refusal
 returns-2 c =
-    let k = c .before .before .before in
-    let a = c .before .before .before .before .before .before .before .before .args in
-    c .refused2 .ensures
-    ∙ absent (a .t) (a .number) (now (a .message)) (a .tag) (a .which) (passed (k .before)) (k .pick .result) (k .pick .ensures) (c .before .enum-told .given .1)
+    let a = c .before .before .before .before .before .args in
+    let v = c .before .before .valid in
+    let b = bad-table (a .t1) (a .number) (a .message .now) (c .before .before .before .if1 .left) (sym (v .ensures) ∙ not-true (v .result) (c .before .if2 .taken)) in
+    c .refused2 .ensures ∙ refused-first (a .t1) (a .number) (a .message .now) (a .tag) (a .which) (answers.refusal 2 0) b (λ z. omega arith)
+
+first-requires : tie.Need-first-requires
+first-requires c κs = search needs
+
+index-words-requires : tie.Need-index-words-requires
+index-words-requires c κs = search needs
+
+look-under-requires : tie.Need-look-under-requires
+look-under-requires c κs = search needs
 
 returns-3 : tie.Need-returns-3
-unfolding schema schemaOf entries
 returns-3 c =
-    let k = c .before .before in
-    c .contents .ensures ∙ rw (k .kind-number .ensures, k .before .find .ensures) (here (k .before .before .before .before .before) .answers)
+    let a = c .before .before .before .before .before .before .before .before .before .before .before .before .args in
+    let v = c .before .before .before .before .before .before .before .before .before .valid in
+    let x = c .before .before .index-words in
+    let f = c .before .before .before .before .first in
+    let g = sym (v .ensures) ∙ not-false (v .result) (c .before .before .before .before .before .before .before .before .if2 .left) in
+    let e = table-schema (a .t1) (x .result) (f .result .now) (x .last .1 .0) g (f .ensures) (x .ensures .0) (x .ensures .1) in
+    c .look-under .ensures
+    ∙ answer-under (a .t1) (indexed (x .last .1 .0)) e (a .number) (a .message .now) (c .before .before .before .before .before .before .before .before .before .before .if1 .left) g (a .tag) (a .which)
 
 pub look-spec : {M : Type 1} → statement M
 look-spec =
     tie.close
     (tie.spec
-    check-requires
     refused-requires
     returns
-    pick-requires
-    enum-told
+    valid-requires
     refused-requires-2
-    enum-known-start
-    slice-aggregate-find
-    find-requires
-    kind-number-requires
-    sub-contents
-    part-contents-start
-    part-contents-end
-    contents-requires
     returns-2
+    first-requires
+    index-words-requires
+    look-under-requires
     returns-3)
