@@ -9,8 +9,8 @@ work=$(mktemp -d)
 trap 'rm -rf "$work"' EXIT
 
 tools/install.sh "$work/usr" > /dev/null
-# Of the C library the archive needs these three functions and nothing else.
-[ "$(nm "$work/usr/lib/libcrudvim.a" | awk '$1 == "U" { print $2 }' | sort -u | xargs)" = "memcpy memmove memset" ]
+# Of the C library the archive needs these two functions and nothing else.
+[ "$(nm "$work/usr/lib/libcrudvim.a" | awk '$1 == "U" { print $2 }' | sort -u | xargs)" = "memmove memset" ]
 gcc -std=c99 -Wall -Wextra -Werror -pedantic -O2 -I"$work/usr/include" examples/concentrator.c -L"$work/usr/lib" -lcrudvim -o "$work/concentrator"
 if command -v g++ > /dev/null; then
     g++ -Wall -Wextra -Werror -pedantic -fsyntax-only -x c++ include/crudvim.h
