@@ -3,13 +3,10 @@ use hproto_message::Step;
 use hproto_table::Meaning;
 use octets::Control;
 ghost use mathlib.Core.Path.{_≡_};
-ghost use mathlib.Core.List.{map};
 ghost use mathlib.Core.Bool.{cond};
 ghost use lib.Dec.{leb};
-ghost use lib.ListN.{length, take};
+ghost use lib.ListN.{length};
 ghost use Rattle.octets.specs.Text.{text};
-ghost use Rattle.hproto_table.specs.Entry.{entry};
-ghost use Rattle.hproto_table.specs.Schema.{schemaOf};
 ghost use Rattle.hproto_message.specs.Reading.{step as step-of, stepByKind};
 ghost use Rattle.hproto_field.specs.internal.Fronts.{front as front-of, part as part-of, nothing as nothing-of};
 ghost use Rattle.hproto_field.specs.internal.Held.{heldIn};
@@ -135,25 +132,7 @@ fn nothing() -> Field
     }
 }
 
-// The field at the front of octets, its contents unread, under the first words of a table.
-pub fn field_at(words: &[u64], count: usize, number: u64, s: &[u8]) -> Field
-    ensures { λ r. ⌜ r ≡ front-of (schemaOf (map entry (take count (now (words .entry))))) number (now (s .entry)) ⌝ }
-{
-    match part(s) {
-        Extent::None => nothing(),
-        Extent::Found(tag, control, contents) => {
-            let kind = hproto_find::find(words, count, number, tag);
-            Field {
-                tag,
-                kind,
-                control,
-                contents,
-            }
-        }
-    }
-}
-
-// The same under the index of a table.
+// The field at the front of octets, its contents unread, under the index of a table.
 pub fn field_in(cells: &[u32; 128], number: u64, s: &[u8]) -> Field
     ensures { λ r. ⌜ r ≡ front-of (indexed (now (cells .entry))) number (now (s .entry)) ⌝ }
 {

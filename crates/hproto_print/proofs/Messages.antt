@@ -1,14 +1,14 @@
 -- What is printed for a message, by the check's answer.
 use Prim.Native.Nat.{ℕ, _≤_}
 use native.Mathlib.Omega.{arith}
-use mathlib.Core.Path.{_≡_, sym, ap, _∙_}
+use mathlib.Core.Path.{_≡_, refl, sym, ap, _∙_}
 use mathlib.Core.Bool.{Bool, true, false, cond}
 use mathlib.Core.List.{List}
 use lib.ListN.{length}
 use lib.Dec.{ltb}
 use borrow.Author.Tests.{eq-eqb, ne-eqb}
 use Rattle.hproto_message.specs.internal.Accepts.{Accepts}
-use Rattle.hproto_table.specs.Schema.{schema}
+use Rattle.hproto_table.specs.Schema.{Schema, schema}
 use Rattle.hproto_table.specs.Valid.{valid}
 use Rattle.hproto_table.specs.declared.Table.{Table}
 use Rattle.hproto_message.specs.Cut.{Cut}
@@ -65,11 +65,23 @@ module _ (t : Table) (s : List ℕ) (c : Checked) (e : c ≡ check t 0 s) where
   unfolding messageText
   message-refused ne = rw (← e, ne-eqb (c .refusal) 0 ne)
 
-  pub message-accepts : c .refusal ≡ 0 → (length s ≤ 65536) × Accepts (schema t) 8 0 s
-  unfolding Accepts IsAccepted reading
-  message-accepts z = let p = passed t s c e z in (p .0, (p .1 .0, p .1 .1))
+  module _ (z : c .refusal ≡ 0) where
+    pub message-valid : valid t ≡ true
+    unfolding check answers.refusal
+    message-valid = go (ltb messageLimit (length s)) (valid t) e
+      where
+        go : (b v : Bool) → c ≡ cond b (answers.refusal 1 0) (cond v (checkUnder (schema t) 0 s) (answers.refusal 2 0)) → v ≡ true
+        go true v g = let l : c .refusal ≡ 1 = ap (λ (x : Checked). x .refusal) g in absurd (omega arith)
+        go false true g = refl
+        go false false g = let l : c .refusal ≡ 2 = ap (λ (x : Checked). x .refusal) g in absurd (omega arith)
 
-  pub message-shown : c .refusal ≡ 0 → page (linesOf (schema t) 8 0 s) (c .fields) (length s) ≡ messageText t s
-  message-shown z =
-      let p = passed t s c e z .1 in
-      shown-is t s c e z (p .0) (p .1) (fields-are t s c e z (p .0) (p .1))
+    -- What holds under the schema of the table.
+    module _ (sc : Schema) (same : sc ≡ schema t) where
+      pub message-accepts : (length s ≤ 65536) × Accepts sc 8 0 s
+      unfolding Accepts IsAccepted reading
+      message-accepts = rw same (let p = passed t s c e z in (p .0, (p .1 .0, p .1 .1)))
+
+      pub message-shown : page (linesOf sc 8 0 s) (c .fields) (length s) ≡ messageText t s
+      message-shown =
+          let p = passed t s c e z .1 in
+          rw same (shown-is t s c e z (p .0) (p .1) (fields-are t s c e z (p .0) (p .1)))

@@ -5,12 +5,10 @@ mod print;
 
 use hproto_table::Table;
 ghost use mathlib.Core.Path.{_≡_};
-ghost use mathlib.Core.List.{map};
 ghost use Prim.Native.Nat.{_≤_};
-ghost use lib.ListN.{length, take};
+ghost use lib.ListN.{length};
 ghost use Rattle.reading.specs.Reading.{messageLimit};
-ghost use Rattle.hproto_table.specs.Entry.{entry};
-ghost use Rattle.hproto_table.specs.Schema.{schemaOf};
+ghost use Rattle.table_index.specs.internal.Cells.{indexed};
 ghost use Rattle.hproto_print.specs.Window.{window};
 ghost use Rattle.hproto_print.specs.internal.Pieces.{Printed};
 ghost use Rattle.hproto_print.specs.Text.{page as page-of, refusal as refusal-of, messageText};
@@ -18,13 +16,13 @@ ghost use Rattle.hproto_message.specs.internal.Accepts.{Accepts};
 ghost use Rattle.hproto_print.specs.internal.Walk.{linesOf};
 
 // The text of a message with number 0 that was checked before, its count of fields given.
-fn page(words: &[u64], count: usize, fields: u64, s: &[u8], from: u64, out: &mut [u8]) -> u64
+fn page(cells: &[u32; 128], fields: u64, s: &[u8], from: u64, out: &mut [u8]) -> u64
     requires { ⌜ length (now s) ≤ messageLimit ⌝ }
-    requires { ⌜ Accepts (schemaOf (map entry (take count (now words)))) 8 0 (now s) ⌝ }
-    ensures { λ r. ⌜ Printed (now (out .entry)) from 0 (page-of (linesOf (schemaOf (map entry (take count (now (words .entry))))) 8 0 (now (s .entry))) fields (length (now (s .entry)))) r (now (out .exit)) ⌝ }
+    requires { ⌜ Accepts (indexed (now cells)) 8 0 (now s) ⌝ }
+    ensures { λ r. ⌜ Printed (now (out .entry)) from 0 (page-of (linesOf (indexed (now (cells .entry))) 8 0 (now (s .entry))) fields (length (now (s .entry)))) r (now (out .exit)) ⌝ }
 {
     let a = print::octets(out, from, 0, b"depth tag kind value\n");
-    let b = lines::write(words, count, 0, 8, s, out, from, a);
+    let b = lines::write(cells, 0, 8, s, out, from, a);
     let c = print::octets(out, from, b, b"fields ");
     let d = print::decimal(out, from, c, fields);
     let e = print::octets(out, from, d, b" octets ");
@@ -54,7 +52,8 @@ pub fn message(t: Table, s: &[u8], from: u64, out: &mut [u8]) -> u64
     if c.refusal != 0 {
         return refusal(c.refusal, c.place, from, out);
     }
-    let words = t.words;
-    let count = t.count;
-    page(&words, count, c.fields, s, from, out)
+    let mut cells = [0u32; 128];
+    let words = hproto_find::first(&t.words, t.count);
+    table_index::index_words(words, &mut cells);
+    page(&cells, c.fields, s, from, out)
 }

@@ -4,13 +4,11 @@ use crate::print;
 use hproto_field::Holds;
 use hproto_table::Meaning;
 ghost use mathlib.Core.Path.{_≡_};
-ghost use mathlib.Core.List.{map};
 ghost use Prim.Native.Nat.{_≤_};
-ghost use lib.ListN.{length, take};
+ghost use lib.ListN.{length};
 ghost use Rattle.octets.specs.Number.{number as number-of};
 ghost use Rattle.octets.specs.Signed.{integer};
-ghost use Rattle.hproto_table.specs.Entry.{entry};
-ghost use Rattle.hproto_table.specs.Schema.{schemaOf};
+ghost use Rattle.table_index.specs.internal.Cells.{indexed};
 ghost use Rattle.hproto_message.specs.Cut.{Contents};
 ghost use Rattle.hproto_message.specs.internal.Accepts.{Accepts};
 ghost use Rattle.hproto_message.specs.Tree.{value as value-of};
@@ -101,14 +99,14 @@ fn leaf_line(
 }
 
 // How many fields a message has itself.
-fn direct(words: &[u64], count: usize, number: u64, s: &[u8]) -> u64
-    requires { ⌜ Accepts (schemaOf (map entry (take count (now words)))) 8 number (now s) ⌝ }
-    ensures { λ r. ⌜ r ≡ directOf (schemaOf (map entry (take count (now (words .entry))))) number (now (s .entry)) ⌝ }
+fn direct(cells: &[u32; 128], number: u64, s: &[u8]) -> u64
+    requires { ⌜ Accepts (indexed (now cells)) 8 number (now s) ⌝ }
+    ensures { λ r. ⌜ r ≡ directOf (indexed (now (cells .entry))) number (now (s .entry)) ⌝ }
 {
     let mut i: usize = 0;
     let mut n: u64 = 0;
     while i < s.len() {
-        let f = hproto_field::field_at(words, count, number, &s[i..]);
+        let f = hproto_field::field_in(cells, number, &s[i..]);
         let a = i + f.control;
         i = a + f.contents;
         n += 1;
@@ -118,8 +116,7 @@ fn direct(words: &[u64], count: usize, number: u64, s: &[u8]) -> u64
 
 // The line of a field that holds a message of a number. The count of its fields stands in the line, before their own lines.
 fn message_line(
-    words: &[u64],
-    count: usize,
+    cells: &[u32; 128],
     number: u64,
     s: &[u8],
     out: &mut [u8],
@@ -128,11 +125,11 @@ fn message_line(
     depth: u64,
     tag: u64,
 ) -> u64
-    requires { ⌜ Accepts (schemaOf (map entry (take count (now words)))) 8 number (now s) ⌝ }
-    requires { ⌜ FitsU64 at (line depth tag (ascii "message") (decimal (directOf (schemaOf (map entry (take count (now words)))) number (now s)))) ⌝ }
-    ensures { λ r. ⌜ Printed (now (out .entry)) from at (line depth tag (ascii "message") (decimal (directOf (schemaOf (map entry (take count (now (words .entry))))) number (now (s .entry))))) r (now (out .exit)) ⌝ }
+    requires { ⌜ Accepts (indexed (now cells)) 8 number (now s) ⌝ }
+    requires { ⌜ FitsU64 at (line depth tag (ascii "message") (decimal (directOf (indexed (now cells)) number (now s)))) ⌝ }
+    ensures { λ r. ⌜ Printed (now (out .entry)) from at (line depth tag (ascii "message") (decimal (directOf (indexed (now (cells .entry))) number (now (s .entry))))) r (now (out .exit)) ⌝ }
 {
-    let n = direct(words, count, number, s);
+    let n = direct(cells, number, s);
     let a = front(out, from, at, depth, tag, Meaning::Message(number));
     let b = print::decimal(out, from, a, n);
     print::put(out, from, b, b'\n')
@@ -141,8 +138,7 @@ fn message_line(
 // The lines of a message of a number that may be `levels` messages deep, itself counted. A nested message's lines follow the line of
 // its field.
 pub(crate) fn write(
-    words: &[u64],
-    count: usize,
+    cells: &[u32; 128],
     number: u64,
     levels: u64,
     s: &[u8],
@@ -151,14 +147,14 @@ pub(crate) fn write(
     at: u64,
 ) -> u64
     requires { ⌜ levels ≤ 8 ⌝ }
-    requires { ⌜ Accepts (schemaOf (map entry (take count (now words)))) levels number (now s) ⌝ }
-    requires { ⌜ FitsU64 at (linesOf (schemaOf (map entry (take count (now words)))) levels number (now s)) ⌝ }
-    ensures { λ r. ⌜ Printed (now (out .entry)) from at (linesOf (schemaOf (map entry (take count (now (words .entry))))) levels number (now (s .entry))) r (now (out .exit)) ⌝ }
+    requires { ⌜ Accepts (indexed (now cells)) levels number (now s) ⌝ }
+    requires { ⌜ FitsU64 at (linesOf (indexed (now cells)) levels number (now s)) ⌝ }
+    ensures { λ r. ⌜ Printed (now (out .entry)) from at (linesOf (indexed (now (cells .entry))) levels number (now (s .entry))) r (now (out .exit)) ⌝ }
 {
     let mut i: usize = 0;
     let mut end = at;
     while i < s.len() {
-        let f = hproto_field::field_at(words, count, number, &s[i..]);
+        let f = hproto_field::field_in(cells, number, &s[i..]);
         let kind = f.kind;
         let a = i + f.control;
         let e = a + f.contents;
@@ -170,8 +166,8 @@ pub(crate) fn write(
                 i = e;
             }
             Holds::Number(m) => {
-                let b = message_line(words, count, m, &s[a..e], out, from, end, depth, tag);
-                end = write(words, count, m, levels - 1, &s[a..e], out, from, b);
+                let b = message_line(cells, m, &s[a..e], out, from, end, depth, tag);
+                end = write(cells, m, levels - 1, &s[a..e], out, from, b);
                 i = e;
             }
         }

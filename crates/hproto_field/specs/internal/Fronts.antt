@@ -1,4 +1,4 @@
--- The field at the front of octets. `field_at`, which the print calls, and `field_in`, which the shortener calls, answer its tag, its kind
+-- The field at the front of octets. `field_in`, which print and shortener call, answers its tag, its kind
 -- and its sizes; `part` of this crate, and `front` of the lookup, the tag and the sizes alone.
 use Prim.Native.Nat.{ℕ, _-_}
 use mathlib.Core.Bool.{cond}

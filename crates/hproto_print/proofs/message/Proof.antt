@@ -1,10 +1,10 @@
 -- `hproto_print::message` meets its contract.
 use borrow.Author.Needs.{needs}
 use denote.Ref.{now}
-use Rattle.hproto_table.specs.Entry.{entries}
-use Rattle.hproto_table.specs.Schema.{schema}
+use Rattle.table_index.specs.internal.Cells.{indexed}
+use Rattle.table_index.proofs.Loaded.{table-schema}
 use Rattle.hproto_print.proofs.Windows.{same-window, whole-printed}
-use Rattle.hproto_print.proofs.Messages.{message-refused, message-accepts, message-shown}
+use Rattle.hproto_print.proofs.Messages.{message-refused, message-valid, message-accepts, message-shown}
 use Rattle.hproto_print.proofs.message.Statement.{statement}
 use Rattle.hproto_print.proofs.message.Tie as tie
 
@@ -21,27 +21,36 @@ returns : tie.Need-returns
 returns c =
     let a = c .before .before .before .before .before .before .before .before .before .args in
     let k = c .before .before .before .before .before .before .check in
-    same-window (now (a .out)) (a .from) (message-refused (a .t) (now (a .s)) (k .result) (k .ensures) (c .before .before .before .before .if1 .taken)) (c .before .before .refusal .ensures)
+    same-window (now (a .out)) (a .from) (message-refused (a .t1) (now (a .s)) (k .result) (k .ensures) (c .before .before .before .before .if1 .taken)) (c .before .before .refusal .ensures)
 
-slice-aggregate-page : tie.Need-slice-aggregate-page
-slice-aggregate-page c = search needs
+first-requires : tie.Need-first-requires
+first-requires c κs = search needs
+
+index-words-requires : tie.Need-index-words-requires
+index-words-requires c κs = search needs
 
 page-requires : tie.Need-page-requires
-unfolding schema entries
 page-requires c κs =
-    let a = c .before .before .before .before .before .before .before .before .args in
-    let k = c .before .before .before .before .before .check in
-    message-accepts (a .t) (now (a .s)) (k .result) (k .ensures) (c .before .before .before .if1 .left)
+    let a = c .before .before .before .before .before .before .before .before .before .before .before .before .before .args in
+    let k = c .before .before .before .before .before .before .before .before .before .before .check in
+    let z = c .before .before .before .before .before .before .before .before .if1 .left in
+    let x = c .before .before .index-words in
+    let f = c .before .before .before .before .first in
+    let e = table-schema (a .t1) (x .result) (f .result .now) (x .last .1 .0) (message-valid (a .t1) (now (a .s)) (k .result) (k .ensures) z) (f .ensures) (x .ensures .0) (x .ensures .1) in
+    message-accepts (a .t1) (now (a .s)) (k .result) (k .ensures) z (indexed (x .last .1 .0)) e
 
 same-length-2 : tie.Need-same-length-2
 same-length-2 c = search needs
 
 returns-2 : tie.Need-returns-2
-unfolding schema entries
 returns-2 c =
-    let a = c .before .before .before .before .before .before .before .before .before .before .before .args in
-    let k = c .before .before .before .before .before .before .before .before .check in
-    same-window (now (a .out)) (a .from) (message-shown (a .t) (now (a .s)) (k .result) (k .ensures) (c .before .before .before .before .before .before .if1 .left)) (whole-printed (c .before .before .page .ensures))
+    let a = c .before .before .before .before .before .before .before .before .before .before .before .before .before .before .before .before .args in
+    let k = c .before .before .before .before .before .before .before .before .before .before .before .before .before .check in
+    let z = c .before .before .before .before .before .before .before .before .before .before .before .if1 .left in
+    let x = c .before .before .before .before .before .index-words in
+    let f = c .before .before .before .before .before .before .before .first in
+    let e = table-schema (a .t1) (x .result) (f .result .now) (x .last .1 .0) (message-valid (a .t1) (now (a .s)) (k .result) (k .ensures) z) (f .ensures) (x .ensures .0) (x .ensures .1) in
+    same-window (now (a .out)) (a .from) (message-shown (a .t1) (now (a .s)) (k .result) (k .ensures) z (indexed (x .last .1 .0)) e) (whole-printed (c .before .before .page .ensures))
 
 pub message-spec : {M : Type 1} → statement M
 message-spec =
@@ -51,7 +60,8 @@ message-spec =
     refusal-requires
     same-length
     returns
-    slice-aggregate-page
+    first-requires
+    index-words-requires
     page-requires
     same-length-2
     returns-2)

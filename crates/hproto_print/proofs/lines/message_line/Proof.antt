@@ -2,12 +2,11 @@
 use borrow.Author.Needs.{needs}
 use native.Mathlib.Omega.{arith}
 use mathlib.Core.Path.{ap}
-use mathlib.Core.List.{[], _∷_, map}
+use mathlib.Core.List.{[], _∷_}
 use Prim.Native.Nat.{ℕ}
-use lib.ListN.{take, length-append}
+use lib.ListN.{length-append}
 use denote.Ref.{now}
-use Rattle.hproto_table.specs.Entry.{entry}
-use Rattle.hproto_table.specs.Schema.{schemaOf}
+use Rattle.table_index.specs.internal.Cells.{indexed}
 use Rattle.hproto_print.specs.Ascii.{ascii}
 use Rattle.hproto_print.specs.Digits.{decimal}
 use Rattle.hproto_print.specs.Text.{front, line}
@@ -18,7 +17,7 @@ use Rattle.hproto_print.proofs.lines.message_line.Tie as tie
 
 -- The count that stands in the line.
 abbrev count : tie.Start → ℕ
-count b = directOf (schemaOf (map entry (take (b .args .count) (now (b .args .words))))) (b .args .number) (now (b .args .s))
+count b = directOf (indexed (now (b .args .cells))) (b .args .number) (now (b .args .s))
 
 direct-requires : tie.Need-direct-requires
 direct-requires c κs = search needs
@@ -26,19 +25,19 @@ direct-requires c κs = search needs
 front-requires : tie.Need-front-requires
 unfolding line ascii meaningName
 front-requires c κs =
-    let b = c .before .before .before .before .before in
+    let b = c .before .before .before .before in
     fits-less (front (b .args .depth) (b .args .tag) (ascii "message")) (b .pre .1) (simp length-append (omega arith))
 
 decimal-requires : tie.Need-decimal-requires
 unfolding line ascii meaningName
 decimal-requires c κs =
-    let b = c .before .before .before .before .before .before .before .before .before in
+    let b = c .before .before .before .before .before .before .before .before in
     rw (c .before .before .before .before .before .direct .ensures) (fits-after (decimal (count b)) (c .before .before .before .front .ensures) (b .pre .1) (simp length-append (omega arith)))
 
 put-requires : tie.Need-put-requires
 unfolding line ascii meaningName
 put-requires c κs =
-    let b = c .before .before .before .before .before .before .before .before .before .before .before .before .before in
+    let b = c .before .before .before .before .before .before .before .before .before .before .before .before in
     let n = same-place (decimal (count b)) (ap decimal (c .before .before .before .before .before .before .before .before .before .direct .ensures)) (c .before .before .before .decimal .ensures) in
     fits-after (0x0a ∷ []) (then (c .before .before .before .before .before .before .before .front .ensures) n) (b .pre .1) (simp length-append (omega arith))
 
@@ -48,7 +47,7 @@ same-length c = search needs
 returns : tie.Need-returns
 unfolding line ascii meaningName
 returns c =
-    let b = c .before .before .before .before .before .before .before .before .before .before .before .before .before .before .before .before in
+    let b = c .before .before .before .before .before .before .before .before .before .before .before .before .before .before .before in
     let n = same-place (decimal (count b)) (ap decimal (c .before .before .before .before .before .before .before .before .before .before .before .before .direct .ensures)) (c .before .before .before .before .before .before .decimal .ensures) in
     then (then (c .before .before .before .before .before .before .before .before .before .before .front .ensures) n) (c .before .before .put .ensures)
 
