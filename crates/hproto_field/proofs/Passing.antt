@@ -83,6 +83,7 @@ module _ (sc : Schema) (levels n : ℕ) (s : List ℕ) where
     pub record LeafNext : Type 0 where
       pub left : Left (i + f .control + f .contents)
       pub contents : Contents (f .kind) part
+      pub cut-is : p .rest ≡ Cut.leaf (f .tag) (take (f .control) (drop i s)) part (left .rest)
       pub tree-is : tree sc n (p .rest) ≡ Tree.leaf (f .tag) (value (f .kind) part) (tree sc n (left .rest))
 
     pub leaf-next : Plain (f .kind) → LeafNext
@@ -92,6 +93,7 @@ module _ (sc : Schema) (levels n : ℕ) (s : List ℕ) where
         record {
           left = record { rest = x .rest; good = subst (λ (r : List ℕ). Good sc (suc levels) n r (x .rest)) rest-is (x .good); inside = ends .1 };
           contents = rw (k, ← part-is) (x .contents);
+          cut-is = x .cut-is ∙ rw part-is;
           tree-is = x .tree-is ∙ rw (part-is, ← k);
         }
 
@@ -101,6 +103,7 @@ module _ (sc : Schema) (levels n : ℕ) (s : List ℕ) where
       pub inner : Cut
       pub good-inner : Good sc levels m part inner
       pub positive : 1 ≤ levels
+      pub cut-is : p .rest ≡ Cut.nested (f .tag) (take (f .control) (drop i s)) inner (left .rest)
       pub tree-is : tree sc n (p .rest) ≡ Tree.nested (f .tag) (tree sc m inner) (tree sc n (left .rest))
 
     pub nested-next : (m : ℕ) → f .kind ≡ Message m → NestedNext m
@@ -115,5 +118,6 @@ module _ (sc : Schema) (levels n : ℕ) (s : List ℕ) where
           inner = x .inner;
           good-inner = g;
           positive = omega arith;
+          cut-is = x .cut-is;
           tree-is = x .tree-is;
         }

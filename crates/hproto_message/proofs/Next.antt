@@ -21,6 +21,7 @@ use Rattle.hproto_message.proofs.Steps.{field-control, in-three}
 pub record NextLeaf (sc : Schema) (levels n : ℕ) (s : List ℕ) (cut : Cut) (tag len size : ℕ) : Type 0 where
   pub rest : Cut
   pub good : Good sc (suc levels) n (drop (size + len) s) rest
+  pub cut-is : cut ≡ Cut.leaf tag (take size s) (take len (drop size s)) rest
   pub tree-is : tree sc n cut ≡ Tree.leaf tag (value (sc .means n tag) (take len (drop size s))) (tree sc n rest)
   pub contents : Contents (sc .means n tag) (take len (drop size s))
   pub positive : 1 ≤ size
@@ -32,6 +33,7 @@ pub record NextNested (sc : Schema) (levels n m : ℕ) (s : List ℕ) (cut : Cut
   pub rest : Cut
   pub good-inner : Good sc levels m (take len (drop size s)) inner
   pub good : Good sc (suc levels) n (drop (size + len) s) rest
+  pub cut-is : cut ≡ Cut.nested tag (take size s) inner rest
   pub tree-is : tree sc n cut ≡ Tree.nested tag (tree sc m inner) (tree sc n rest)
   pub positive : 1 ≤ size
   pub inside : size + len ≤ length s
@@ -54,6 +56,7 @@ module _ (sc : Schema) (levels n : ℕ) where
       record {
         rest = rest;
         good = record { divides = sym (p .third); allowed = a; shallow = d };
+        cut-is = rw (p .first, p .second);
         tree-is = rw (p .second);
         contents = rw (p .second) (f .allowed);
         positive = part-size tag (length b) c (f .whole);
@@ -71,6 +74,7 @@ module _ (sc : Schema) (levels n : ℕ) where
         rest = rest;
         good-inner = record { divides = sym (p .second); allowed = i; shallow = e };
         good = record { divides = sym (p .third); allowed = a; shallow = d };
+        cut-is = rw (p .first);
         tree-is = rw (f .allowed);
         positive = part-size tag (length (joined inner)) c (f .whole);
         inside = simp length-append (omega arith);
