@@ -8,7 +8,9 @@ use lib.Seq.{drop-drop}
 use Rattle.octets.specs.Control.{control}
 use Rattle.octets.specs.declared.Control.the-variants.{Whole}
 use Rattle.octets.proofs.ControlPart.{control-size}
+use Rattle.hproto_table.specs.Entry.{innerOf}
 use Rattle.hproto_table.specs.Schema.{Schema}
+use Rattle.hproto_table.specs.declared.Meaning.{Meaning}
 use Rattle.hproto_table.specs.declared.Meaning.the-variants.{Message}
 use Rattle.hproto_message.specs.Cut.{Cut, end, Contents, Good}
 use Rattle.hproto_message.specs.Tree.{Tree, value, tree}
@@ -87,6 +89,7 @@ module _ (sc : Schema) (levels n : ℕ) (s : List ℕ) where
       pub tree-is : tree sc n (p .rest) ≡ Tree.leaf (f .tag) (value (f .kind) part) (tree sc n (left .rest))
 
     pub leaf-next : Plain (f .kind) → LeafNext
+    unfolding tree
     leaf-next q =
         let k = front-is .1 in
         let x = next-leaf sc levels n (f .tag) (f .contents) (f .control) (drop i s) (p .rest) (p .good) (front-is .0) (subst Plain k q) in
@@ -94,7 +97,7 @@ module _ (sc : Schema) (levels n : ℕ) (s : List ℕ) where
           left = record { rest = x .rest; good = subst (λ (r : List ℕ). Good sc (suc levels) n r (x .rest)) rest-is (x .good); inside = ends .1 };
           contents = rw (k, ← part-is) (x .contents);
           cut-is = x .cut-is ∙ rw part-is;
-          tree-is = x .tree-is ∙ rw (part-is, ← k);
+          tree-is = ap (tree sc n) (x .cut-is) ∙ rw (part-is, ← k);
         }
 
     -- A field that is a message of the number m, and the fields after it.
@@ -107,6 +110,7 @@ module _ (sc : Schema) (levels n : ℕ) (s : List ℕ) where
       pub tree-is : tree sc n (p .rest) ≡ Tree.nested (f .tag) (tree sc m inner) (tree sc n (left .rest))
 
     pub nested-next : (m : ℕ) → f .kind ≡ Message m → NestedNext m
+    unfolding tree innerOf
     nested-next m q =
         let k = front-is .1 in
         let x = next-nested sc levels n (f .tag) (f .contents) (f .control) (drop i s) (p .rest) (p .good) (front-is .0) m (sym k ∙ q) in
@@ -119,5 +123,5 @@ module _ (sc : Schema) (levels n : ℕ) (s : List ℕ) where
           good-inner = g;
           positive = omega arith;
           cut-is = x .cut-is;
-          tree-is = x .tree-is;
+          tree-is = ap (tree sc n) (x .cut-is) ∙ ap (λ (j : Meaning). Tree.nested (f .tag) (tree sc (innerOf j) (x .inner)) (tree sc n (x .rest))) (sym k ∙ q);
         }

@@ -17,13 +17,14 @@ use Rattle.hproto_table.specs.declared.Meaning.the-variants.{Raw, Uint, Int, St
 use Rattle.hproto_table.specs.Valid.{valid}
 use Rattle.hproto_table.specs.declared.Table.{Table}
 use Rattle.hproto_message.specs.Cut.{Cut, Contents, Good}
-use Rattle.hproto_message.specs.Tree.{value}
+use Rattle.hproto_message.specs.Tree.{value, kindOf}
+use Rattle.hproto_message.specs.Items.{Item, itemTag, withTag, itemKind, uintOf, intOf}
 use Rattle.reading.specs.Reading.{accepted}
 use Rattle.hproto_message.specs.Reading.{reading}
 use Rattle.hproto_message.proofs.Accepted.{accepted-good}
 use Rattle.hproto_check.specs.Check.{check, checkUnder}
 use Rattle.reading.specs.declared.Checked.{Checked}
-use Rattle.hproto_lookup.specs.Lookup.{Item, Outer, outermost, itemTag, withTag, chosen, itemKind, uintOf, intOf, refusal, found, foundIn, answer, lookup, lookupLast}
+use Rattle.hproto_lookup.specs.Lookup.{Outer, outermost, chosen, refusal, found, foundIn, answer, lookup, lookupLast}
 use Rattle.hproto_lookup.specs.internal.Under.{answerUnder, lookupUnder, lookupLastUnder}
 use Rattle.hproto_lookup.specs.internal.Spots.{places, spotOf, nthSpot, lastSpot, chosenSpot, uintIn, intIn, read}
 use Rattle.hproto_lookup.specs.declared.Occurrence.{Occurrence}
@@ -39,7 +40,7 @@ use Rattle.hproto_check.proofs.Counts.{under-valid}
 -- Contents that are allowed for a kind are answered with the kind's number and their value.
 read-leaf : (k : Meaning) (t start : ℕ) (b : List ℕ) → Contents k b
     → read (kindNumber k) start b ≡ found (some (record { item = Item.leaf t (value k b); start = start; length = length b }))
-unfolding read kindNumber uintIn intIn unsigned signed found itemKind uintOf intOf value Contents
+unfolding read kindNumber uintIn intIn unsigned signed found itemKind kindOf uintOf intOf value Contents
 read-leaf Raw t start b h = refl
 read-leaf Uint t start b h = rw (le-leb (length b) 8 h)
 read-leaf Int t start b h = rw (le-leb (length b) 8 h)

@@ -8,7 +8,8 @@ use lib.ListN.{getElem?}
 use mathlib.Core.Option.{Option, none, some, Option·map}
 use lib.Dec.{eqb}
 use borrow.Author.Tests.{eqb-true, ne-eqb}
-use Rattle.hproto_lookup.specs.Lookup.{Item, itemTag, withTag, lastOr, chosen}
+use Rattle.hproto_message.specs.Items.{Item, itemTag, withTag}
+use Rattle.hproto_lookup.specs.Lookup.{lastOr, chosen}
 use Rattle.hproto_lookup.specs.declared.Occurrence.{Occurrence}
 use Rattle.hproto_lookup.specs.declared.Occurrence.the-variants.{Nth, Last}
 

@@ -17,8 +17,9 @@ use Rattle.hproto_table.specs.Schema.{Schema}
 use Rattle.hproto_message.specs.Cut as cuts
 use Rattle.hproto_message.specs.Cut.{Cut, joined, WholeField, Allowed, Good}
 use Rattle.hproto_message.specs.Tree.{value, tree}
+use Rattle.hproto_message.specs.Items.{Item, items, itemTag, withTag}
 use Rattle.hproto_message.proofs.Steps.{field-control, in-three}
-use Rattle.hproto_lookup.specs.Lookup.{Item, items, Outer, outermost, itemTag, withTag}
+use Rattle.hproto_lookup.specs.Lookup.{Outer, outermost}
 use Rattle.hproto_lookup.specs.internal.Spots.{Span, afterPart, placesFrom, places}
 use Rattle.hproto_field.specs.internal.Fronts.{partFrom, part}
 use Rattle.hproto_field.specs.declared.Extent.the-variants.{Found}

@@ -10,10 +10,11 @@ use Rattle.hproto_table.specs.Schema.{schema}
 use Rattle.hproto_table.specs.declared.Table.{Table}
 use Rattle.hproto_message.specs.Cut.{Cut, Good}
 use Rattle.hproto_message.specs.Tree.{tree}
+use Rattle.hproto_message.specs.Items.{Item, itemTag, withTag}
 use Rattle.hproto_message.specs.Reading.{reading}
 use Rattle.hproto_message.proofs.Accepted.{good-accepted}
 use Rattle.hproto_check.specs.Check.{check}
-use Rattle.hproto_lookup.specs.Lookup.{Item, Outer, outermost, itemTag, withTag, chosen, refusal, found, answer, occurrence}
+use Rattle.hproto_lookup.specs.Lookup.{Outer, outermost, chosen, refusal, found, answer, occurrence}
 use Rattle.hproto_lookup.specs.declared.Occurrence.{Occurrence}
 use Rattle.hproto_lookup.specs.declared.Found.{Found}
 use Rattle.hproto_lookup.proofs.Choosing.{Of, chosen-map, chosen-none, withTag-map, withTag-none}

@@ -5,11 +5,12 @@ use mathlib.Core.List.{List}
 use mathlib.Core.Option.{Option, none, some}
 use lib.ListN.{length, take, drop}
 use Rattle.hproto_table.specs.Schema.{Schema}
-use Rattle.hproto_lookup.specs.Lookup.{Item, itemTag, itemKind, uintOf, intOf, refusal}
+use Rattle.hproto_lookup.specs.Lookup.{refusal}
 use Rattle.hproto_lookup.specs.declared.Found.{Found}
 use Rattle.hproto_table.specs.declared.Meaning.the-variants.{Message}
 use Rattle.hproto_message.specs.Cut.{Cut, Contents, Good}
 use Rattle.hproto_message.specs.Tree.{value, tree}
+use Rattle.hproto_message.specs.Items.{Item, itemTag, itemKind, uintOf, intOf}
 
 -- What octets say of a field of the tree whose contents they are. A field that is no message has the value that they have by the kind of
 -- its tag. A nested message has them as its octets: they are joined from a good cut under the inner number, and its tree is the field's.

@@ -4,13 +4,14 @@ use mathlib.Core.Bool.{cond}
 use mathlib.Core.List.{List, [], _∷_}
 use mathlib.Core.Option.{Option, none, some}
 use lib.ListN as lists
-use lib.IntN.{ℤ, pos}
+use lib.IntN.{pos}
 use lib.Dec.{eqb}
 use Rattle.hproto_table.specs.Entry.{innerOf}
 use Rattle.hproto_table.specs.Schema.{Schema, schema}
 use Rattle.hproto_table.specs.declared.Table.{Table}
 use Rattle.hproto_message.specs.Cut.{Cut, joined}
-use Rattle.hproto_message.specs.Tree.{Value, raw, uint, int, string, text, Tree, value, tree}
+use Rattle.hproto_message.specs.Tree.{Tree, value, tree}
+use Rattle.hproto_message.specs.Items.{Item, items, withTag, itemKind, uintOf, intOf}
 use Rattle.reading.specs.Reading.{Reading, accepted, refused}
 use Rattle.hproto_message.specs.Reading.{reading}
 use Rattle.hproto_check.specs.Check.{check}
@@ -18,17 +19,6 @@ use Rattle.reading.specs.declared.Checked.{Checked}
 use Rattle.hproto_lookup.specs.declared.Occurrence.{Occurrence}
 use Rattle.hproto_lookup.specs.declared.Occurrence.the-variants.{Nth, Last}
 use Rattle.hproto_lookup.specs.declared.Found.{Found}
-
--- One field of a tree, without the fields that follow it.
-pub data Item : Type 0 where
-  leaf : ℕ → Value → Item
-  nested : ℕ → Tree → Item
-
--- The outermost fields of a tree, in order.
-unfoldable pub items : Tree → List Item
-items Tree.end = []
-items (Tree.leaf tag v rest) = leaf tag v ∷ items rest
-items (Tree.nested tag inside rest) = nested tag inside ∷ items rest
 
 -- A field, and where its contents stand in the message: their first place and how many octets they have.
 pub record Outer : Type 0 where
@@ -43,20 +33,11 @@ outermost sc n at Cut.end = []
 outermost sc n at (Cut.leaf tag part s rest) =
     let k = lists.length part in
     let l = lists.length s in
-    record { item = leaf tag (value (sc .means n tag) s); start = at + k; length = l } ∷ outermost sc n (at + k + l) rest
+    record { item = Item.leaf tag (value (sc .means n tag) s); start = at + k; length = l } ∷ outermost sc n (at + k + l) rest
 outermost sc n at (Cut.nested tag part inside rest) =
     let k = lists.length part in
     let l = lists.length (joined inside) in
-    record { item = nested tag (tree sc (innerOf (sc .means n tag)) inside); start = at + k; length = l } ∷ outermost sc n (at + k + l) rest
-
-unfoldable pub itemTag : Item → ℕ
-itemTag (leaf t v) = t
-itemTag (nested t inside) = t
-
--- Those of the fields that have a tag. `item` says which field of a tree an element stands for.
-unfoldable pub withTag : {A : Type 0} → (A → Item) → ℕ → List A → List A
-withTag item t [] = []
-withTag item t (x ∷ l) = cond (eqb (itemTag (item x)) t) (x ∷ withTag item t l) (withTag item t l)
+    record { item = Item.nested tag (tree sc (innerOf (sc .means n tag)) inside); start = at + k; length = l } ∷ outermost sc n (at + k + l) rest
 
 -- The last element, or `o` where there is none.
 unfoldable pub lastOr : {A : Type 0} → Option A → List A → Option A
@@ -66,33 +47,6 @@ lastOr o (x ∷ l) = lastOr (some x) l
 unfoldable pub chosen : {A : Type 0} → Occurrence → List A → Option A
 chosen (Nth k) l = lists.getElem? l k
 chosen Last l = lastOr none l
-
--- Document 01's numbers for the kinds; raw is 0.
-unfoldable pub itemKind : Item → ℕ
-itemKind (leaf t (raw s)) = 0
-itemKind (leaf t (uint v)) = 1
-itemKind (leaf t (int z)) = 2
-itemKind (leaf t (string s)) = 3
-itemKind (leaf t (text s)) = 4
-itemKind (nested t inside) = 5
-
--- The number of a uint.
-unfoldable pub uintOf : Item → ℕ
-uintOf (leaf t (raw s)) = 0
-uintOf (leaf t (uint v)) = v
-uintOf (leaf t (int z)) = 0
-uintOf (leaf t (string s)) = 0
-uintOf (leaf t (text s)) = 0
-uintOf (nested t inside) = 0
-
--- The number of an int.
-unfoldable pub intOf : Item → ℤ
-intOf (leaf t (raw s)) = pos 0
-intOf (leaf t (uint v)) = pos 0
-intOf (leaf t (int z)) = z
-intOf (leaf t (string s)) = pos 0
-intOf (leaf t (text s)) = pos 0
-intOf (nested t inside) = pos 0
 
 unfoldable pub refusal : ℕ → ℕ → Found
 refusal number place =

@@ -8,13 +8,11 @@ use Rattle.octets.specs.Control.{control}
 use Rattle.octets.specs.declared.Control.{Control}
 use Rattle.octets.specs.declared.Control.the-variants.{Absent, Partial, Whole}
 use Rattle.octets.proofs.ControlPart.{control-nil, part-size}
-use Rattle.hproto_table.specs.Entry.{innerOf}
 use Rattle.hproto_table.specs.Schema.{Schema}
 use Rattle.hproto_table.specs.declared.Meaning.{Meaning}
 use Rattle.hproto_table.specs.declared.Meaning.the-variants.{Raw, Uint, Int, String, Text, Message}
 use Rattle.hproto_message.specs.Cut as cuts
 use Rattle.hproto_message.specs.Cut.{Cut, joined, Contents, LeafField, NestedField, Allowed, Good}
-use Rattle.hproto_message.specs.Tree.{Tree, value, tree}
 use Rattle.hproto_message.proofs.Steps.{field-control, in-three}
 
 -- The first field is no message.
@@ -22,7 +20,6 @@ pub record NextLeaf (sc : Schema) (levels n : ℕ) (s : List ℕ) (cut : Cut) (t
   pub rest : Cut
   pub good : Good sc (suc levels) n (drop (size + len) s) rest
   pub cut-is : cut ≡ Cut.leaf tag (take size s) (take len (drop size s)) rest
-  pub tree-is : tree sc n cut ≡ Tree.leaf tag (value (sc .means n tag) (take len (drop size s))) (tree sc n rest)
   pub contents : Contents (sc .means n tag) (take len (drop size s))
   pub positive : 1 ≤ size
   pub inside : size + len ≤ length s
@@ -34,7 +31,6 @@ pub record NextNested (sc : Schema) (levels n m : ℕ) (s : List ℕ) (cut : Cut
   pub good-inner : Good sc levels m (take len (drop size s)) inner
   pub good : Good sc (suc levels) n (drop (size + len) s) rest
   pub cut-is : cut ≡ Cut.nested tag (take size s) inner rest
-  pub tree-is : tree sc n cut ≡ Tree.nested tag (tree sc m inner) (tree sc n rest)
   pub positive : 1 ≤ size
   pub inside : size + len ≤ length s
 
@@ -50,14 +46,12 @@ Plain (Message m) = ⊥
 module _ (sc : Schema) (levels n : ℕ) where
   leaf-at : (tag : ℕ) (c b : List ℕ) (rest : Cut) → LeafField sc n tag c b → Allowed sc n rest → cuts.depth rest ≤ suc levels
       → NextLeaf sc levels n (c ++ b ++ joined rest) (Cut.leaf tag c b rest) tag (length b) (length c)
-  unfolding tree
   leaf-at tag c b rest f a d =
       let p = in-three c b (joined rest) in
       record {
         rest = rest;
         good = record { divides = sym (p .third); allowed = a; shallow = d };
         cut-is = rw (p .first, p .second);
-        tree-is = rw (p .second);
         contents = rw (p .second) (f .allowed);
         positive = part-size tag (length b) c (f .whole);
         inside = simp length-append (omega arith);
@@ -66,7 +60,6 @@ module _ (sc : Schema) (levels n : ℕ) where
   nested-at : (m tag : ℕ) (c : List ℕ) (inner rest : Cut) → NestedField sc n m tag c (joined inner) → Allowed sc m inner → Allowed sc n rest
       → cuts.depth inner ≤ levels → cuts.depth rest ≤ suc levels
       → NextNested sc levels n m (c ++ joined inner ++ joined rest) (Cut.nested tag c inner rest) tag (length (joined inner)) (length c)
-  unfolding tree innerOf
   nested-at m tag c inner rest f i a e d =
       let p = in-three c (joined inner) (joined rest) in
       record {
@@ -75,7 +68,6 @@ module _ (sc : Schema) (levels n : ℕ) where
         good-inner = record { divides = sym (p .second); allowed = i; shallow = e };
         good = record { divides = sym (p .third); allowed = a; shallow = d };
         cut-is = rw (p .first);
-        tree-is = rw (f .allowed);
         positive = part-size tag (length (joined inner)) c (f .whole);
         inside = simp length-append (omega arith);
       }

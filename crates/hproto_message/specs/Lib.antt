@@ -1,5 +1,6 @@
 pub mod Cut
 pub mod Tree
+pub mod Items
 pub mod ReadTheSame
 pub mod Reading
 pub mod Shortest

@@ -12,6 +12,7 @@ use Rattle.hproto_table.specs.Valid as valids
 use Rattle.hproto_table.specs.Repeat as repeats
 use Rattle.hproto_message.specs.Cut as cuts
 use Rattle.hproto_message.specs.Tree as trees
+use Rattle.hproto_message.specs.Items as items
 use Rattle.hproto_message.specs.Reading as readings
 use Rattle.hproto_message.specs.Shortest as shortests
 use Rattle.hproto_check.specs.Check as checks
@@ -67,8 +68,8 @@ unfolding kinds.always kinds.below kinds.array kinds.octets kinds.word kinds.wor
     controls.following controls.coded controls.leastControl controls.leastCode controls.firstFit onAccepted inOrder readings.reading
     readings.messageFrom readings.fieldsFrom readings.afterStep readings.step readings.stepFrom readings.stepByKind cuts.joined trees.tree
     readings.tagOf readings.tagAt trees.value trees.depth trees.fields shortests.shortest shortests.field shortests.leastContents answers.counts
-    answers.refusal checks.check checks.checkUnder checks.treeCounts lookups.outermost lookups.itemTag lookups.withTag lookups.lastOr lookups.chosen
-    lookups.itemKind lookups.uintOf lookups.intOf lookups.refusal lookups.found lookups.foundIn lookups.answer lookups.lookup lookups.lookupLast
+    answers.refusal checks.check checks.checkUnder checks.treeCounts lookups.outermost items.itemTag items.withTag lookups.lastOr lookups.chosen
+    items.itemKind trees.kindOf items.uintOf items.intOf lookups.refusal lookups.found lookups.foundIn lookups.answer lookups.lookup lookups.lookupLast
     shortestOf shortens.refusal shortens.shortUnder shortens.shortForm shortens.roomy shortens.answerTo shortens.bufferTo shortens.answer
     shortens.buffer withTable checkOctets lookupOctets lookupLastOctets shortenOctets shortenBuffer stored frames.announced frames.prefixed
     frames.frontRead frames.frameRead frames.messagePart frames.shortestPrefix frames.framed frames.frameWritten frames.frameStored ascii

@@ -1,5 +1,6 @@
 -- `held` answers for each kind.
 use borrow.Author.Needs.{needs}
+use Rattle.hproto_table.specs.Entry.{kindNumber, innerOf}
 use Rattle.hproto_field.specs.internal.Held.{heldIn}
 use Rattle.hproto_field.proofs.held.Statement.{statement}
 use Rattle.hproto_field.proofs.held.Tie as tie
@@ -23,27 +24,27 @@ enum-known-kind : tie.Need-enum-known-kind
 enum-known-kind c = search needs
 
 returns : tie.Need-returns
-unfolding heldIn
+unfolding heldIn kindNumber innerOf
 returns c = rw (c .enum-told .given .1)
 
 returns-2 : tie.Need-returns-2
-unfolding heldIn
+unfolding heldIn kindNumber innerOf
 returns-2 c = rw (c .enum-told2 .given .1)
 
 returns-3 : tie.Need-returns-3
-unfolding heldIn
+unfolding heldIn kindNumber innerOf
 returns-3 c = rw (c .enum-told3 .given .1)
 
 returns-4 : tie.Need-returns-4
-unfolding heldIn
+unfolding heldIn kindNumber innerOf
 returns-4 c = rw (c .enum-told4 .given .1)
 
 returns-5 : tie.Need-returns-5
-unfolding heldIn
+unfolding heldIn kindNumber innerOf
 returns-5 c = rw (c .enum-told5 .given .1)
 
 returns-6 : tie.Need-returns-6
-unfolding heldIn
+unfolding heldIn kindNumber innerOf
 returns-6 c = rw (c .before .kind .given .1)
 
 pub held-spec : {M : Type 1} → statement M

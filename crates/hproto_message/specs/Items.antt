@@ -1,0 +1,51 @@
+-- The outermost fields of a message as a list, and what each of them says.
+use Prim.Native.Nat.{ℕ}
+use mathlib.Core.Bool.{cond}
+use mathlib.Core.List.{List, [], _∷_}
+use lib.IntN.{ℤ, pos}
+use lib.Dec.{eqb}
+use Rattle.hproto_table.specs.Entry.{kindNumber}
+use Rattle.hproto_message.specs.Tree.{Value, raw, uint, int, string, text, kindOf, Tree}
+
+-- One field of a tree, without the fields that follow it.
+pub data Item : Type 0 where
+  leaf : ℕ → Value → Item
+  nested : ℕ → Tree → Item
+
+-- The outermost fields of a tree, in order.
+unfoldable pub items : Tree → List Item
+items Tree.end = []
+items (Tree.leaf tag v rest) = leaf tag v ∷ items rest
+items (Tree.nested tag inside rest) = nested tag inside ∷ items rest
+
+unfoldable pub itemTag : Item → ℕ
+itemTag (leaf t v) = t
+itemTag (nested t inside) = t
+
+-- Those of the fields that have a tag. `item` says which field of a tree an element stands for.
+unfoldable pub withTag : {A : Type 0} → (A → Item) → ℕ → List A → List A
+withTag item t [] = []
+withTag item t (x ∷ l) = cond (eqb (itemTag (item x)) t) (x ∷ withTag item t l) (withTag item t l)
+
+-- The number of a field's kind; 5 is a message's.
+unfoldable pub itemKind : Item → ℕ
+itemKind (leaf t v) = kindNumber (kindOf v)
+itemKind (nested t inside) = 5
+
+-- The number of a uint.
+unfoldable pub uintOf : Item → ℕ
+uintOf (leaf t (raw s)) = 0
+uintOf (leaf t (uint v)) = v
+uintOf (leaf t (int z)) = 0
+uintOf (leaf t (string s)) = 0
+uintOf (leaf t (text s)) = 0
+uintOf (nested t inside) = 0
+
+-- The number of an int.
+unfoldable pub intOf : Item → ℤ
+intOf (leaf t (raw s)) = pos 0
+intOf (leaf t (uint v)) = pos 0
+intOf (leaf t (int z)) = z
+intOf (leaf t (string s)) = pos 0
+intOf (leaf t (text s)) = pos 0
+intOf (nested t inside) = pos 0
