@@ -12,6 +12,7 @@ use Rattle.hproto_field.proofs.HeldKinds.{message-of, plain-of}
 use Rattle.hproto_table.specs.Schema.{Schema}
 use Rattle.hproto_message.specs.Cut.{Cut, Good}
 use Rattle.hproto_message.specs.Tree.{tree}
+use Rattle.hproto_message.specs.Items.{items}
 use Rattle.hproto_field.specs.internal.Fronts.{front}
 use Rattle.hproto_field.specs.declared.Field.{Field}
 use Rattle.hproto_print.specs.Text.{direct}
@@ -41,7 +42,7 @@ module _ (sc : Schema) (n : ℕ) (s : List ℕ) where
       record { left = all-left sc 7 n s (g .0) (g .1); few = omega arith; whole = direct-is sc n s (g .0) (g .1) ∙ omega arith }
 
   pub all-counted : (i k : ℕ) → Counted i k → length s ≤ i → k ≡ directOf sc n s
-  unfolding tree direct
+  unfolding tree direct items
   all-counted i k p h =
       sym (p .whole ∙ ap (λ (c : Cut). k + direct (tree sc n c)) (none-left sc 7 n s i (p .left) h) ∙ omega arith)
 
@@ -58,7 +59,7 @@ module _ (sc : Schema) (n : ℕ) (s : List ℕ) where
         record { left = left; few = omega arith; whole = w ∙ rw e (omega arith) }
 
     pub counted-turn : Counted (i + f .control + f .contents) (k + 1)
-    unfolding direct
+    unfolding direct items
     counted-turn = go (heldIn (f .kind)) refl
       where
         go : (x : Holds) → heldIn (f .kind) ≡ x → Counted (i + f .control + f .contents) (k + 1)

@@ -10,13 +10,14 @@ use Rattle.hproto_table.specs.Schema.{Schema}
 use Rattle.hproto_table.specs.declared.Meaning.the-variants.{Message}
 use Rattle.hproto_message.specs.Cut.{Cut, Contents, Good}
 use Rattle.hproto_message.specs.Tree.{Tree, value, tree}
+use Rattle.hproto_message.proofs.Fields.{kind-is}
 use Rattle.hproto_message.proofs.Next.{Plain}
 use Rattle.hproto_field.specs.internal.Fronts.{front}
 use Rattle.hproto_field.specs.declared.Field.{Field}
 use Rattle.hproto_print.specs.Ascii.{ascii}
 use Rattle.hproto_print.specs.Digits.{decimal}
 use Rattle.hproto_print.specs.internal.Pieces.{Printed, FitsU64}
-use Rattle.hproto_print.specs.Text.{kindName, valueText, line, lines}
+use Rattle.hproto_print.specs.Text.{meaningName, valueText, line, lines}
 use Rattle.hproto_print.specs.internal.Walk.{linesRead, linesOf, directOf}
 use Rattle.hproto_print.proofs.Windows.{then, printed-nothing, printed-length, same-place, fits-after}
 use Rattle.hproto_field.proofs.Passing.{Left, all-left, none-left, part, ends, leaf-next, nested-next, good-deeper}
@@ -74,14 +75,14 @@ module _ (sc : Schema) (levels n : ℕ) (s before : List ℕ) (from at : ℕ) wh
 
     module _ (q : Plain (f .kind)) where
       abbrev leaf-text : List ℕ
-      leaf-text = line depth (f .tag) (kindName (value (f .kind) contents)) (valueText (value (f .kind) contents))
+      leaf-text = line depth (f .tag) (meaningName (f .kind)) (valueText (value (f .kind) contents))
 
       leaf-whole : whole ≡ p .written ++ leaf-text ++ lines depth (tree sc n (leaf-next sc (levels - 1) n s i (p .left) more f found q .left .rest))
       unfolding lines
       leaf-whole =
           let x = leaf-next sc (levels - 1) n s i (p .left) more f found q in
           p .whole-is ∙ ap (λ (t : Tree). p .written ++ lines depth t) (x .tree-is)
-          ∙ sym (append-assoc (p .written) leaf-text (lines depth (tree sc n (x .left .rest))))
+          ∙ rw (kind-is (f .kind) contents (x .contents)) (sym (append-assoc (p .written) leaf-text (lines depth (tree sc n (x .left .rest)))))
 
       pub leaf-contents : Contents (f .kind) contents
       leaf-contents = leaf-next sc (levels - 1) n s i (p .left) more f found q .contents

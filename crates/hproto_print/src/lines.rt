@@ -15,8 +15,8 @@ ghost use Rattle.hproto_message.specs.Tree.{value as value-of};
 ghost use Rattle.hproto_print.specs.Ascii.{ascii};
 ghost use Rattle.hproto_print.specs.Digits.{decimal, signedDecimal};
 ghost use Rattle.hproto_print.specs.internal.Pieces.{FitsU64, Printed};
-ghost use Rattle.hproto_print.specs.Text.{kindName, valueText, front as front-of, line};
-ghost use Rattle.hproto_print.specs.internal.Walk.{meaningName, directOf, linesOf};
+ghost use Rattle.hproto_print.specs.Text.{meaningName, valueText, front as front-of, line};
+ghost use Rattle.hproto_print.specs.internal.Walk.{directOf, linesOf};
 
 fn kind_name(out: &mut [u8], from: u64, at: u64, kind: Meaning) -> u64
     requires { ⌜ FitsU64 at (meaningName kind) ⌝ }
@@ -90,8 +90,8 @@ fn leaf_line(
     s: &[u8],
 ) -> u64
     requires { ⌜ Contents kind (now s) ⌝ }
-    requires { ⌜ FitsU64 at (line depth tag (kindName (value-of kind (now s))) (valueText (value-of kind (now s)))) ⌝ }
-    ensures { λ r. ⌜ Printed (now (out .entry)) from at (line depth tag (kindName (value-of kind (now (s .entry)))) (valueText (value-of kind (now (s .entry))))) r (now (out .exit)) ⌝ }
+    requires { ⌜ FitsU64 at (line depth tag (meaningName kind) (valueText (value-of kind (now s)))) ⌝ }
+    ensures { λ r. ⌜ Printed (now (out .entry)) from at (line depth tag (meaningName kind) (valueText (value-of kind (now (s .entry))))) r (now (out .exit)) ⌝ }
 {
     let a = front(out, from, at, depth, tag, kind);
     let b = value(out, from, a, kind, s);

@@ -1,25 +1,13 @@
--- What the private functions `kind_name` and `write` put and what `direct` counts, by the octets of a message that is accepted. One that
+-- What the private function `write` puts and what `direct` counts, by the octets of a message that is accepted. One that
 -- may be `levels` messages deep, itself counted, is at the depth 9 - levels: the outermost may be 8 deep and is at 1.
 use Prim.Native.Nat.{ℕ, _-_}
 use mathlib.Core.List.{List, []}
 use Rattle.hproto_table.specs.Schema.{Schema}
-use Rattle.hproto_table.specs.declared.Meaning.{Meaning}
-use Rattle.hproto_table.specs.declared.Meaning.the-variants.{Raw, Uint, Int, String, Text, Message}
 use Rattle.hproto_message.specs.Cut.{Cut}
 use Rattle.hproto_message.specs.Tree.{tree}
 use Rattle.reading.specs.Reading.{Reading, accepted, refused, depthLimit}
 use Rattle.hproto_message.specs.Reading.{messageFrom}
-use Rattle.hproto_print.specs.Ascii.{ascii}
 use Rattle.hproto_print.specs.Text.{direct, lines}
-
--- The name of what a tag means.
-unfoldable pub meaningName : Meaning → List ℕ
-meaningName Raw = ascii "raw"
-meaningName Uint = ascii "uint"
-meaningName Int = ascii "int"
-meaningName String = ascii "string"
-meaningName Text = ascii "text"
-meaningName (Message m) = ascii "message"
 
 unfoldable pub directRead : Schema → ℕ → Reading Cut → ℕ
 directRead sc n (accepted cut) = direct (tree sc n cut)

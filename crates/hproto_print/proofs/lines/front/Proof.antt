@@ -5,8 +5,7 @@ use mathlib.Core.List.{[], _∷_}
 use lib.ListN.{length-append}
 use Rattle.hproto_print.specs.Ascii.{ascii}
 use Rattle.hproto_print.specs.Digits.{decimal, fourDigits}
-use Rattle.hproto_print.specs.Text.{front}
-use Rattle.hproto_print.specs.internal.Walk.{meaningName}
+use Rattle.hproto_print.specs.Text.{meaningName, front}
 use Rattle.hproto_print.proofs.Windows.{then, fits-less, fits-after}
 use Rattle.hproto_print.proofs.lines.front.Statement.{statement}
 use Rattle.hproto_print.proofs.lines.front.Tie as tie

@@ -5,7 +5,7 @@ use denote.Ref.{now}
 use Rattle.hproto_table.specs.declared.Meaning.{Meaning}
 use Rattle.hproto_print.specs.Ascii.{ascii}
 use Rattle.hproto_print.specs.internal.Pieces.{FitsU64, Printed}
-use Rattle.hproto_print.specs.internal.Walk.{meaningName}
+use Rattle.hproto_print.specs.Text.{meaningName}
 use Rattle.hproto_print.proofs.lines.kind_name.Statement.{statement}
 use Rattle.hproto_print.proofs.lines.kind_name.Tie as tie
 

@@ -9,8 +9,8 @@ use denote.Ref.{now}
 use Rattle.table_index.specs.internal.Cells.{indexed}
 use Rattle.hproto_print.specs.Ascii.{ascii}
 use Rattle.hproto_print.specs.Digits.{decimal}
-use Rattle.hproto_print.specs.Text.{front, line}
-use Rattle.hproto_print.specs.internal.Walk.{directOf, meaningName}
+use Rattle.hproto_print.specs.Text.{meaningName, front, line}
+use Rattle.hproto_print.specs.internal.Walk.{directOf}
 use Rattle.hproto_print.proofs.Windows.{then, same-place, fits-less, fits-after}
 use Rattle.hproto_print.proofs.lines.message_line.Statement.{statement}
 use Rattle.hproto_print.proofs.lines.message_line.Tie as tie
