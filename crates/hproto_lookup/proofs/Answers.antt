@@ -17,8 +17,8 @@ use Rattle.hproto_table.specs.declared.Meaning.the-variants.{Raw, Uint, Int, St
 use Rattle.hproto_table.specs.Valid.{valid}
 use Rattle.hproto_table.specs.declared.Table.{Table}
 use Rattle.hproto_message.specs.Cut.{Cut, Contents, Good}
-use Rattle.hproto_message.specs.Tree.{value, kindOf}
-use Rattle.hproto_message.specs.Items.{Item, itemTag, withTag, itemKind, uintOf, intOf}
+use Rattle.hproto_message.specs.Tree.{value}
+use Rattle.hproto_message.specs.Items.{Item, itemTag, withTag, kindOf, itemKind, uintOf, intOf}
 use Rattle.reading.specs.Reading.{accepted}
 use Rattle.hproto_message.specs.Reading.{reading}
 use Rattle.hproto_message.proofs.Accepted.{accepted-good}

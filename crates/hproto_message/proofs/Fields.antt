@@ -7,7 +7,8 @@ use Rattle.octets.specs.Control.{leastControl}
 use Rattle.hproto_table.specs.declared.Meaning.{Meaning}
 use Rattle.hproto_table.specs.declared.Meaning.the-variants.{Raw, Uint, Int, String, Text, Message}
 use Rattle.hproto_message.specs.Cut.{Contents}
-use Rattle.hproto_message.specs.Tree.{value, kindOf}
+use Rattle.hproto_message.specs.Tree.{value}
+use Rattle.hproto_message.specs.Items.{kindOf}
 use Rattle.hproto_message.specs.Shortest.{field}
 
 pub field-length : (tag : ℕ) (xs : List ℕ) → length (field tag xs) ≡ length (leastControl tag (length xs)) + length xs

@@ -12,7 +12,7 @@ use Rattle.hproto_message.specs.Shortest.{shortest, field, leastContents
 use Rattle.hproto_message.specs.Samples as samples
 
 pub samples-hold : samples.Hold samples.samples
-unfolding samples.Hold samples.samples samples.outcome samples.outcomeOf samples.uintOf samples.intOf samples.refusedAs samples.only samples.nestedTable
+unfolding samples.Hold samples.samples samples.outcome samples.outcomeOf samples.readsUint samples.readsInt samples.refusedAs samples.only samples.nestedTable
     readings.reading readings.messageFrom readings.fieldsFrom readings.afterStep onAccepted inOrder readings.step readings.stepFrom
     readings.stepByKind schemaOf find meaning tree readings.tagAt readings.tagOf innerOf value shortest field leastContents
     octets.number octets.octetsOf octets.width octets.widthWithin octets.leastUint

@@ -5,7 +5,9 @@ use mathlib.Core.List.{List, [], _∷_}
 use lib.IntN.{ℤ, pos}
 use lib.Dec.{eqb}
 use Rattle.hproto_table.specs.Entry.{kindNumber}
-use Rattle.hproto_message.specs.Tree.{Value, raw, uint, int, string, text, kindOf, Tree}
+use Rattle.hproto_table.specs.declared.Meaning.{Meaning}
+use Rattle.hproto_table.specs.declared.Meaning.the-variants.{Raw, Uint, Int, String, Text}
+use Rattle.hproto_message.specs.Tree.{Value, raw, uint, int, string, text, Tree}
 
 -- One field of a tree, without the fields that follow it.
 pub data Item : Type 0 where
@@ -27,7 +29,15 @@ unfoldable pub withTag : {A : Type 0} → (A → Item) → ℕ → List A → Li
 withTag item t [] = []
 withTag item t (x ∷ l) = cond (eqb (itemTag (item x)) t) (x ∷ withTag item t l) (withTag item t l)
 
--- The number of a field's kind; 5 is a message's.
+-- The kind of a value.
+unfoldable pub kindOf : Value → Meaning
+kindOf (raw s) = Raw
+kindOf (uint v) = Uint
+kindOf (int z) = Int
+kindOf (string s) = String
+kindOf (text s) = Text
+
+-- The number of a field's kind: that of its value, or a message's.
 unfoldable pub itemKind : Item → ℕ
 itemKind (leaf t v) = kindNumber (kindOf v)
 itemKind (nested t inside) = 5

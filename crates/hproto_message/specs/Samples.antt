@@ -44,26 +44,26 @@ unfoldable pub nestedTable : List Entry
 nestedTable = record { number = 0; tag = 1; kind = 5; inner = 1 } ∷ record { number = 1; tag = 0; kind = 1; inner = 0 } ∷ []
 
 -- One field with the tag 12, of kind uint (1) or int (2).
-unfoldable pub uintOf : List ℕ → ℕ → List ℕ → Sample
-uintOf s v short = record { table = only 1; message = s; expected = reads (leaf 12 (uint v) end) short }
+unfoldable pub readsUint : List ℕ → ℕ → List ℕ → Sample
+readsUint s v short = record { table = only 1; message = s; expected = reads (leaf 12 (uint v) end) short }
 
-unfoldable pub intOf : List ℕ → ℤ → List ℕ → Sample
-intOf s z short = record { table = only 2; message = s; expected = reads (leaf 12 (int z) end) short }
+unfoldable pub readsInt : List ℕ → ℤ → List ℕ → Sample
+readsInt s z short = record { table = only 2; message = s; expected = reads (leaf 12 (int z) end) short }
 
 unfoldable pub refusedAs : List ℕ → ℕ → ℕ → Sample
 refusedAs s number place = record { table = only 1; message = s; expected = refuses number place }
 
 unfoldable pub samples : List Sample
 samples =
-    uintOf (0xc0 ∷ []) 0 (0xc0 ∷ []) ∷
-    uintOf (0xc2 ∷ 0x01 ∷ 0x23 ∷ []) 291 (0xc2 ∷ 0x01 ∷ 0x23 ∷ []) ∷
-    intOf (0xc1 ∷ 0x80 ∷ []) (negsuc 127) (0xc1 ∷ 0x80 ∷ []) ∷
-    intOf (0xc2 ∷ 0x80 ∷ 0x80 ∷ []) (negsuc 127) (0xc1 ∷ 0x80 ∷ []) ∷
-    intOf (0xc2 ∷ 0x00 ∷ 0x80 ∷ []) (pos 128) (0xc2 ∷ 0x00 ∷ 0x80 ∷ []) ∷
-    intOf (0xc2 ∷ 0x80 ∷ 0x81 ∷ []) (negsuc 128) (0xc2 ∷ 0x80 ∷ 0x81 ∷ []) ∷
-    uintOf (0xe1 ∷ 0x0c ∷ 0x05 ∷ []) 5 (0xc1 ∷ 0x05 ∷ []) ∷
-    uintOf (0xf1 ∷ 0x00 ∷ 0x0c ∷ 0x05 ∷ []) 5 (0xc1 ∷ 0x05 ∷ []) ∷
-    uintOf (0xcd ∷ 0x00 ∷ 0x01 ∷ 0x05 ∷ []) 5 (0xc1 ∷ 0x05 ∷ []) ∷
+    readsUint (0xc0 ∷ []) 0 (0xc0 ∷ []) ∷
+    readsUint (0xc2 ∷ 0x01 ∷ 0x23 ∷ []) 291 (0xc2 ∷ 0x01 ∷ 0x23 ∷ []) ∷
+    readsInt (0xc1 ∷ 0x80 ∷ []) (negsuc 127) (0xc1 ∷ 0x80 ∷ []) ∷
+    readsInt (0xc2 ∷ 0x80 ∷ 0x80 ∷ []) (negsuc 127) (0xc1 ∷ 0x80 ∷ []) ∷
+    readsInt (0xc2 ∷ 0x00 ∷ 0x80 ∷ []) (pos 128) (0xc2 ∷ 0x00 ∷ 0x80 ∷ []) ∷
+    readsInt (0xc2 ∷ 0x80 ∷ 0x81 ∷ []) (negsuc 128) (0xc2 ∷ 0x80 ∷ 0x81 ∷ []) ∷
+    readsUint (0xe1 ∷ 0x0c ∷ 0x05 ∷ []) 5 (0xc1 ∷ 0x05 ∷ []) ∷
+    readsUint (0xf1 ∷ 0x00 ∷ 0x0c ∷ 0x05 ∷ []) 5 (0xc1 ∷ 0x05 ∷ []) ∷
+    readsUint (0xcd ∷ 0x00 ∷ 0x01 ∷ 0x05 ∷ []) 5 (0xc1 ∷ 0x05 ∷ []) ∷
     record {
       table = nestedTable;
       message = 0x1c ∷ 0x0c ∷ 0x08 ∷ 0x00 ∷ 0x00 ∷ 0x00 ∷ 0x00 ∷ 0x00 ∷ 0x00 ∷ 0x00 ∷ 0x2a ∷ 0x02 ∷ 0x00 ∷ 0x07 ∷ [];

@@ -45,14 +45,6 @@ value String s = string s
 value Text s = text s
 value (Message m) s = raw s
 
--- The kind of a value.
-unfoldable pub kindOf : Value → Meaning
-kindOf (raw s) = Raw
-kindOf (uint v) = Uint
-kindOf (int z) = Int
-kindOf (string s) = String
-kindOf (text s) = Text
-
 -- The tree that a cut gives under a schema and a message number.
 unfoldable pub tree : Schema → ℕ → Cut → Tree
 tree sc n Cut.end = Tree.end

@@ -11,7 +11,8 @@ use Rattle.octets.specs.Signed.{integer}
 use Rattle.hproto_table.specs.Entry.{innerOf}
 use Rattle.hproto_table.specs.Schema.{Schema}
 use Rattle.hproto_message.specs.Cut.{Cut, end, leaf, nested, joined, Allowed}
-use Rattle.hproto_message.specs.Tree.{kindOf, tree, value}
+use Rattle.hproto_message.specs.Tree.{tree, value}
+use Rattle.hproto_message.specs.Items.{kindOf}
 use Rattle.hproto_table.specs.declared.Meaning.{Meaning}
 use Rattle.hproto_table.specs.declared.Meaning.the-variants.{Raw, Uint, Int, String, Text, Message}
 use Rattle.octets.proofs.ControlPart.{part-size}

@@ -9,8 +9,8 @@ use Rattle.hproto_table.specs.declared.Meaning.{Meaning}
 use Rattle.hproto_table.specs.declared.Meaning.the-variants.{Raw, Uint, Int, String, Text, Message}
 use Rattle.hproto_table.specs.declared.Table.{Table}
 use Rattle.hproto_message.specs.Cut.{Cut}
-use Rattle.hproto_message.specs.Tree.{Value, raw, uint, int, string, text, kindOf, Tree, end, leaf, nested, tree, fields}
-use Rattle.hproto_message.specs.Items.{items}
+use Rattle.hproto_message.specs.Tree.{Value, raw, uint, int, string, text, Tree, end, leaf, nested, tree, fields}
+use Rattle.hproto_message.specs.Items.{items, kindOf}
 use Rattle.reading.specs.Reading.{Reading, accepted, refused}
 use Rattle.hproto_message.specs.Reading.{reading}
 use Rattle.hproto_check.specs.Check.{check}

@@ -11,7 +11,7 @@ use Rattle.hproto_table.specs.Load as loads
 use Rattle.hproto_table.specs.Repeat as repeats
 use Rattle.hproto_table.specs.Valid as valids
 use Rattle.hproto_message.specs.Tree as trees
-use Rattle.hproto_message.specs.Items.{items}
+use Rattle.hproto_message.specs.Items.{items, kindOf}
 use Rattle.reading.specs.Reading.{onAccepted, inOrder}
 use Rattle.hproto_message.specs.Reading as readings
 use Rattle.reading.specs.Checks as answers
@@ -45,7 +45,7 @@ unfolding input output shows.firstText shows.tableText shows.secondText prints.m
     prints.line prints.front prints.valueText prints.meaningName digits.glyph digits.decimalWithin digits.decimal digits.signedDecimal digits.fourDigits digits.hex
     digits.hexOrDash ascii frames.frameRead frames.frontRead frames.prefixed frames.announced frames.messagePart
     checks.check checks.checkUnder checks.treeCounts answers.counts answers.refusal readings.reading readings.messageFrom readings.fieldsFrom readings.afterStep onAccepted inOrder
-    readings.step readings.stepFrom readings.stepByKind trees.tree readings.tagAt readings.tagOf entries.innerOf trees.value trees.kindOf trees.fields trees.depth
+    readings.step readings.stepFrom readings.stepByKind trees.tree readings.tagAt readings.tagOf entries.innerOf trees.value kindOf trees.fields trees.depth
     schemas.schema schemas.schemaOf entries.find entries.meaning entries.entries entries.entry loads.load loads.loadFrom loads.accepted loads.refused loads.tableOf loads.faulty
     loads.seen loads.pair loads.wordsBefore loads.wellFormed loads.wordAt loads.recordAt loads.inRange valids.valid valids.allInRange valids.allZero
     repeats.distinct texts.text texts.textAfter texts.follower texts.followers octets.number signs.integer signs.withSign signs.lowest

@@ -69,7 +69,7 @@ unfolding kinds.always kinds.below kinds.array kinds.octets kinds.word kinds.wor
     readings.messageFrom readings.fieldsFrom readings.afterStep readings.step readings.stepFrom readings.stepByKind cuts.joined trees.tree
     readings.tagOf readings.tagAt trees.value trees.depth trees.fields shortests.shortest shortests.field shortests.leastContents answers.counts
     answers.refusal checks.check checks.checkUnder checks.treeCounts lookups.outermost items.itemTag items.withTag lookups.lastOr lookups.chosen
-    items.itemKind trees.kindOf items.uintOf items.intOf lookups.refusal lookups.found lookups.foundIn lookups.answer lookups.lookup lookups.lookupLast
+    items.itemKind items.kindOf items.uintOf items.intOf lookups.refusal lookups.found lookups.foundIn lookups.answer lookups.lookup lookups.lookupLast
     shortestOf shortens.refusal shortens.shortUnder shortens.shortForm shortens.roomy shortens.answerTo shortens.bufferTo shortens.answer
     shortens.buffer withTable checkOctets lookupOctets lookupLastOctets shortenOctets shortenBuffer stored frames.announced frames.prefixed
     frames.frontRead frames.frameRead frames.messagePart frames.shortestPrefix frames.framed frames.frameWritten frames.frameStored ascii
