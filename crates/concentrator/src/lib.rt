@@ -3,7 +3,7 @@
 // include/crudvim.h has the C prototypes.
 ghost use mathlib.Core.Path.{_≡_};
 ghost use lib.ListN.{length};
-ghost use Rattle.hproto_calls.specs.Calls.{checkOctets, shortenOctets, shortenBuffer, lookupOctets, lookupLastOctets};
+ghost use Rattle.message_calls.specs.Calls.{checkOctets, shortenOctets, shortenBuffer, lookupOctets, lookupLastOctets};
 ghost use Rattle.hproto_frame.specs.Frame.{frameRead, frameWritten, frameStored};
 ghost use Rattle.tib_msg.specs.Answers.{check as tibmsg-check, field as tibmsg-field};
 ghost use Rattle.tib_rv.specs.Answers.{check as tibrv-check, field as tibrv-field};
@@ -22,7 +22,7 @@ pub extern "C" fn crudvim_check(
 ) -> u64
     ensures { λ r. ⌜ checkOctets (now (table .entry)) number (now (message .entry)) ≡ record { refusal = r; place = now (place .exit); fields = now (fields .exit); depth = now (depth .exit) } ⌝ }
 {
-    let checked = hproto_calls::check(table, number, message);
+    let checked = message_calls::check(table, number, message);
     *place = checked.place;
     *fields = checked.fields;
     *depth = checked.depth;
@@ -41,7 +41,7 @@ pub extern "C" fn crudvim_shorten(
     ensures { λ r. ⌜ shortenOctets (now (table .entry)) number (now (message .entry)) (now (out .entry)) ≡ record { refusal = r; place = now (place .exit); length = now (len .exit) } ⌝ }
     ensures { λ _. ⌜ now (out .exit) ≡ shortenBuffer (now (table .entry)) number (now (message .entry)) (now (out .entry)) ⌝ }
 {
-    let shortened = hproto_calls::shorten(table, number, message, out);
+    let shortened = message_calls::shorten(table, number, message, out);
     *place = shortened.place;
     *len = shortened.length;
     shortened.refusal
@@ -95,7 +95,7 @@ pub extern "C" fn crudvim_lookup(
 ) -> u64
     ensures { λ r. ⌜ lookupOctets (now (table .entry)) number (now (message .entry)) tag k ≡ record { refusal = r; place = now (place .exit); kind = now (kind .exit); number = now (value .exit); signed = now («signed_value» .exit); start = now (start .exit); length = now (len .exit) } ⌝ }
 {
-    let found = hproto_calls::lookup(table, number, message, tag, k);
+    let found = message_calls::lookup(table, number, message, tag, k);
     *place = found.place;
     *kind = found.kind;
     *value = found.number;
@@ -121,7 +121,7 @@ pub extern "C" fn crudvim_lookup_last(
 ) -> u64
     ensures { λ r. ⌜ lookupLastOctets (now (table .entry)) number (now (message .entry)) tag ≡ record { refusal = r; place = now (place .exit); kind = now (kind .exit); number = now (value .exit); signed = now («signed_value» .exit); start = now (start .exit); length = now (len .exit) } ⌝ }
 {
-    let last = hproto_calls::lookup_last(table, number, message, tag);
+    let last = message_calls::lookup_last(table, number, message, tag);
     *place = last.place;
     *kind = last.kind;
     *value = last.number;

@@ -18,8 +18,8 @@ use Rattle.reading.specs.Reading.{accepted, messageLimit}
 use Rattle.reading.specs.internal.Walks.{IsAccepted}
 use Rattle.hproto_message.specs.Reading.{reading}
 use Rattle.reading.specs.Checks as answers
-use Rattle.hproto_check.specs.Check.{check, checkUnder, treeCounts}
-use Rattle.hproto_check.proofs.Passed.{check-passed}
+use Rattle.message_calls.specs.Check.{check, checkUnder, treeCounts}
+use Rattle.message_calls.proofs.Passed.{check-passed}
 use Rattle.reading.specs.declared.Checked.{Checked}
 use Rattle.hproto_print.specs.Text.{page, shown, refusal, readText, messageText}
 use Rattle.hproto_print.specs.internal.Walk.{linesRead, linesOf}

@@ -13,7 +13,7 @@ use Rattle.hproto_message.specs.Tree.{Value, raw, uint, int, string, text, Tree
 use Rattle.hproto_message.specs.Items.{items, kindOf}
 use Rattle.reading.specs.Reading.{Reading, accepted, refused}
 use Rattle.hproto_message.specs.Reading.{reading}
-use Rattle.hproto_check.specs.Check.{check}
+use Rattle.message_calls.specs.Check.{check}
 use Rattle.hproto_print.specs.Ascii.{ascii}
 use Rattle.hproto_print.specs.Digits.{decimal, signedDecimal, fourDigits, hexOrDash}
 

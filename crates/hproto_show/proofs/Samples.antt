@@ -15,7 +15,7 @@ use Rattle.hproto_message.specs.Items.{items, kindOf}
 use Rattle.reading.specs.Reading.{onAccepted, inOrder}
 use Rattle.hproto_message.specs.Reading as readings
 use Rattle.reading.specs.Checks as answers
-use Rattle.hproto_check.specs.Check as checks
+use Rattle.message_calls.specs.Check as checks
 use Rattle.hproto_frame.specs.Frame as frames
 use Rattle.hproto_print.specs.Ascii.{ascii}
 use Rattle.hproto_print.specs.Digits as digits

@@ -10,8 +10,8 @@ use Rattle.hproto_message.specs.Shortest.{shortest}
 use Rattle.hproto_message.proofs.Accepted.{accepted-exactly}
 use Rattle.hproto_message.proofs.Shortened.{others-more}
 use Rattle.reading.specs.Checks.{counts}
-use Rattle.hproto_check.specs.Check.{treeCounts, check}
-use Rattle.hproto_check.proofs.Counts.{read-through}
+use Rattle.message_calls.specs.Check.{treeCounts, check}
+use Rattle.message_calls.proofs.Counts.{read-through}
 use Rattle.hproto_state.specs.Answer.{writer}
 use Rattle.hproto_state.specs.Calls.{finished}
 use Rattle.hproto_state.specs.declared.State.{State}

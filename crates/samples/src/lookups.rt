@@ -1,8 +1,8 @@
 // Lookup of a tag.
 use crate::print;
 use crate::tables;
-use hproto_lookup::Found;
 use hproto_table::Table;
+use message_calls::Found;
 
 // Every part of the answer, and the octets at the place that it names.
 fn found(m: &[u8], f: Found) {
@@ -26,9 +26,9 @@ fn found(m: &[u8], f: Found) {
 
 fn look(t: Table, number: u64, m: &[u8], tag: u64, which: &[u8]) -> Found {
     if which.len() == 4 && which[0] == b'l' {
-        hproto_lookup::lookup_last(t, number, m, tag)
+        message_calls::lookup_last_loaded(t, number, m, tag)
     } else {
-        hproto_lookup::lookup(t, number, m, tag, sample_lines::number_in(which))
+        message_calls::lookup_loaded(t, number, m, tag, sample_lines::number_in(which))
     }
 }
 

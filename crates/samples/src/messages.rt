@@ -1,8 +1,8 @@
 // The check and the shortener.
 use crate::print;
 use crate::tables;
-use hproto_shorten::Shortened;
 use hproto_table::Table;
+use message_calls::Shortened;
 use reading::Checked;
 
 pub fn checked(c: Checked) {
@@ -24,9 +24,9 @@ fn shortened(s: Shortened, out: &[u8; 65546]) {
 fn both(t: Table, number: u64, m: &[u8]) {
     let mut out = [0xaau8; 65546];
     print::given(m);
-    checked(hproto_check::check(t, number, m));
+    checked(message_calls::check_loaded(t, number, m));
     sample_lines::text(b", ");
-    let s = hproto_shorten::shorten(t, number, m, &mut out);
+    let s = message_calls::shorten_loaded(t, number, m, &mut out);
     shortened(s, &out);
 }
 
@@ -40,7 +40,7 @@ pub fn message(line: &[u8]) {
 
 fn into(t: Table, m: &[u8], out: &mut [u8]) {
     print::given(m);
-    let s = hproto_shorten::shorten(t, 0, m, out);
+    let s = message_calls::shorten_loaded(t, 0, m, out);
     print::written(s.refusal, s.place, s.length, out);
 }
 

@@ -35,7 +35,7 @@ pub fn table(line: &[u8]) {
 fn value(label: &[u8], count: usize, words: [u64; 64]) {
     sample_lines::text(label);
     sample_lines::text(b": ");
-    messages::checked(hproto_check::check(Table { count, words }, 0, b""));
+    messages::checked(message_calls::check_loaded(Table { count, words }, 0, b""));
     sample_lines::text(b"\n");
 }
 

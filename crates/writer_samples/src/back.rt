@@ -1,13 +1,13 @@
 // Reads a message back: its octets, what the check counts, whether there is a shorter form, and the value of a field.
 use crate::compare;
 use crate::print;
-use hproto_lookup::Found;
 use hproto_table::Table;
+use message_calls::Found;
 
 // Whether the shortener gives the same octets.
 fn shortest(t: Table, number: u64, m: &[u8]) {
     let mut out = [0u8; 65536];
-    let s = hproto_shorten::shorten(t, number, m, &mut out);
+    let s = message_calls::shorten_loaded(t, number, m, &mut out);
     if s.refusal != 0 {
         sample_lines::refusal(s.refusal, s.place);
         return;
@@ -19,7 +19,7 @@ fn shortest(t: Table, number: u64, m: &[u8]) {
 pub fn message(t: Table, number: u64, m: &[u8]) {
     print::octets(m);
     sample_lines::text(b", ");
-    let c = hproto_check::check(t, number, m);
+    let c = message_calls::check_loaded(t, number, m);
     if c.refusal != 0 {
         sample_lines::refusal(c.refusal, c.place);
         return;

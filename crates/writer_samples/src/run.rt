@@ -187,11 +187,14 @@ fn reads(what: u8, line: &[u8], r: Run, buffer: &[u8]) -> Run {
         return r;
     }
     if what == b'y' {
-        back::field(hproto_lookup::lookup_last(r.table, r.number, m, tag), m);
+        back::field(
+            message_calls::lookup_last_loaded(r.table, r.number, m, tag),
+            m,
+        );
         return r;
     }
     let k = input::number(line, 2);
-    let f = hproto_lookup::lookup(r.table, r.number, m, tag, k);
+    let f = message_calls::lookup_loaded(r.table, r.number, m, tag, k);
     back::field(f, m);
     if what == b'x' {
         return r;

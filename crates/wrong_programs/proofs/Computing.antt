@@ -15,13 +15,13 @@ use Rattle.hproto_message.specs.Tree as trees
 use Rattle.hproto_message.specs.Items as items
 use Rattle.hproto_message.specs.Reading as readings
 use Rattle.hproto_message.specs.Shortest as shortests
-use Rattle.hproto_check.specs.Check as checks
-use Rattle.hproto_lookup.specs.Lookup as lookups
-use Rattle.hproto_shorten.specs.Written.{shortestOf}
-use Rattle.hproto_shorten.specs.Shorten as shortens
+use Rattle.message_calls.specs.Check as checks
+use Rattle.message_calls.specs.Lookup as lookups
+use Rattle.message_calls.specs.Written.{shortestOf}
+use Rattle.message_calls.specs.Shorten as shortens
 use Rattle.hproto_store.specs.Store.{stored}
 use Rattle.hproto_frame.specs.Frame as frames
-use Rattle.hproto_calls.specs.Calls.{checkOctets, shortenOctets, shortenBuffer, lookupOctets, lookupLastOctets, withTable}
+use Rattle.message_calls.specs.Calls.{checkOctets, shortenOctets, shortenBuffer, lookupOctets, lookupLastOctets, withTable}
 use Rattle.hproto_print.specs.Ascii.{ascii}
 use Rattle.hproto_print.specs.Digits as digits
 use Rattle.hproto_print.specs.Text as prints

@@ -19,12 +19,12 @@ use Rattle.hproto_table.specs.Load.{load}
 use Rattle.hproto_table.specs.Schema.{Schema, schema}
 use Rattle.hproto_table.specs.declared.Loaded.{Loaded}
 use Rattle.hproto_message.specs.ReadTheSame.{HasCut, ShortForm, ReadTheSame, OthersMore}
-use Rattle.hproto_shorten.specs.Demand3.{Demand3Holds, Shortens}
-use Rattle.hproto_shorten.specs.declared.Shortened.{Shortened}
-use Rattle.hproto_calls.specs.Calls.{checkOctets, shortenOctets, shortenBuffer}
-use Rattle.hproto_calls.specs.Demand1.{Demand1Holds}
-use Rattle.hproto_calls.proofs.Demand1.{demand-1}
-use Rattle.hproto_calls.proofs.Demand3.{demand-3}
+use Rattle.message_calls.specs.Demand3.{Demand3Holds, Shortens}
+use Rattle.message_calls.specs.declared.Shortened.{Shortened}
+use Rattle.message_calls.specs.Calls.{checkOctets, shortenOctets, shortenBuffer}
+use Rattle.message_calls.specs.Demand1.{Demand1Holds}
+use Rattle.message_calls.proofs.Demand1.{demand-1}
+use Rattle.message_calls.proofs.Demand3.{demand-3}
 use Rattle.wrong_programs.specs.Kinds as kinds
 use Rattle.wrong_programs.proofs.RulingOut.{differ-at}
 use Rattle.wrong_programs.proofs.Computing.{hproto}

@@ -6,9 +6,9 @@ use lib.ListN.{length}
 use lib.IntN.{ℤ, pos}
 use lib.Dec.{T, ltb}
 use borrow.Author.Tests.{eqb-false}
-use Rattle.hproto_lookup.specs.Lookup as lookups
-use Rattle.hproto_lookup.specs.declared.Found.{Found}
-use Rattle.hproto_calls.specs.Calls.{lookupOctets}
+use Rattle.message_calls.specs.Lookup as lookups
+use Rattle.message_calls.specs.declared.Found.{Found}
+use Rattle.message_calls.specs.Calls.{lookupOctets}
 use Rattle.wrong_programs.specs.Kinds.{RuledOut, Rejects, Accepts, Invents, SeesOnly, always, due}
 use Rattle.wrong_programs.specs.Check.{CheckInput}
 use Rattle.wrong_programs.specs.Lookup.{LookupInput, LookupCall, lookup, lookupLast}

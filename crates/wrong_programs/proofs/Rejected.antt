@@ -8,12 +8,12 @@ use lib.Dec.{ltb, eqb}
 use Rattle.reading.specs.Reading.{messageLimit}
 use Rattle.hproto_table.specs.Load.{load}
 use Rattle.hproto_table.specs.declared.Loaded.{Loaded}
-use Rattle.hproto_shorten.specs.Shorten as shortens
-use Rattle.hproto_shorten.specs.declared.Shortened.{Shortened}
-use Rattle.hproto_shorten.proofs.Answers.{refused-leaves}
+use Rattle.message_calls.specs.Shorten as shortens
+use Rattle.message_calls.specs.declared.Shortened.{Shortened}
+use Rattle.message_calls.proofs.ShortenAnswers.{refused-leaves}
 use Rattle.hproto_frame.specs.declared.FrameWritten.{FrameWritten}
 use Rattle.hproto_frame.proofs.Writing.{frame-refused-leaves}
-use Rattle.hproto_calls.specs.Calls.{shortenOctets, shortenBuffer, withTable}
+use Rattle.message_calls.specs.Calls.{shortenOctets, shortenBuffer, withTable}
 use Rattle.hproto_state.specs.Call.{openField, closeField}
 use Rattle.hproto_state.specs.declared.State.{State}
 use Rattle.hproto_state.specs.declared.Written.{Written}

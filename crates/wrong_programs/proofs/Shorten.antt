@@ -6,8 +6,8 @@ use lib.ListN.{getD}
 use lib.ListN as lists
 use lib.Dec.{T, leb, ltb}
 use borrow.Author.Tests.{eqb-false}
-use Rattle.hproto_shorten.specs.Shorten as shortens
-use Rattle.hproto_shorten.specs.declared.Shortened.{Shortened}
+use Rattle.message_calls.specs.Shorten as shortens
+use Rattle.message_calls.specs.declared.Shortened.{Shortened}
 use Rattle.wrong_programs.specs.Kinds.{RuledOut, Rejects, Accepts, Invents, SeesOnly, always, due}
 use Rattle.wrong_programs.specs.Check.{CheckInput}
 use Rattle.wrong_programs.specs.Shorten.{ShortenInput, ShortenCall, shorten}

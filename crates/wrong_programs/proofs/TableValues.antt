@@ -14,12 +14,12 @@ use Rattle.reading.specs.declared.Checked.{Checked}
 use Rattle.hproto_table.specs.Schema.{schema}
 use Rattle.hproto_table.specs.Valid.{valid}
 use Rattle.hproto_table.specs.declared.Table.{Table}
-use Rattle.hproto_check.specs.Check as checks
-use Rattle.hproto_lookup.specs.Lookup as lookups
-use Rattle.hproto_lookup.specs.declared.Found.{Found}
-use Rattle.hproto_shorten.specs.Shorten as shortens
-use Rattle.hproto_shorten.specs.declared.Shortened.{Shortened}
-use Rattle.hproto_calls.specs.Calls.{withTable}
+use Rattle.message_calls.specs.Check as checks
+use Rattle.message_calls.specs.Lookup as lookups
+use Rattle.message_calls.specs.declared.Found.{Found}
+use Rattle.message_calls.specs.Shorten as shortens
+use Rattle.message_calls.specs.declared.Shortened.{Shortened}
+use Rattle.message_calls.specs.Calls.{withTable}
 use Rattle.wrong_programs.specs.Kinds as kinds
 use Rattle.wrong_programs.specs.Kinds.{refusal-of}
 use Rattle.wrong_programs.specs.Valid as validity

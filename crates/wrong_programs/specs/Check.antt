@@ -3,7 +3,7 @@ use Prim.Native.Nat.{ℕ}
 use mathlib.Core.Bool.{Bool, _&&_}
 use mathlib.Core.List.{List}
 use Rattle.reading.specs.declared.Checked.{Checked}
-use Rattle.hproto_calls.specs.Calls.{checkOctets}
+use Rattle.message_calls.specs.Calls.{checkOctets}
 use Rattle.wrong_programs.specs.Kinds.{Given, octets, word}
 
 pub record CheckInput : Type 0 where

@@ -1,8 +1,8 @@
 -- What a call of a lookup gives, and the answer that its contract fixes.
 use Prim.Native.Nat.{ℕ}
 use mathlib.Core.Bool.{Bool, _&&_}
-use Rattle.hproto_lookup.specs.declared.Found.{Found}
-use Rattle.hproto_calls.specs.Calls.{lookupOctets, lookupLastOctets}
+use Rattle.message_calls.specs.declared.Found.{Found}
+use Rattle.message_calls.specs.Calls.{lookupOctets, lookupLastOctets}
 use Rattle.wrong_programs.specs.Kinds.{Given, word}
 use Rattle.wrong_programs.specs.Check as checks
 use Rattle.wrong_programs.specs.Check.{CheckInput}

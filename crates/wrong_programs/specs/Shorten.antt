@@ -2,8 +2,8 @@
 use Prim.Native.Nat.{ℕ}
 use mathlib.Core.Bool.{Bool, _&&_}
 use mathlib.Core.List.{List}
-use Rattle.hproto_shorten.specs.declared.Shortened.{Shortened}
-use Rattle.hproto_calls.specs.Calls.{shortenOctets, shortenBuffer}
+use Rattle.message_calls.specs.declared.Shortened.{Shortened}
+use Rattle.message_calls.specs.Calls.{shortenOctets, shortenBuffer}
 use Rattle.wrong_programs.specs.Kinds.{Given, octets}
 use Rattle.wrong_programs.specs.Check as checks
 use Rattle.wrong_programs.specs.Check.{CheckInput}

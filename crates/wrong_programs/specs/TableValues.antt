@@ -4,11 +4,11 @@ use mathlib.Core.Bool.{Bool, _&&_}
 use mathlib.Core.List.{List}
 use Rattle.reading.specs.declared.Checked.{Checked}
 use Rattle.hproto_table.specs.declared.Table.{Table}
-use Rattle.hproto_check.specs.Check as checks
-use Rattle.hproto_lookup.specs.Lookup as lookups
-use Rattle.hproto_lookup.specs.declared.Found.{Found}
-use Rattle.hproto_shorten.specs.Shorten as shortens
-use Rattle.hproto_shorten.specs.declared.Shortened.{Shortened}
+use Rattle.message_calls.specs.Check as checks
+use Rattle.message_calls.specs.Lookup as lookups
+use Rattle.message_calls.specs.declared.Found.{Found}
+use Rattle.message_calls.specs.Shorten as shortens
+use Rattle.message_calls.specs.declared.Shortened.{Shortened}
 use Rattle.wrong_programs.specs.Kinds.{Given, octets, word}
 use Rattle.wrong_programs.specs.Kinds as kinds
 

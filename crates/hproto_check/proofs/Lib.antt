@@ -1,4 +1,0 @@
-pub mod Adding
-pub mod Turns
-pub mod Counts
-pub mod Passed

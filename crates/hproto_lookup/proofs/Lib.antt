@@ -1,5 +1,0 @@
-pub mod Walking
-pub mod Choosing
-pub mod Outers
-pub mod Answers
-pub mod Trees

@@ -1,3 +1,0 @@
-pub mod Lookup
-pub mod InTree
-pub mod internal

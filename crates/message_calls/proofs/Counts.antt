@@ -1,0 +1,70 @@
+-- The counts of a walk are those of the tree.
+use Prim.Native.Nat.{ℕ, _≤_, _<_}
+use mathlib.Core.Path.{_≡_, refl, sym, ap, _∙_}
+use mathlib.Core.Bool.{true, false}
+use mathlib.Core.List.{List}
+use lib.ListN.{length}
+use borrow.Author.Tests.{le-ltb, lt-ltb}
+use Rattle.hproto_table.specs.Entry.{innerOf}
+use Rattle.hproto_table.specs.Schema.{Schema, schema}
+use Rattle.hproto_table.specs.Valid.{valid}
+use Rattle.hproto_table.specs.declared.Table.{Table}
+use Rattle.hproto_message.specs.Cut.{Cut}
+use Rattle.hproto_message.specs.Tree as trees
+use Rattle.hproto_message.specs.Tree.{tree}
+use Rattle.reading.specs.Reading.{Reading, accepted, refused, messageLimit}
+use Rattle.reading.specs.Checks.{refusal, counts}
+use Rattle.reading.specs.internal.Walks.{walkOf, answerBy}
+use Rattle.reading.specs.declared.Walk.{Walk}
+use Rattle.hproto_message.specs.Reading.{reading, messageFrom}
+use Rattle.hproto_message.proofs.Shortened.{tree-depth}
+use Rattle.message_calls.specs.internal.Walks.{fields, walk}
+use Rattle.message_calls.specs.Check.{treeCounts, check, checkUnder}
+
+tree-fields : (sc : Schema) (cut : Cut) (n : ℕ) → trees.fields (tree sc n cut) ≡ fields cut
+unfolding tree trees.fields fields
+tree-fields sc Cut.end n = refl
+tree-fields sc (Cut.leaf tag c b rest) n = rw (tree-fields sc rest n)
+tree-fields sc (Cut.nested tag c inside rest) n = rw (tree-fields sc inside (innerOf (sc .means n tag)), tree-fields sc rest n)
+
+-- The answer by the walk through a message is that by its tree.
+walked : (sc : Schema) (n : ℕ) (r : Reading Cut) → answerBy (walk r) ≡ treeCounts sc n r
+unfolding walkOf answerBy treeCounts counts
+walked sc n (accepted cut) = rw (tree-fields sc cut n, tree-depth sc cut n)
+walked sc n (refused number place) = refl
+
+module _ (t : Table) (n : ℕ) (s : List ℕ) where
+  pub too-long : 65536 < length s → refusal 1 0 ≡ check t n s
+  unfolding check
+  too-long h = rw (lt-ltb messageLimit (length s) h)
+
+  pub bad-table : length s ≤ 65536 → valid t ≡ false → refusal 2 0 ≡ check t n s
+  unfolding check
+  bad-table h v = rw (le-ltb messageLimit (length s) h, v)
+
+  -- Under the schema of a table that the loader can give, the check answers as under the table.
+  pub under-valid : length s ≤ 65536 → valid t ≡ true → (sc : Schema) → sc ≡ schema t → checkUnder sc n s ≡ check t n s
+  unfolding check
+  under-valid h v sc e = rw (e, le-ltb messageLimit (length s) h, v)
+
+module _ (sc : Schema) (n : ℕ) (s : List ℕ) where
+  pub too-long-under : 65536 < length s → refusal 1 0 ≡ checkUnder sc n s
+  unfolding checkUnder
+  too-long-under h = rw (lt-ltb messageLimit (length s) h)
+
+  pub bad-number : length s ≤ 65536 → 15 < n → refusal 2 0 ≡ checkUnder sc n s
+  unfolding checkUnder
+  bad-number h k = rw (le-ltb messageLimit (length s) h, lt-ltb 15 n k)
+
+  module _ (h : length s ≤ 65536) (k : n ≤ 15) where
+    pub read-under : checkUnder sc n s ≡ treeCounts sc n (reading sc n s)
+    unfolding checkUnder
+    read-under = rw (le-ltb messageLimit (length s) h, le-ltb 15 n k)
+
+    pub by-walk : (w : Walk) → w ≡ walk (messageFrom sc 8 n 0 0 s) → answerBy w ≡ checkUnder sc n s
+    unfolding reading
+    by-walk w e = ap answerBy e ∙ walked sc n (messageFrom sc 8 n 0 0 s) ∙ sym read-under
+
+module _ (t : Table) (n : ℕ) (s : List ℕ) (h : length s ≤ 65536) (v : valid t ≡ true) (k : n ≤ 15) where
+  pub read-through : check t n s ≡ treeCounts (schema t) n (reading (schema t) n s)
+  read-through = sym (under-valid t n s h v (schema t) refl) ∙ read-under (schema t) n s h k

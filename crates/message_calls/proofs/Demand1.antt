@@ -1,0 +1,90 @@
+-- Demand 1 of the order, its part about hproto messages, holds of the check that takes a field table as its octets. specs/Demand1.antt
+-- states it.
+use Prim.Native.Nat.{ℕ, zero, suc, _*_, _≤_, _<_}
+use native.Mathlib.Omega.{arith}
+use mathlib.Core.Path.{_≡_, refl, sym, ap, _∙_, subst}
+use mathlib.Core.Bool.{Bool, true, false, cond}
+use mathlib.Core.List.{List}
+use lib.ListN.{length}
+use lib.Dec.{leb}
+use Rattle.octets.specs.Number.{Octets}
+use Rattle.hproto_table.specs.Load.{load, loadFrom, accepted, refused, faulty, wordsBefore}
+use Rattle.hproto_table.specs.Schema.{schema}
+use Rattle.hproto_table.specs.Valid.{valid}
+use Rattle.hproto_table.specs.declared.Table.{Table}
+use Rattle.hproto_table.specs.declared.Loaded.{Loaded}
+use Rattle.hproto_table.proofs.Placed.{loaded-valid}
+use Rattle.reading.specs.Checks.{refusal, counts}
+use Rattle.hproto_message.proofs.Accepted.{accepted-exactly, good-cut-unique}
+use Rattle.hproto_message.proofs.FirstFault.{refused-exactly, first-fault-unique, cut-or-fault, cut-no-fault}
+use Rattle.message_calls.specs.Check.{check, treeCounts}
+use Rattle.message_calls.proofs.Counts as checks
+use Rattle.message_calls.specs.Calls.{checkOctets}
+use Rattle.message_calls.specs.Demand1.{Demand1, Demand1Holds}
+use Rattle.message_calls.proofs.Loading.{message-too-long, table-refused, check-as-loaded}
+
+-- The loader refuses with 2 alone.
+unfoldable Two : Loaded → Type 0
+Two l = (l .refusal ≡ 0 → ⊥) → l .refusal ≡ 2
+
+either-two : (b : Bool) (x y : Loaded) → Two x → Two y → Two (cond b x y)
+either-two true x y p q = p
+either-two false x y p q = q
+
+refused-two : (place : ℕ) → Two (refused place)
+unfolding Two refused
+refused-two place ne = refl
+
+accepted-two : (ws : List ℕ) → Two (accepted ws)
+unfolding Two accepted
+accepted-two ws ne = absurd (ne refl)
+
+from-two : (left i : ℕ) (s : List ℕ) → Two (loadFrom left i s)
+unfolding loadFrom
+from-two zero i s = refused-two (8 * i)
+from-two (suc left) i s =
+    either-two (leb (length s) (8 * i)) (accepted (wordsBefore s i)) (cond (faulty s i) (refused (8 * i)) (loadFrom left (suc i) s)) (accepted-two (wordsBefore s i))
+    (either-two (faulty s i) (refused (8 * i)) (loadFrom left (suc i) s) (refused-two (8 * i)) (from-two left (suc i) s))
+
+load-two : (table : List ℕ) → (load table .refusal ≡ 0 → ⊥) → load table .refusal ≡ 2
+unfolding Two load
+load-two table ne = from-two 65 0 table ne
+
+-- Demand 1 of the check that takes a table value, where the loader can give it.
+pub demand-1-under : (t : Table) (n : ℕ) (s : List ℕ) → valid t ≡ true → n ≤ 15 → Octets s → length s ≤ 65536
+    → Demand1 (schema t) n s (check t n s)
+unfolding treeCounts counts
+demand-1-under t n s v k o h =
+    let sc = schema t in
+    let e = checks.read-through t n s h v k in
+    record {
+      cut-or-fault = cut-or-fault sc 7 n s o;
+      never-both = λ c f. cut-no-fault sc 7 n s o (c .0) (f .0) (c .1) (f .1);
+      one-cut = good-cut-unique sc 8 n s;
+      one-fault = first-fault-unique sc 7 n s o;
+      with-cut = λ cut g. e ∙ ap (treeCounts sc n) (accepted-exactly sc n s cut .1 g);
+      with-fault = λ fault f. e ∙ ap (treeCounts sc n) (refused-exactly sc n s o _ _ .1 (fault, f, refl, refl));
+    }
+
+-- A number over 15 is refused with 2, as a table that the loader cannot give is.
+number-refused : (t : Table) (n : ℕ) (s : List ℕ) → length s ≤ 65536 → 15 < n → check t n s ≡ refusal 2 0
+number-refused t n s h k = go (valid t) refl
+  where
+    go : (v : Bool) → valid t ≡ v → check t n s ≡ refusal 2 0
+    go true v = sym (checks.bad-number (schema t) n s h k ∙ checks.under-valid t n s h v (schema t) refl)
+    go false v = sym (checks.bad-table t n s h v)
+
+pub demand-1 : Demand1Holds checkOctets
+unfolding checkOctets
+demand-1 =
+    record {
+      too-long = λ table n s h. sym (message-too-long table s (λ (t : Table). check t n s) refusal h);
+      bad-table = λ table n s h ne.
+          sym (table-refused table s (λ (t : Table). check t n s) refusal h (load table) refl ne)
+          ∙ ap (λ (k : ℕ). refusal k (load table .place)) (load-two table ne);
+      bad-number = λ table n s h z k. check-as-loaded table s z h n ∙ number-refused (load table .table) n s h k;
+      otherwise = λ table n s h z k to o.
+          let t = load table .table in
+          let v : valid t ≡ true = loaded-valid table (load table) to refl z in
+          subst (Demand1 (schema t) n s) (sym (check-as-loaded table s z h n)) (demand-1-under t n s v k o h);
+    }

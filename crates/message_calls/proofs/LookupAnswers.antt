@@ -1,0 +1,172 @@
+-- The answer of a lookup, case by case.
+use Prim.Native.Nat.{ℕ, _+_, _-_, _≤_}
+use native.Mathlib.Omega.{arith}
+use mathlib.Core.Path.{_≡_, refl, sym, ap, _∙_}
+use mathlib.Core.Bool.{true, false}
+use mathlib.Core.List.{List}
+use mathlib.Core.Option.{Option, none, some, Option·map}
+use lib.ListN.{length, take, drop, length-drop}
+use lib.Seq.{length-take-le}
+use lib.Dec.{eqb}
+use borrow.Author.Tests.{le-leb, eq-eqb, ne-eqb}
+use Rattle.octets.specs.internal.Bounded.{unsigned, signed}
+use Rattle.hproto_table.specs.Entry.{kindNumber}
+use Rattle.hproto_table.specs.Schema.{Schema, schema}
+use Rattle.hproto_table.specs.declared.Meaning.{Meaning}
+use Rattle.hproto_table.specs.declared.Meaning.the-variants.{Raw, Uint, Int, String, Text, Message}
+use Rattle.hproto_table.specs.Valid.{valid}
+use Rattle.hproto_table.specs.declared.Table.{Table}
+use Rattle.hproto_message.specs.Cut.{Cut, Contents, Good}
+use Rattle.hproto_message.specs.Tree.{value}
+use Rattle.hproto_message.specs.Items.{Item, itemTag, withTag, kindOf, itemKind, uintOf, intOf}
+use Rattle.reading.specs.Reading.{accepted}
+use Rattle.hproto_message.specs.Reading.{reading}
+use Rattle.hproto_message.proofs.Accepted.{accepted-good}
+use Rattle.message_calls.specs.Check.{check, checkUnder}
+use Rattle.reading.specs.declared.Checked.{Checked}
+use Rattle.message_calls.specs.Lookup.{Outer, outermost, chosen, refusal, found, foundIn, answer, lookup, lookupLast}
+use Rattle.message_calls.specs.internal.LookupUnder.{answerUnder, lookupUnder, lookupLastUnder}
+use Rattle.message_calls.specs.internal.Spots.{places, spotOf, nthSpot, lastSpot, chosenSpot, uintIn, intIn, read}
+use Rattle.message_calls.specs.declared.outermost.Occurrence.{Occurrence}
+use Rattle.message_calls.specs.declared.outermost.Occurrence.the-variants.{Nth, Last}
+use Rattle.message_calls.specs.declared.outermost.Spot.{Spot}
+use Rattle.message_calls.specs.declared.outermost.Spot.the-variants.{Absent, At}
+use Rattle.message_calls.proofs.Choosing.{Of, chosen-map, chosen-each, withTag-each}
+use Rattle.message_calls.proofs.Outers.{itemOf, Held, each-held, placeOf, places-are}
+use Rattle.message_calls.specs.InTree.{Shows}
+use Rattle.message_calls.proofs.Passed.{under-passed}
+use Rattle.message_calls.proofs.Counts.{under-valid}
+
+-- Contents that are allowed for a kind are answered with the kind's number and their value.
+read-leaf : (k : Meaning) (t start : ℕ) (b : List ℕ) → Contents k b
+    → read (kindNumber k) start b ≡ found (some (record { item = Item.leaf t (value k b); start = start; length = length b }))
+unfolding read kindNumber uintIn intIn unsigned signed found itemKind kindOf uintOf intOf value Contents
+read-leaf Raw t start b h = refl
+read-leaf Uint t start b h = rw (le-leb (length b) 8 h)
+read-leaf Int t start b h = rw (le-leb (length b) 8 h)
+read-leaf String t start b h = refl
+read-leaf Text t start b h = refl
+read-leaf (Message m) t start b h = absurd h
+
+read-item : (sc : Schema) (levels n : ℕ) (i : Item) (start : ℕ) (b : List ℕ) → Shows sc levels n b i
+    → read (kindNumber (sc .means n (itemTag i))) start b ≡ found (some (record { item = i; start = start; length = length b }))
+unfolding Shows itemTag read kindNumber uintIn intIn found itemKind uintOf intOf
+read-item sc levels n (Item.leaf t v) start b h = rw (h .0) (read-leaf (sc .means n t) t start b (h .1))
+read-item sc levels n (Item.nested t inside) start b h = rw (h .2)
+
+-- What was found is read from the octets at its place.
+read-outer : (sc : Schema) (levels n : ℕ) (s : List ℕ) (o : Outer) (t : ℕ) → Held sc levels n s o → itemTag (o .item) ≡ t
+    → read (kindNumber (sc .means n t)) (o .start) (take (o .length) (drop (o .start) s)) ≡ found (some o)
+unfolding found
+read-outer sc levels n s o t h e =
+    let k = h .inside in
+    let l = length-take-le (o .length) (drop (o .start) s) (simp length-drop (omega arith)) in
+    let r = read-item sc levels n (o .item) (o .start) (take (o .length) (drop (o .start) s)) (h .shows) in
+    rw (← e) (r ∙ rw l)
+
+chosen-spot : (t : ℕ) (w : Occurrence) (s : List ℕ) → chosenSpot t w s ≡ spotOf (chosen w (places t s))
+unfolding chosenSpot nthSpot lastSpot chosen
+chosen-spot t (Nth k) s = refl
+chosen-spot t Last s = refl
+
+-- Under the schema of a table that the loader can give, a lookup answers as under the table.
+module _ (t : Table) (sc : Schema) (same : sc ≡ schema t) (n : ℕ) (s : List ℕ) (h : length s ≤ 65536) (v : valid t ≡ true) (tag : ℕ) where
+  pub answer-under : (which : Occurrence) → answerUnder sc n s tag which ≡ answer t n s tag which
+  unfolding answerUnder answer
+  answer-under which = rw (under-valid t n s h v sc same, same) refl
+
+  pub lookup-under : (k : ℕ) → lookupUnder sc n s tag k ≡ lookup t n s tag k
+  unfolding lookupUnder lookup
+  lookup-under k = answer-under (Nth k)
+
+  pub last-under : lookupLastUnder sc n s tag ≡ lookupLast t n s tag
+  unfolding lookupLastUnder lookupLast
+  last-under = answer-under Last
+
+module _ (sc : Schema) (n : ℕ) (s : List ℕ) (tag : ℕ) (which : Occurrence) where
+  pub refused-under : (c : Checked) → c ≡ checkUnder sc n s → (c .refusal ≡ 0 → ⊥) → refusal (c .refusal) (c .place) ≡ answerUnder sc n s tag which
+  unfolding answerUnder
+  refused-under c e ne =
+      let f : eqb (checkUnder sc n s .refusal) 0 ≡ false = ap (λ (x : Checked). eqb (x .refusal) 0) (sym e) ∙ ne-eqb (c .refusal) 0 ne in
+      rw (f, ← e)
+
+  -- The outermost field that is wanted.
+  unfoldable pub wanted : Cut → Option Outer
+  wanted cut = chosen which (withTag itemOf tag (outermost sc n 0 cut))
+
+  pub answered-under : checkUnder sc n s .refusal ≡ 0 → (cut : Cut) → reading sc n s ≡ accepted cut → answerUnder sc n s tag which ≡ found (wanted cut)
+  unfolding answerUnder foundIn wanted
+  answered-under e cut f = rw (eq-eqb (checkUnder sc n s .refusal) 0 e, f)
+
+  -- It stands in the message.
+  pub wanted-held : (cut : Cut) → Good sc 8 n s cut
+      → Of (λ (o : Outer). Held sc 7 n s o × (itemTag (o .item) ≡ tag)) (wanted cut)
+  unfolding wanted
+  wanted-held cut g =
+      chosen-each (λ (o : Outer). Held sc 7 n s o × (itemTag (o .item) ≡ tag)) which (withTag itemOf tag (outermost sc n 0 cut))
+      (withTag-each (Held sc 7 n s) itemOf tag (outermost sc n 0 cut)
+      (each-held sc 7 n s cut 0 (sym (g .divides)) (g .allowed) (g .shallow)))
+
+  -- The walk finds its place.
+  spot-is : (cut : Cut) → Good sc 8 n s cut → chosenSpot tag which s ≡ spotOf (Option·map placeOf (wanted cut))
+  unfolding wanted
+  spot-is cut g =
+      chosen-spot tag which s
+      ∙ rw (places-are sc n tag 8 s cut g, chosen-map placeOf which (withTag itemOf tag (outermost sc n 0 cut)))
+
+  module _ (e : checkUnder sc n s .refusal ≡ 0) where
+    cut : Cut
+    cut = under-passed sc n s e .1 .0
+
+    is-good : Good sc 8 n s cut
+    unfolding reading cut
+    is-good = accepted-good sc 8 n 0 0 s (under-passed sc n s e .1 .0) (under-passed sc n s e .1 .1)
+
+    is-answered : answerUnder sc n s tag which ≡ found (wanted cut)
+    unfolding cut
+    is-answered = answered-under e (under-passed sc n s e .1 .0) (under-passed sc n s e .1 .1)
+
+    pub absent : (p : Spot) → p ≡ chosenSpot tag which s → p ≡ Absent → refusal 18 0 ≡ answerUnder sc n s tag which
+    unfolding spotOf found
+    absent p f a = sym (is-answered ∙ go (wanted cut) (sym (spot-is cut is-good) ∙ sym f ∙ a))
+      where
+        go : (o : Option Outer) → spotOf (Option·map placeOf o) ≡ Absent → found o ≡ refusal 18 0
+        go none h = refl
+        go (some o) h = let z : _≡_ {A = ℕ} 0 1 = cc in absurd (omega arith)
+
+    -- The place of the field that is wanted, and what is read there.
+    pub record Present (start end : ℕ) : Type 0 where
+      pub ordered : start ≤ end
+      pub inside : end ≤ length s
+      pub answers : read (kindNumber (sc .means n tag)) start (take (end - start) (drop start s)) ≡ answerUnder sc n s tag which
+
+    pub present : (start end : ℕ) (p : Spot) → p ≡ chosenSpot tag which s → p ≡ At start end → Present start end
+    unfolding spotOf Of
+    present start end p f a = go (wanted cut) refl (wanted-held cut is-good) (sym (spot-is cut is-good) ∙ sym f ∙ a)
+      where
+        go : (o : Option Outer) → wanted cut ≡ o → Of (λ (o : Outer). Held sc 7 n s o × (itemTag (o .item) ≡ tag)) o
+            → spotOf (Option·map placeOf o) ≡ At start end → Present start end
+        go none w h d = let z : _≡_ {A = ℕ} 0 1 = cc in absurd (omega arith)
+        go (some o) w h d =
+            let x : o .start ≡ start = cc in
+            let y : o .start + o .length ≡ end = cc in
+            let k = h .0 .inside in
+            let l : end - start ≡ o .length = omega arith in
+            let r = read-outer sc 7 n s o tag (h .0) (h .1) in
+            record {
+              ordered = omega arith;
+              inside = omega arith;
+              answers = rw (l, ← x) (r ∙ sym (is-answered ∙ ap found w));
+            }
+
+module _ (t : Table) (n : ℕ) (s : List ℕ) (tag : ℕ) (which : Occurrence) where
+  pub refused-first : (c : Checked) → c ≡ check t n s → (c .refusal ≡ 0 → ⊥) → refusal (c .refusal) (c .place) ≡ answer t n s tag which
+  unfolding answer
+  refused-first c e ne =
+      let f : eqb (check t n s .refusal) 0 ≡ false = ap (λ (x : Checked). eqb (x .refusal) 0) (sym e) ∙ ne-eqb (c .refusal) 0 ne in
+      rw (f, ← e)
+
+  pub answered : check t n s .refusal ≡ 0 → (cut : Cut) → reading (schema t) n s ≡ accepted cut
+      → answer t n s tag which ≡ found (wanted (schema t) n s tag which cut)
+  unfolding answer foundIn wanted
+  answered e cut f = rw (eq-eqb (check t n s .refusal) 0 e, f)

@@ -1,0 +1,113 @@
+-- Counting the octets of the shortest form of a message field by field.
+use Prim.Native.Nat.{ℕ, suc, _+_, _*_, _%_, _≤_, _<_}
+use native.Mathlib.Omega.{arith}
+use mathlib.Core.Path.{_≡_, refl, sym, ap, _∙_, subst}
+use mathlib.Core.List.{List, [], _++_}
+use lib.ListN.{length, drop, length-append}
+use lib.IntN.{ℤ, pos, negsuc}
+use Rattle.hproto_message.specs.internal.Accepts.{Accepts}
+use Rattle.hproto_message.proofs.Accepted.{accepts-good}
+use Rattle.octets.specs.Number.{Octets, number}
+use Rattle.octets.specs.Signed.{integer, signedWidth}
+use Rattle.octets.specs.Control.{leastControl}
+use Rattle.octets.specs.internal.Least.{controlWidths}
+use Rattle.octets.proofs.Number.{length-leastUint, width-bound}
+use Rattle.octets.proofs.Integer.{length-leastInt}
+use Rattle.hproto_table.specs.Schema.{Schema}
+use Rattle.hproto_table.specs.declared.Meaning.{Meaning}
+use Rattle.hproto_table.specs.declared.Meaning.the-variants.{Raw, Uint, Int, String, Text, Message}
+use Rattle.hproto_message.specs.Tree.{value}
+use Rattle.hproto_message.specs.Shortest.{field, leastContents}
+use Rattle.hproto_message.proofs.Next.{Plain}
+use Rattle.hproto_message.proofs.Shortened.{shortest-no-longer}
+use Rattle.hproto_field.specs.internal.Fronts.{front}
+use Rattle.hproto_field.specs.declared.Field.{Field}
+use Rattle.hproto_put.proofs.Least.{leastControl-size, leastControl-widths}
+use Rattle.message_calls.specs.internal.Stores.{short}
+use Rattle.message_calls.proofs.Passing.{Passed, nothing-passed, all-passed, passed-length, part, ends, leaf-passed, nested-passed, short-is}
+use Rattle.hproto_message.proofs.Fields.{field-length}
+
+signedWidth-bound : (z : ℤ) → signedWidth z ≤ 8
+unfolding signedWidth
+signedWidth-bound (pos v) = width-bound (2 * v)
+signedWidth-bound (negsuc k) = width-bound (2 * k + 1)
+
+-- Least contents are few octets where the contents are.
+pub least-few : (k : Meaning) (s : List ℕ) → length s ≤ 65536 → length (leastContents (value k s)) ≤ 65536
+unfolding leastContents value
+least-few Raw s h = h
+least-few Uint s h = let e = length-leastUint (number s) in let b = width-bound (number s) in omega arith
+least-few Int s h = let e = length-leastInt (integer s) in let b = signedWidth-bound (integer s) in omega arith
+least-few String s h = h
+least-few Text s h = h
+least-few (Message m) s h = h
+
+pub control-few : (tag len : ℕ) → length (leastControl tag len) ≤ 11
+control-few tag len =
+    let s = leastControl-size tag len (controlWidths tag len) refl in
+    let w = leastControl-widths tag len (controlWidths tag len) refl in
+    let a = w .0 in
+    let b = w .1 in
+    omega arith
+
+-- The shortest form of an accepted message is no longer than the message.
+pub short-few : (sc : Schema) (levels n : ℕ) (s : List ℕ) → Octets s → Accepts sc levels n s → length (short sc levels n s) ≤ length s
+short-few sc levels n s o a =
+    let g = accepts-good sc levels n s a in
+    rw (short-is sc levels n s (g .0) (g .1)) (shortest-no-longer sc levels n s (g .0) o (g .1))
+
+module _ (sc : Schema) (levels n : ℕ) (s : List ℕ) where
+  -- After i octets, `size` counts what has been passed.
+  pub record Counted (i size : ℕ) : Type 0 where
+    pub written : List ℕ
+    pub passed : Passed sc levels n s i written
+    pub total : size ≡ length written
+
+  pub counted-none : Accepts sc (suc levels) n s → Counted 0 0
+  counted-none a = record { written = []; passed = nothing-passed sc levels n s a; total = refl }
+
+  pub counted-all : (i size : ℕ) → Counted i size → length s ≤ i → size ≡ length (short sc (suc levels) n s)
+  counted-all i size p h = p .total ∙ sym (ap length (all-passed sc levels n s i (p .written) (p .passed) h))
+
+  pub counted-few : (i size : ℕ) → Counted i size → size ≤ length (short sc (suc levels) n s)
+  counted-few i size p = let e = p .total in let k = passed-length sc levels n s i (p .written) (p .passed) in omega arith
+
+  module _ (i size : ℕ) (p : Counted i size) (more : i < length s) (o : Octets s) (f : Field) (found : f ≡ front sc n (drop i s)) where
+    abbrev contents : List ℕ
+    contents = part sc levels n s i (p .written) (p .passed) more f found
+
+    small : f .tag % 65536 ≡ f .tag
+    small = ends sc levels n s i (p .written) (p .passed) more f found o .tag-small
+
+    pub next-onward : (i < i + f .control + f .contents) × (i + f .control + f .contents ≤ length s)
+    next-onward =
+        let h = ends sc levels n s i (p .written) (p .passed) more f found o in
+        (h .onward, h .inside)
+
+    counted-next : (j : ℕ) (xs : List ℕ) → Passed sc levels n s j (p .written ++ xs) → Counted j (size + length xs)
+    counted-next j xs q =
+        let e = p .total in
+        record { written = p .written ++ xs; passed = q; total = rw (length-append (p .written) xs) (omega arith) }
+
+    pub leaf-counted : (r : ℕ) → Plain (f .kind) → r ≡ length (field (f .tag % 65536) (leastContents (value (f .kind) contents)))
+        → Counted (i + f .control + f .contents) (size + r)
+    leaf-counted r q e =
+        subst (λ (x : ℕ). Counted (i + f .control + f .contents) (size + x)) (sym (e ∙ rw small))
+        (counted-next (i + f .control + f .contents) (field (f .tag) (leastContents (value (f .kind) contents)))
+        (leaf-passed sc levels n s i (p .written) (p .passed) more f found q))
+
+    module _ (m : ℕ) (q : f .kind ≡ Message m) where
+      pub nested-accepts : (1 ≤ levels) × Accepts sc levels m contents
+      nested-accepts =
+          let h = nested-passed sc levels n s i (p .written) (p .passed) more f found m q in
+          (h .positive, h .accepts)
+
+      pub nested-counted : (k l : ℕ) → k ≡ length (short sc levels m contents) → l ≡ length (leastControl (f .tag % 65536) k)
+          → Counted (i + f .control + f .contents) (size + (l + k))
+      nested-counted k l a b =
+          let h = nested-passed sc levels n s i (p .written) (p .passed) more f found m q in
+          let xs = short sc levels m contents in
+          let c : l ≡ length (leastControl (f .tag) (length xs)) = b ∙ rw (small, a) in
+          let e : length (field (f .tag) xs) ≡ l + k = field-length (f .tag) xs ∙ rw (a, c) in
+          subst (λ (x : ℕ). Counted (i + f .control + f .contents) (size + x)) e
+          (counted-next (i + f .control + f .contents) (field (f .tag) xs) (h .passed))

@@ -1,0 +1,62 @@
+use borrow.Author.Needs.{needs}
+use native.Mathlib.Omega.{arith}
+use denote.Ref.{now}
+use Rattle.octets.proofs.Number.{length-octetsOf}
+use Rattle.message_calls.proofs.Puts.{one-digit}
+use Rattle.message_calls.proofs.shortest.put_digits.Statement.{statement}
+use Rattle.message_calls.proofs.shortest.put_digits.Tie as tie
+
+cast-out : tie.Need-cast-out
+cast-out c = search needs
+
+slice-write-out : tie.Need-slice-write-out
+slice-write-out c =
+    let a = c .before .before .args in
+    let h = c .before .before .pre in
+    let l = length-octetsOf (a .w) (a .v) in
+    let e = c .if1 .taken in
+    omega arith
+
+add-result : tie.Need-add-result
+add-result c = search needs
+
+same-length : tie.Need-same-length
+same-length c = search needs
+
+returns : tie.Need-returns
+returns c =
+    let a = c .before .before .args in
+    one-digit (now (a .out)) (a .at) (a .w) (a .v) (c .if1 .taken) (c .before .before .pre)
+
+put-number-requires : tie.Need-put-number-requires
+put-number-requires c κs = search needs
+
+add-result-2 : tie.Need-add-result-2
+add-result-2 c =
+    let s = c .before .before .before .before .before .before in
+    let h = s .pre in
+    let g = s .good in
+    let l = length-octetsOf (s .args .w) (s .args .v) in
+    omega arith
+
+same-length-2 : tie.Need-same-length-2
+same-length-2 c = search needs
+
+returns-2 : tie.Need-returns-2
+returns-2 c =
+    let a = c .before .before .before .before .before .before .args in
+    record { place = rw (length-octetsOf (a .w) (a .v)); buffer = c .before .before .put-number .ensures }
+
+pub put-digits-spec : {M : Type 1} → statement M
+put-digits-spec =
+    tie.close
+    (tie.spec
+    cast-out
+    slice-write-out
+    add-result
+    same-length
+    returns
+    put-number-requires
+    add-result-2
+    same-length-2
+    returns-2)

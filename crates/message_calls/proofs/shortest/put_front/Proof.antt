@@ -1,0 +1,60 @@
+-- `put_front` stores one octet for a small tag and a small length, else the control part by its widths.
+use native.Mathlib.Omega.{arith}
+use denote.Ref.{now}
+use borrow.Author.Tests.{ltb-true}
+use Rattle.message_calls.proofs.Puts.{control-some, direct-put}
+use borrow.Author.Needs.{needs}
+use Rattle.message_calls.proofs.shortest.put_front.Statement.{statement}
+use Rattle.message_calls.proofs.shortest.put_front.Tie as tie
+
+one-octet-requires : tie.Need-one-octet-requires
+one-octet-requires c κs = search needs
+
+slice-write-out : tie.Need-slice-write-out
+slice-write-out c =
+    let s = c .before .before .before .before in
+    let h = s .pre in
+    let e = control-some (s .args .tag) (s .args .n) in
+    omega arith
+
+add-result : tie.Need-add-result
+add-result c = search needs
+
+same-length : tie.Need-same-length
+same-length c = search needs
+
+returns : tie.Need-returns
+returns c =
+    let s = c .before .before .before .before in
+    rw (c .one-octet .ensures)
+    (direct-put (now (s .args .out)) (s .args .to) (s .args .tag) (s .args .n) (c .before .before .if1 .taken) (ltb-true (s .args .n) 12 (c .before .if2 .taken)) (s .pre))
+
+put-control-requires : tie.Need-put-control-requires
+put-control-requires c κs = search needs
+
+control-size-requires : tie.Need-control-size-requires
+control-size-requires c κs = search needs
+
+add-result-2 : tie.Need-add-result-2
+add-result-2 c = search needs
+
+same-length-2 : tie.Need-same-length-2
+same-length-2 c = search needs
+
+returns-2 : tie.Need-returns-2
+returns-2 c = search needs
+
+pub put-front-spec : {M : Type 1} → statement M
+put-front-spec =
+    tie.close
+    (tie.spec
+    one-octet-requires
+    slice-write-out
+    add-result
+    same-length
+    returns
+    put-control-requires
+    control-size-requires
+    add-result-2
+    same-length-2
+    returns-2)

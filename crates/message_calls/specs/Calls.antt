@@ -1,0 +1,39 @@
+-- What the calls answer that take a field table as its octets.
+use Prim.Native.Nat.{ℕ}
+use mathlib.Core.Bool.{cond}
+use mathlib.Core.List.{List}
+use lib.ListN.{length}
+use lib.Dec.{ltb, eqb}
+use Rattle.reading.specs.Reading.{messageLimit}
+use Rattle.reading.specs.Checks as answers
+use Rattle.hproto_table.specs.Load.{load}
+use Rattle.hproto_table.specs.declared.Table.{Table}
+use Rattle.hproto_table.specs.declared.Loaded.{Loaded}
+use Rattle.message_calls.specs.Check as checks
+use Rattle.reading.specs.declared.Checked.{Checked}
+use Rattle.message_calls.specs.Shorten as shortens
+use Rattle.message_calls.specs.declared.Shortened.{Shortened}
+use Rattle.message_calls.specs.Lookup as lookups
+use Rattle.message_calls.specs.declared.Found.{Found}
+
+-- Document 01's order: 1 for a message that is too long, the loader's refusal, then what is answered under the loaded table.
+unfoldable pub withTable : {A : Type 0} → List ℕ → List ℕ → (Table → A) → (ℕ → ℕ → A) → A
+withTable octets message under refuse =
+    cond (ltb messageLimit (length message)) (refuse 1 0)
+    (cond (eqb (load octets .refusal) 0) (under (load octets .table)) (refuse (load octets .refusal) (load octets .place)))
+
+unfoldable pub checkOctets : List ℕ → ℕ → List ℕ → Checked
+checkOctets octets n s = withTable octets s (λ t. checks.check t n s) answers.refusal
+
+unfoldable pub shortenOctets : List ℕ → ℕ → List ℕ → List ℕ → Shortened
+shortenOctets octets n s out = withTable octets s (λ t. shortens.answer t n s out) shortens.refusal
+
+-- The second buffer afterwards.
+unfoldable pub shortenBuffer : List ℕ → ℕ → List ℕ → List ℕ → List ℕ
+shortenBuffer octets n s out = withTable octets s (λ t. shortens.buffer t n s out) (λ number place. out)
+
+unfoldable pub lookupOctets : List ℕ → ℕ → List ℕ → ℕ → ℕ → Found
+lookupOctets octets n s tag k = withTable octets s (λ t. lookups.lookup t n s tag k) lookups.refusal
+
+unfoldable pub lookupLastOctets : List ℕ → ℕ → List ℕ → ℕ → Found
+lookupLastOctets octets n s tag = withTable octets s (λ t. lookups.lookupLast t n s tag) lookups.refusal

@@ -1,0 +1,10 @@
+pub mod Check
+pub mod Lookup
+pub mod InTree
+pub mod Written
+pub mod Shorten
+pub mod Demand3
+pub mod Calls
+pub mod Demand1
+pub mod Samples
+pub mod internal

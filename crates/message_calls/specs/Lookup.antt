@@ -1,0 +1,91 @@
+-- What a lookup answers: the k-th, or the last, of the outermost fields of an accepted message that have a tag.
+use Prim.Native.Nat.{ℕ, _+_}
+use mathlib.Core.Bool.{cond}
+use mathlib.Core.List.{List, [], _∷_}
+use mathlib.Core.Option.{Option, none, some}
+use lib.ListN as lists
+use lib.IntN.{pos}
+use lib.Dec.{eqb}
+use Rattle.hproto_table.specs.Entry.{innerOf}
+use Rattle.hproto_table.specs.Schema.{Schema, schema}
+use Rattle.hproto_table.specs.declared.Table.{Table}
+use Rattle.hproto_message.specs.Cut.{Cut, joined}
+use Rattle.hproto_message.specs.Tree.{Tree, value, tree}
+use Rattle.hproto_message.specs.Items.{Item, items, withTag, itemKind, uintOf, intOf}
+use Rattle.reading.specs.Reading.{Reading, accepted, refused}
+use Rattle.hproto_message.specs.Reading.{reading}
+use Rattle.message_calls.specs.Check.{check}
+use Rattle.reading.specs.declared.Checked.{Checked}
+use Rattle.message_calls.specs.declared.outermost.Occurrence.{Occurrence}
+use Rattle.message_calls.specs.declared.outermost.Occurrence.the-variants.{Nth, Last}
+use Rattle.message_calls.specs.declared.Found.{Found}
+
+-- A field, and where its contents stand in the message: their first place and how many octets they have.
+pub record Outer : Type 0 where
+  pub item : Item
+  pub start : ℕ
+  pub length : ℕ
+
+-- The outermost fields of a cut, in order, each as the tree has it. The first one's control part stands at the place `at`. The value of
+-- a nested message is the octets at its place.
+unfoldable pub outermost : Schema → ℕ → ℕ → Cut → List Outer
+outermost sc n at Cut.end = []
+outermost sc n at (Cut.leaf tag part s rest) =
+    let k = lists.length part in
+    let l = lists.length s in
+    record { item = Item.leaf tag (value (sc .means n tag) s); start = at + k; length = l } ∷ outermost sc n (at + k + l) rest
+outermost sc n at (Cut.nested tag part inside rest) =
+    let k = lists.length part in
+    let l = lists.length (joined inside) in
+    record { item = Item.nested tag (tree sc (innerOf (sc .means n tag)) inside); start = at + k; length = l } ∷ outermost sc n (at + k + l) rest
+
+-- The last element, or `o` where there is none.
+unfoldable pub lastOr : {A : Type 0} → Option A → List A → Option A
+lastOr o [] = o
+lastOr o (x ∷ l) = lastOr (some x) l
+
+unfoldable pub chosen : {A : Type 0} → Occurrence → List A → Option A
+chosen (Nth k) l = lists.getElem? l k
+chosen Last l = lastOr none l
+
+unfoldable pub refusal : ℕ → ℕ → Found
+refusal number place =
+    record { refusal = number; place = place; kind = 0; number = 0; signed = pos 0; start = 0; length = 0 }
+
+-- A field that was found, or 18.
+unfoldable pub found : Option Outer → Found
+found none = refusal 18 0
+found (some o) =
+    record {
+      refusal = 0;
+      place = 0;
+      kind = itemKind (o .item);
+      number = uintOf (o .item);
+      signed = intOf (o .item);
+      start = o .start;
+      length = o .length;
+    }
+
+-- What is answered for a message that was read.
+unfoldable pub foundIn : Schema → ℕ → ℕ → Occurrence → Reading Cut → Found
+foundIn sc n t which (accepted cut) = found (chosen which (withTag (λ (o : Outer). o .item) t (outermost sc n 0 cut)))
+foundIn sc n t which (refused number place) = refusal number place
+
+-- The check's refusal, or what is found.
+unfoldable pub answer : Table → ℕ → List ℕ → ℕ → Occurrence → Found
+answer t n s tag which =
+    let c = check t n s in
+    cond (eqb (c .refusal) 0) (foundIn (schema t) n tag which (reading (schema t) n s)) (refusal (c .refusal) (c .place))
+
+-- The k-th of the outermost fields with a tag.
+unfoldable pub lookup : Table → ℕ → List ℕ → ℕ → ℕ → Found
+lookup t n s tag k = answer t n s tag (Nth k)
+
+-- The last of them.
+unfoldable pub lookupLast : Table → ℕ → List ℕ → ℕ → Found
+lookupLast t n s tag = answer t n s tag Last
+
+-- The k-th, or the last, of a tree's outermost fields with a tag. proofs/Trees.antt shows that this is the field that is answered, and
+-- that 18 is answered exactly where there is none.
+unfoldable pub occurrence : Tree → ℕ → Occurrence → Option Item
+occurrence whole t which = chosen which (withTag (λ (i : Item). i) t (items whole))

@@ -1,0 +1,5 @@
+pub mod Walks
+pub mod Spots
+pub mod LookupUnder
+pub mod Stores
+pub mod ShortenUnder

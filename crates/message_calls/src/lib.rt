@@ -1,0 +1,143 @@
+// The calls that read a message: the check, the shortener and the lookup of a field. Each comes twice: by the octets of a field table, and
+// under a table that was loaded. A message that is too long is refused before the table is looked at, a faulty table before the message number
+// is. By octets only the index is made of the table: where it does not have every record, the one after those that it has is faulty.
+mod outermost;
+mod shortest;
+mod sizes;
+mod traversal;
+
+use hproto_table::Table;
+use outermost::Occurrence;
+use reading::Checked;
+ghost use mathlib.Core.Path.{_≡_};
+ghost use Rattle.message_calls.specs.Check.{check as check-of};
+ghost use Rattle.message_calls.specs.Lookup.{lookup as lookup-of, lookupLast};
+ghost use Rattle.message_calls.specs.Shorten.{answer, buffer};
+ghost use Rattle.message_calls.specs.Calls.{checkOctets, shortenOctets, shortenBuffer, lookupOctets, lookupLastOctets};
+
+// The shortener's answer: a refusal number (0 where the message was shortened), the place of the fault, and the length written.
+pub struct Shortened {
+    pub refusal: u64,
+    pub place: u64,
+    pub length: u64,
+}
+
+// The answer: a refusal number (0 where a field was found) and the place of the fault; of the field found its kind, the number of a uint,
+// the signed number of an int, and where its contents stand in the lent buffer.
+pub struct Found {
+    pub refusal: u64,
+    pub place: u64,
+    pub kind: u64,
+    pub number: u64,
+    pub signed: i64,
+    pub start: u64,
+    pub length: u64,
+}
+
+// The check of a message.
+pub fn check(table: &[u8], number: u64, message: &[u8]) -> Checked
+    ensures { λ r. ⌜ r ≡ checkOctets (now (table .entry)) number (now (message .entry)) ⌝ }
+{
+    if 65536 < message.len() {
+        return reading::refused(1, 0);
+    }
+    let mut cells = [0u32; 128];
+    let end = table_index::index(table, &mut cells) * 8;
+    if end < table.len() {
+        return reading::refused(2, end as u64);
+    }
+    traversal::check_under(&cells, number, message)
+}
+
+// The shortener.
+pub fn shorten(table: &[u8], number: u64, message: &[u8], out: &mut [u8]) -> Shortened
+    ensures { λ r. ⌜ r ≡ shortenOctets (now (table .entry)) number (now (message .entry)) (now (out .entry)) ⌝ }
+    ensures { λ r. ⌜ now (out .exit) ≡ shortenBuffer (now (table .entry)) number (now (message .entry)) (now (out .entry)) ⌝ }
+{
+    if 65536 < message.len() {
+        return shortest::refused(1, 0);
+    }
+    let mut cells = [0u32; 128];
+    let end = table_index::index(table, &mut cells) * 8;
+    if end < table.len() {
+        return shortest::refused(2, end as u64);
+    }
+    shortest::shorten_under(&cells, number, message, out)
+}
+
+// The k-th of the outermost fields with a tag.
+pub fn lookup(table: &[u8], number: u64, message: &[u8], tag: u64, k: u64) -> Found
+    ensures { λ r. ⌜ r ≡ lookupOctets (now (table .entry)) number (now (message .entry)) tag k ⌝ }
+{
+    if 65536 < message.len() {
+        return outermost::refused(1, 0);
+    }
+    let mut cells = [0u32; 128];
+    let end = table_index::index(table, &mut cells) * 8;
+    if end < table.len() {
+        return outermost::refused(2, end as u64);
+    }
+    outermost::lookup_under(&cells, number, message, tag, k)
+}
+
+// The last of them.
+pub fn lookup_last(table: &[u8], number: u64, message: &[u8], tag: u64) -> Found
+    ensures { λ r. ⌜ r ≡ lookupLastOctets (now (table .entry)) number (now (message .entry)) tag ⌝ }
+{
+    if 65536 < message.len() {
+        return outermost::refused(1, 0);
+    }
+    let mut cells = [0u32; 128];
+    let end = table_index::index(table, &mut cells) * 8;
+    if end < table.len() {
+        return outermost::refused(2, end as u64);
+    }
+    outermost::lookup_last_under(&cells, number, message, tag)
+}
+
+// The check of a message of a number under a table.
+pub fn check_loaded(t: Table, number: u64, message: &[u8]) -> Checked
+    ensures { λ r. ⌜ r ≡ check-of t number (now (message .entry)) ⌝ }
+{
+    let n = message.len();
+    if 65536 < n {
+        return reading::refused(1, 0);
+    }
+    if !hproto_valid::valid(t) {
+        return reading::refused(2, 0);
+    }
+    let mut index = [0u32; 128];
+    let words = hproto_find::first(&t.words, t.count);
+    table_index::index_words(words, &mut index);
+    traversal::check_under(&index, number, message)
+}
+
+// The shortener under a table. The refusals of the table come before all that is read under it.
+pub fn shorten_loaded(t: Table, number: u64, message: &[u8], out: &mut [u8]) -> Shortened
+    ensures { λ r. ⌜ r ≡ answer t number (now (message .entry)) (now (out .entry)) ⌝ }
+    ensures { λ r. ⌜ now (out .exit) ≡ buffer t number (now (message .entry)) (now (out .entry)) ⌝ }
+{
+    if 65536 < message.len() {
+        return shortest::refused(1, 0);
+    }
+    if !hproto_valid::valid(t) {
+        return shortest::refused(2, 0);
+    }
+    let mut index = [0u32; 128];
+    let words = hproto_find::first(&t.words, t.count);
+    table_index::index_words(words, &mut index);
+    shortest::shorten_under(&index, number, message, out)
+}
+
+// The same two lookups under a table.
+pub fn lookup_loaded(t: Table, number: u64, message: &[u8], tag: u64, k: u64) -> Found
+    ensures { λ r. ⌜ r ≡ lookup-of t number (now (message .entry)) tag k ⌝ }
+{
+    outermost::look(t, number, message, tag, Occurrence::Nth(k))
+}
+
+pub fn lookup_last_loaded(t: Table, number: u64, message: &[u8], tag: u64) -> Found
+    ensures { λ r. ⌜ r ≡ lookupLast t number (now (message .entry)) tag ⌝ }
+{
+    outermost::look(t, number, message, tag, Occurrence::Last)
+}

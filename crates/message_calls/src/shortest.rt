@@ -1,0 +1,229 @@
+// The shortener: writes the shortest octets that read the same as a message.
+use crate::Shortened;
+use crate::sizes;
+use crate::traversal;
+use hproto_field::Field;
+use hproto_field::Holds;
+use hproto_table::Meaning;
+use octets::Least;
+ghost use mathlib.Core.Path.{_≡_};
+ghost use Prim.Native.Nat.{_+_, _*_, _-_, _≤_, _<_};
+ghost use lib.ListN.{length};
+ghost use Rattle.octets.specs.Number.{Octets, number as number-of, octetsOf, leastUint};
+ghost use Rattle.octets.specs.Signed.{integer, leastInt};
+ghost use Rattle.octets.specs.Control.{leastControl};
+ghost use Rattle.hproto_store.specs.Store.{stored};
+ghost use Rattle.hproto_store.specs.internal.Moved.{moved};
+ghost use Rattle.table_index.specs.internal.Cells.{indexed};
+ghost use Rattle.hproto_field.specs.internal.Fronts.{front as front-of};
+ghost use Rattle.hproto_message.specs.Cut.{Contents};
+ghost use Rattle.hproto_message.specs.internal.Accepts.{Accepts};
+ghost use Rattle.hproto_message.specs.Tree.{value};
+ghost use Rattle.hproto_message.specs.Shortest.{field, leastContents};
+ghost use Rattle.message_calls.specs.Shorten.{refusal};
+ghost use Rattle.message_calls.specs.internal.ShortenUnder.{answerUnder, bufferUnder};
+ghost use Rattle.message_calls.specs.internal.Stores.{short, Put};
+
+// The octets of a number. Most numbers take one.
+fn put_digits(out: &mut [u8], at: usize, w: u64, v: u64) -> usize
+    requires { ⌜ at + length (octetsOf w v) ≤ length (now out) ⌝ }
+    ensures { λ r. ⌜ Put (now (out .entry)) at (octetsOf w v) r (now (out .exit)) ⌝ }
+{
+    if w == 1 {
+        out[at] = (v % 256) as u8;
+        return at + 1;
+    }
+    hproto_put::put_number(out, at, w, v);
+    at + (w as usize)
+}
+
+// The control part of a small tag and a small length.
+fn one_octet(tag: u16, n: usize) -> u8
+    requires { ⌜ (tag < 14) × (n < 12) ⌝ }
+    ensures { λ r. ⌜ r ≡ tag * 16 + n ⌝ }
+{
+    ((tag as u8) << 4) + (n as u8)
+}
+
+// Stores the least control part and answers the place after it. Most take one octet, which needs no call.
+fn put_front(tag: u16, n: usize, out: &mut [u8], to: usize) -> usize
+    requires { ⌜ to + length (leastControl tag n) ≤ length (now out) ⌝ }
+    ensures { λ r. ⌜ Put (now (out .entry)) to (leastControl tag n) r (now (out .exit)) ⌝ }
+{
+    if tag < 14 && n < 12 {
+        out[to] = one_octet(tag, n);
+        return to + 1;
+    }
+    hproto_put::put_control(out, to, tag, n as u64);
+    to + hproto_put::control_size(tag, n as u64)
+}
+
+// A field whose contents are the octets of a number.
+fn put_least(tag: u16, least: Least, out: &mut [u8], to: usize) -> usize
+    requires { ⌜ to + length (field tag (octetsOf (least .width) (least .bits))) ≤ length (now out) ⌝ }
+    ensures { λ r. ⌜ Put (now (out .entry)) to (field tag (octetsOf (least .width) (least .bits))) r (now (out .exit)) ⌝ }
+{
+    let w = least.width;
+    let v = least.bits;
+    let a = put_front(tag, w as usize, out, to);
+    put_digits(out, a, w, v)
+}
+
+// A field whose contents stay as they are.
+fn put_plain(tag: u16, s: &[u8], out: &mut [u8], to: usize) -> usize
+    requires { ⌜ to + length (field tag (now s)) ≤ length (now out) ⌝ }
+    ensures { λ r. ⌜ Put (now (out .entry)) to (field tag (now (s .entry))) r (now (out .exit)) ⌝ }
+{
+    let n = s.len();
+    let a = put_front(tag, n, out, to);
+    hproto_store::put_octets(out, a, s);
+    a + n
+}
+
+// No number has more than eight octets. The test tells the compiler so, which then reads them with fewer steps; `put_int`, and
+// `uint_size` and `int_size` of `sizes`, have it for the same reason.
+fn put_uint(tag: u16, s: &[u8], out: &mut [u8], to: usize) -> usize
+    requires { ⌜ length (now s) ≤ 8 ⌝ }
+    requires { ⌜ to + length (field tag (leastUint (number-of (now s)))) ≤ length (now out) ⌝ }
+    ensures { λ r. ⌜ Put (now (out .entry)) to (field tag (leastUint (number-of (now (s .entry))))) r (now (out .exit)) ⌝ }
+{
+    if 8 < s.len() {
+        return to;
+    }
+    let v = octets_read::uint(s);
+    put_least(tag, octets_least::uint_least(v), out, to)
+}
+
+fn put_int(tag: u16, s: &[u8], out: &mut [u8], to: usize) -> usize
+    requires { ⌜ length (now s) ≤ 8 ⌝ }
+    requires { ⌜ to + length (field tag (leastInt (integer (now s)))) ≤ length (now out) ⌝ }
+    ensures { λ r. ⌜ Put (now (out .entry)) to (field tag (leastInt (integer (now (s .entry))))) r (now (out .exit)) ⌝ }
+{
+    if 8 < s.len() {
+        return to;
+    }
+    let v = octets_read::int(s);
+    put_least(tag, octets_least::int_least(v), out, to)
+}
+
+// A field that is no message, in its least form.
+fn put_value(kind: Meaning, tag: u16, s: &[u8], out: &mut [u8], to: usize) -> usize
+    requires { ⌜ Contents kind (now s) ⌝ }
+    requires { ⌜ to + length (field tag (leastContents (value kind (now s)))) ≤ length (now out) ⌝ }
+    ensures { λ r. ⌜ Put (now (out .entry)) to (field tag (leastContents (value kind (now (s .entry))))) r (now (out .exit)) ⌝ }
+{
+    match kind {
+        Meaning::Raw => put_plain(tag, s, out, to),
+        Meaning::Uint => put_uint(tag, s, out, to),
+        Meaning::Int => put_int(tag, s, out, to),
+        Meaning::String => put_plain(tag, s, out, to),
+        Meaning::Text => put_plain(tag, s, out, to),
+        Meaning::Message(_) => to,
+    }
+}
+
+// Puts a control part before the n octets that stand behind room for one octet at `to`. They are final by then: the length that it says
+// is theirs. Only where the control part takes more octets are they moved.
+fn wrap(tag: u16, out: &mut [u8], to: usize, n: usize) -> usize
+    requires { ⌜ to + length (leastControl tag n) + n ≤ length (now out) ⌝ }
+    ensures { λ r. ⌜ r ≡ to + length (leastControl tag n) + n ⌝ }
+    ensures { λ r. ⌜ now (out .exit) ≡ stored (moved (now (out .entry)) (to + 1) n (length (leastControl tag n) - 1)) to (leastControl tag n) ⌝ }
+{
+    if tag < 14 && n < 12 {
+        out[to] = one_octet(tag, n);
+        return to + 1 + n;
+    }
+    let size = hproto_put::control_size(tag, n as u64);
+    hproto_store::move_up(out, to + 1, n, size - 1);
+    hproto_put::put_control(out, to, tag, n as u64);
+    to + size + n
+}
+
+// The field at the front of octets, its contents unread. Most control parts are one octet, so that case is tested first.
+fn next_field(cells: &[u32; 128], number: u64, s: &[u8]) -> Field
+    ensures { λ r. ⌜ r ≡ front-of (indexed (now (cells .entry))) number (now (s .entry)) ⌝ }
+{
+    if 0 < s.len() {
+        let c = s[0];
+        let tag = (c >> 4) as u64;
+        let n = (c & 15) as usize;
+        if tag < 14 && n < 12 && n < s.len() {
+            return Field {
+                tag,
+                kind: table_index::find(cells, number, tag),
+                control: 1,
+                contents: n,
+            };
+        }
+    }
+    hproto_field::field_in(cells, number, s)
+}
+
+// Writes the shortest form of an accepted message at `to` and answers the place after it. A nested message is written first, so that
+// its control part is chosen when its length is final.
+fn write(cells: &[u32; 128], number: u64, levels: u64, s: &[u8], out: &mut [u8], to: usize) -> usize
+    requires { ⌜ Octets (now s) ⌝ }
+    requires { ⌜ Accepts (indexed (now cells)) levels number (now s) ⌝ }
+    requires { ⌜ to + length (short (indexed (now cells)) levels number (now s)) ≤ length (now out) ⌝ }
+    ensures { λ r. ⌜ Put (now (out .entry)) to (short (indexed (now (cells .entry))) levels number (now (s .entry))) r (now (out .exit)) ⌝ }
+{
+    let mut i: usize = 0;
+    let mut end = to;
+    while i < s.len() {
+        let f = next_field(cells, number, &s[i..]);
+        let kind = f.kind;
+        let a = i + f.control;
+        let e = a + f.contents;
+        // A tag is below 65,536, so that the remainder is the tag; it spares the proof of the cast.
+        let tag = (f.tag % 65536) as u16;
+        match hproto_field::held(kind) {
+            Holds::None => {
+                end = put_value(kind, tag, &s[a..e], out, end);
+                i = e;
+            }
+            Holds::Number(m) => {
+                let after = write(cells, m, levels - 1, &s[a..e], out, end + 1);
+                end = wrap(tag, out, end, after - (end + 1));
+                i = e;
+            }
+        }
+    }
+    end
+}
+
+// The answer where the message is refused, or there is no room.
+pub(crate) fn refused(number: u64, place: u64) -> Shortened
+    ensures { λ r. ⌜ r ≡ refusal number place ⌝ }
+{
+    Shortened {
+        refusal: number,
+        place,
+        length: 0,
+    }
+}
+
+// Writes the shortest octets that read the same as a message at the front of a second buffer and answers their length, under an index,
+// whatever it is. The calls give it only the index of a table that the loader can give.
+pub(crate) fn shorten_under(
+    cells: &[u32; 128],
+    number: u64,
+    message: &[u8],
+    out: &mut [u8],
+) -> Shortened
+    ensures { λ r. ⌜ r ≡ answerUnder (indexed (now (cells .entry))) number (now (message .entry)) (now (out .entry)) ⌝ }
+    ensures { λ r. ⌜ now (out .exit) ≡ bufferUnder (indexed (now (cells .entry))) number (now (message .entry)) (now (out .entry)) ⌝ }
+{
+    let c = traversal::check_under(cells, number, message);
+    if c.refusal != 0 {
+        return refused(c.refusal, c.place);
+    }
+    if !sizes::has_room(cells, number, message, out.len()) {
+        return refused(9, 0);
+    }
+    let end = write(cells, number, 8, message, out, 0);
+    Shortened {
+        refusal: 0,
+        place: 0,
+        length: end as u64,
+    }
+}

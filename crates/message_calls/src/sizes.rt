@@ -1,0 +1,107 @@
+// How many octets the shortest form of a message takes.
+use hproto_field::Holds;
+use hproto_table::Meaning;
+ghost use mathlib.Core.Path.{_≡_};
+ghost use Prim.Native.Nat.{_≤_};
+ghost use lib.ListN.{length};
+ghost use Rattle.reading.specs.Reading.{messageLimit};
+ghost use Rattle.octets.specs.Number.{Octets, number as number-of, leastUint};
+ghost use Rattle.octets.specs.Signed.{integer, leastInt};
+ghost use Rattle.table_index.specs.internal.Cells.{indexed};
+ghost use Rattle.hproto_message.specs.Cut.{Contents};
+ghost use Rattle.hproto_message.specs.internal.Accepts.{Accepts};
+ghost use Rattle.hproto_message.specs.Tree.{value};
+ghost use Rattle.hproto_message.specs.Shortest.{field, leastContents};
+ghost use lib.Dec.{leb};
+ghost use Rattle.message_calls.specs.internal.Stores.{short};
+
+fn uint_size(s: &[u8]) -> usize
+    requires { ⌜ length (now s) ≤ 8 ⌝ }
+    ensures { λ r. ⌜ r ≡ length (leastUint (number-of (now (s .entry)))) ⌝ }
+{
+    if 8 < s.len() {
+        return 0;
+    }
+    let v = octets_read::uint(s);
+    octets_least::uint_least(v).width as usize
+}
+
+fn int_size(s: &[u8]) -> usize
+    requires { ⌜ length (now s) ≤ 8 ⌝ }
+    ensures { λ r. ⌜ r ≡ length (leastInt (integer (now (s .entry)))) ⌝ }
+{
+    if 8 < s.len() {
+        return 0;
+    }
+    let v = octets_read::int(s);
+    octets_least::int_least(v).width as usize
+}
+
+// How many octets the least contents take.
+fn least_size(kind: Meaning, s: &[u8]) -> usize
+    requires { ⌜ Contents kind (now s) ⌝ }
+    ensures { λ r. ⌜ r ≡ length (leastContents (value kind (now (s .entry)))) ⌝ }
+{
+    match kind {
+        Meaning::Raw => s.len(),
+        Meaning::Uint => uint_size(s),
+        Meaning::Int => int_size(s),
+        Meaning::String => s.len(),
+        Meaning::Text => s.len(),
+        Meaning::Message(_) => 0,
+    }
+}
+
+// How many octets a field that is no message takes in its least form.
+fn value_size(kind: Meaning, tag: u16, s: &[u8]) -> usize
+    requires { ⌜ Contents kind (now s) ⌝ }
+    requires { ⌜ length (now s) ≤ messageLimit ⌝ }
+    ensures { λ r. ⌜ r ≡ length (field tag (leastContents (value kind (now (s .entry))))) ⌝ }
+{
+    let n = least_size(kind, s);
+    hproto_put::control_size(tag, n as u64) + n
+}
+
+// How many octets the shortest form of an accepted message takes.
+fn measure(cells: &[u32; 128], number: u64, levels: u64, s: &[u8]) -> usize
+    requires { ⌜ length (now s) ≤ messageLimit ⌝ }
+    requires { ⌜ Octets (now s) ⌝ }
+    requires { ⌜ Accepts (indexed (now cells)) levels number (now s) ⌝ }
+    ensures { λ r. ⌜ r ≡ length (short (indexed (now (cells .entry))) levels number (now (s .entry))) ⌝ }
+{
+    let mut i: usize = 0;
+    let mut size: usize = 0;
+    while i < s.len() {
+        let f = hproto_field::field_in(cells, number, &s[i..]);
+        let kind = f.kind;
+        let a = i + f.control;
+        let e = a + f.contents;
+        let tag = (f.tag % 65536) as u16;
+        match hproto_field::held(kind) {
+            Holds::None => {
+                size = size + value_size(kind, tag, &s[a..e]);
+                i = e;
+            }
+            Holds::Number(m) => {
+                let n = measure(cells, m, levels - 1, &s[a..e]);
+                size = size + (hproto_put::control_size(tag, n as u64) + n);
+                i = e;
+            }
+        }
+    }
+    size
+}
+
+// Whether the shortest form of an accepted message takes at most `len` octets. It is no longer than the message, so only a smaller
+// buffer needs it measured.
+pub(crate) fn has_room(cells: &[u32; 128], number: u64, message: &[u8], len: usize) -> bool
+    requires { ⌜ length (now message) ≤ messageLimit ⌝ }
+    requires { ⌜ Octets (now message) ⌝ }
+    requires { ⌜ Accepts (indexed (now cells)) 8 number (now message) ⌝ }
+    ensures { λ r. ⌜ r ≡ leb (length (short (indexed (now (cells .entry))) 8 number (now (message .entry)))) len ⌝ }
+{
+    if message.len() <= len {
+        return true;
+    }
+    measure(cells, number, 8, message) <= len
+}

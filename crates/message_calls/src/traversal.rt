@@ -1,0 +1,64 @@
+// The traversal of a message: its refusal, or the count of its fields and the depth of its deepest message.
+use hproto_message::Step;
+use reading::Checked;
+use reading::Walk;
+ghost use mathlib.Core.Path.{_≡_};
+ghost use Prim.Native.Nat.{_+_, _≤_};
+ghost use lib.ListN.{length};
+ghost use Rattle.reading.specs.Reading.{messageLimit};
+ghost use Rattle.table_index.specs.internal.Cells.{indexed};
+ghost use Rattle.hproto_message.specs.Reading.{messageFrom};
+ghost use Rattle.message_calls.specs.Check.{checkUnder};
+ghost use Rattle.message_calls.specs.internal.Walks.{walk as walk-of};
+
+// A message of number `n` whose octets start at a place, in the field that starts at `from`. `levels` is how many messages deep it may
+// be, itself counted; a nested message has one less.
+fn nested(cells: &[u32; 128], n: u64, levels: u64, from: u64, at: u64, s: &[u8]) -> Walk
+    requires { ⌜ at + length (now s) ≤ messageLimit ⌝ }
+    requires { ⌜ levels ≤ 8 ⌝ }
+    ensures { λ r. ⌜ r ≡ walk-of (messageFrom (indexed (now (cells .entry))) levels n from at (now (s .entry))) ⌝ }
+{
+    if levels == 0 {
+        return Walk::Refused(5, from);
+    }
+    let mut i: usize = 0;
+    let mut fields: u64 = 0;
+    let mut depth: u64 = 1;
+    loop {
+        match hproto_field::step(cells, n, &s[i..]) {
+            Step::Done => return Walk::Accepted(fields, depth),
+            Step::Fault(k) => return Walk::Refused(k, at + (i as u64)),
+            Step::Over(control, contents) => {
+                i = i + control + contents;
+                fields = fields + 1;
+            }
+            Step::Into(m, control, contents) => {
+                let a = i + control;
+                let e = a + contents;
+                let here = at + (i as u64);
+                let inside = at + (a as u64);
+                match nested(cells, m, levels - 1, here, inside, &s[a..e]) {
+                    Walk::Accepted(f, d) => {
+                        i = e;
+                        fields = fields + (1 + f);
+                        depth = numbers::larger(depth, d + 1);
+                    }
+                    Walk::Refused(k, p) => return Walk::Refused(k, p),
+                }
+            }
+        }
+    }
+}
+
+// The check under an index, whatever it is. The calls give it only the index of a table that the loader can give.
+pub(crate) fn check_under(cells: &[u32; 128], number: u64, message: &[u8]) -> Checked
+    ensures { λ r. ⌜ r ≡ checkUnder (indexed (now (cells .entry))) number (now (message .entry)) ⌝ }
+{
+    if 65536 < message.len() {
+        return reading::refused(1, 0);
+    }
+    if 15 < number {
+        return reading::refused(2, 0);
+    }
+    reading::answer(nested(cells, number, 8, 0, 0, message))
+}
