@@ -1,5 +1,5 @@
--- Demand 3 of the order holds of the calls that take a field table as its octets: `checkOctets` is what the contract of hproto_calls::check
--- says it answers, `shortenOctets` and `shortenBuffer` what that of hproto_calls::shorten says. Demand3.antt of hproto_shorten states it.
+-- Demand 3 of the order holds of the calls that take a field table as its octets: `checkOctets` is what the contract of message_calls::check
+-- says it answers, `shortenOctets` and `shortenBuffer` what that of message_calls::shorten says. specs/Demand3.antt states it.
 use Prim.Native.Nat.{ℕ, _≤_}
 use mathlib.Core.Path.{_≡_, refl, sym, ap, _∙_}
 use mathlib.Core.Bool.{Bool, true, false, cond}

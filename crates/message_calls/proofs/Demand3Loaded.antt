@@ -1,4 +1,4 @@
--- Demand 3 of the order holds of the calls that take a table value. hproto_calls has it of those that take a table's octets.
+-- Demand 3 of the order holds of the calls that take a table value. Demand3.antt has it of those that take a table's octets.
 use Prim.Native.Nat.{ℕ, _+_, _≤_, _<_}
 use native.Mathlib.Omega.{arith}
 use mathlib.Core.Path.{_≡_, refl, sym, ap, _∙_, subst}

@@ -1,6 +1,6 @@
 -- Demand 1 of the order, its part about hproto messages: every message is either accepted with its counts, or refused with its first fault;
 -- never both, never neither; and every bad input before that is refused. It is stated of any function that says what a check answers by a
--- table's octets, a message number and a message; the law `demand-1` shows it of `checkOctets`, which the contract of hproto_calls::check
+-- table's octets, a message number and a message; the law `demand-1` shows it of `checkOctets`, which the contract of message_calls::check
 -- names. How that is computed need not be read.
 use Prim.Native.Nat.{ℕ, _≤_, _<_}
 use mathlib.Core.Path.{_≡_}

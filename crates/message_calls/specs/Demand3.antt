@@ -1,5 +1,5 @@
 -- Demand 3 of the order, of a check and a shortener. It is stated of any functions that say what the calls answer: the check's answer, the
--- shortener's, and the second buffer afterwards. The contracts of the calls name these functions, and the law `demand-3` of hproto_calls
+-- shortener's, and the second buffer afterwards. The contracts of the calls name these functions, and the law `demand-3` of this crate
 -- shows the demand of them: how they are computed need not be read.
 use Prim.Native.Nat.{ℕ, _≤_, _<_}
 use mathlib.Core.Path.{_≡_}

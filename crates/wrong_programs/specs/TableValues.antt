@@ -27,7 +27,7 @@ fits x = kinds.table (x .table) && (word (x .number) && octets (x .message) && w
 abbrev pub ValueCall : Type 0
 ValueCall = Given fits
 
--- The contracts of hproto_check::check, hproto_lookup::lookup and lookup_last, and hproto_shorten::shorten.
+-- The contracts of check_loaded, lookup_loaded, lookup_last_loaded and shorten_loaded of message_calls.
 unfoldable pub check : ValueCall → Checked
 check x = checks.check (x .value .table) (x .value .number) (x .value .message)
 

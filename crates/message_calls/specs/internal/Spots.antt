@@ -1,5 +1,5 @@
 -- The walk over the outermost fields by their control parts alone, and what contents say by a kind's number. proofs/Outers.antt and
--- proofs/Answers.antt show that in an accepted message these are the places and the values of Lookup.antt.
+-- proofs/LookupAnswers.antt show that in an accepted message these are the places and the values of Lookup.antt.
 use Prim.Native.Nat.{ℕ, zero, suc, _+_}
 use mathlib.Core.Bool.{cond}
 use mathlib.Core.List.{List, [], _∷_}
