@@ -8,8 +8,8 @@ use Rattle.hproto_print.proofs.Messages.{message-refused, message-valid
 use Rattle.hproto_print.proofs.message.Statement.{statement}
 use Rattle.hproto_print.proofs.message.Tie as tie
 
-check-requires : tie.Need-check-requires
-check-requires c κs = search needs
+check-loaded-requires : tie.Need-check-loaded-requires
+check-loaded-requires c κs = search needs
 
 refusal-requires : tie.Need-refusal-requires
 refusal-requires c κs = search needs
@@ -20,7 +20,7 @@ same-length c = search needs
 returns : tie.Need-returns
 returns c =
     let a = c .before .before .before .before .before .before .before .before .before .args in
-    let k = c .before .before .before .before .before .before .check in
+    let k = c .before .before .before .before .before .before .check-loaded in
     same-window (now (a .out)) (a .from) (message-refused (a .t1) (now (a .s)) (k .result) (k .ensures) (c .before .before .before .before .if1 .taken)) (c .before .before .refusal .ensures)
 
 first-requires : tie.Need-first-requires
@@ -32,7 +32,7 @@ index-words-requires c κs = search needs
 page-requires : tie.Need-page-requires
 page-requires c κs =
     let a = c .before .before .before .before .before .before .before .before .before .before .before .before .before .args in
-    let k = c .before .before .before .before .before .before .before .before .before .before .check in
+    let k = c .before .before .before .before .before .before .before .before .before .before .check-loaded in
     let z = c .before .before .before .before .before .before .before .before .if1 .left in
     let x = c .before .before .index-words in
     let f = c .before .before .before .before .first in
@@ -45,7 +45,7 @@ same-length-2 c = search needs
 returns-2 : tie.Need-returns-2
 returns-2 c =
     let a = c .before .before .before .before .before .before .before .before .before .before .before .before .before .before .before .before .args in
-    let k = c .before .before .before .before .before .before .before .before .before .before .before .before .before .check in
+    let k = c .before .before .before .before .before .before .before .before .before .before .before .before .before .check-loaded in
     let z = c .before .before .before .before .before .before .before .before .before .before .before .if1 .left in
     let x = c .before .before .before .before .before .index-words in
     let f = c .before .before .before .before .before .before .before .first in
@@ -56,7 +56,7 @@ pub message-spec : {M : Type 1} → statement M
 message-spec =
     tie.close
     (tie.spec
-    check-requires
+    check-loaded-requires
     refusal-requires
     same-length
     returns
