@@ -1,4 +1,4 @@
--- `check` refuses a table that no loader gives, and reads under the index of any other.
+-- `check_loaded` refuses a table that no loader gives, and reads under the index of any other.
 use mathlib.Core.Path.{sym, _∙_}
 use borrow.Author.Tests.{not-true, not-false}
 use Rattle.table_index.proofs.Loaded.{table-schema}

@@ -1,4 +1,4 @@
--- `shorten` refuses a table that no loader gives, and shortens under the index of any other.
+-- `shorten_loaded` refuses a table that no loader gives, and shortens under the index of any other.
 use native.Mathlib.Omega.{arith}
 use mathlib.Core.Path.{sym, _∙_}
 use denote.Ref.{now}
