@@ -1,14 +1,13 @@
--- The state of the walk through the fields of one message, and what each turn of its loop does to it.
+-- The loop invariant of the traversal of one message's fields, and what each turn of the loop does to it.
 use Prim.Native.Nat.{ℕ, zero, suc, _+_, _-_, _≤_, _<_, max}
 use native.Mathlib.Nat.{add-zero}
 use native.Mathlib.Omega.{arith}
-use mathlib.Core.Path.{_≡_, refl, sym, ap, ap₂, _∙_, subst}
+use mathlib.Core.Path.{_≡_, refl, sym, ap, _∙_, subst}
 use mathlib.Core.List.{List}
 use lib.ListN.{length, take, drop, length-append, length-drop}
 use lib.Seq.{drop-drop, length-take-le}
 use Rattle.hproto_table.specs.Schema.{Schema}
 use Rattle.hproto_message.specs.Cut.{Cut, end, leaf, nested, depth, joined, Allowed}
-use Rattle.hproto_message.specs.declared.Step.{Step}
 use Rattle.hproto_message.specs.declared.Step.the-variants.{Done, Fault, Over, Into}
 use Rattle.reading.specs.Reading.{Reading, accepted, refused}
 use Rattle.hproto_message.specs.Reading.{Inner, step, tagAt, afterStep, fieldsFrom, messageFrom}
@@ -19,8 +18,8 @@ use Rattle.message_calls.specs.internal.Walks.{fields, walk}
 use Rattle.reading.specs.declared.Walk.{Walk}
 use Rattle.reading.specs.declared.Walk.the-variants.{Accepted, Refused}
 use Rattle.reading.specs.internal.Walks.{walkOf}
-use Rattle.reading.proofs.Adding.{after, after-after, after-none}
-use Rattle.message_calls.proofs.Adding.{walk-leaf, walk-nested, walk-refused}
+use Rattle.reading.proofs.Traversal as traversal
+use Rattle.reading.proofs.Traversal.{Traversal}
 
 -- The sizes that a step names lie within the octets.
 pub step-inside : (sc : Schema) (n : ℕ) (s : List ℕ) (k l : ℕ) → step sc n s ≡ Over k l → (1 ≤ k) × (k + l ≤ length s)
@@ -33,149 +32,70 @@ step-inside-nested sc n s m k l e = let h = subst (StepMeans sc n s) e (step-mea
 
 module _ (sc : Schema) (inner : Inner) (n at : ℕ) (s : List ℕ) where
   abbrev pub whole : Walk
-  whole = walk (fieldsFrom sc inner n (suc (length s)) at s)
+  whole = traversal.whole fields depth (fieldsFrom sc inner n) at 0 s
 
-  -- After i octets, with f fields so far of depth d: what the rest comes to decides.
-  pub record State (i f d : ℕ) : Type 0 where
-    pub left : ℕ
-    pub inside : i ≤ length s
-    pub enough : length s < i + left
-    pub few : f ≤ i
-    pub deep : 1 ≤ d
-    pub same : whole ≡ after f d (walk (fieldsFrom sc inner n left (at + i) (drop i s)))
+  -- After i octets, with f fields so far of depth d.
+  abbrev pub State : ℕ → ℕ → ℕ → Type 0
+  State = Traversal fields depth (fieldsFrom sc inner n) at 0 s
 
   pub start : State 0 0 1
-  start =
-      record {
-        left = suc (length s);
-        inside = omega arith;
-        enough = omega arith;
-        few = omega arith;
-        deep = omega arith;
-        same = rw (add-zero at) (sym (after-none fields depth depth-positive (fieldsFrom sc inner n (suc (length s)) at s)));
-      }
+  start = traversal.start fields depth (fieldsFrom sc inner n) at 0 s depth-positive (omega arith)
 
   module _ (i f d : ℕ) (now : State i f d) where
-    -- One more look is left, and it is a step.
-    looks : whole ≡ after f d (walk (afterStep inner (fieldsFrom sc inner n (now .left - 1)) (at + i) (drop i s) (step sc n (drop i s))))
-    unfolding fieldsFrom
-    looks = go (now .left) (now .enough) (now .same)
-      where
-        go : (left : ℕ) → length s < i + left → whole ≡ after f d (walk (fieldsFrom sc inner n left (at + i) (drop i s)))
-            → whole ≡ after f d (walk (afterStep inner (fieldsFrom sc inner n (left - 1)) (at + i) (drop i s) (step sc n (drop i s))))
-        go zero h e = let k = now .inside in absurd (omega arith)
-        go (suc left) h e = let k : suc left - 1 ≡ left = omega arith in rw k e
+    pub at-end : step sc n (drop i s) ≡ Done → Accepted f d ≡ whole
+    unfolding fieldsFrom afterStep fields depth
+    at-end e = traversal.at-end fields depth (fieldsFrom sc inner n) at 0 s i f d now end refl refl (rw e)
 
-    pub at-end : step sc n (drop i s) ≡ Done → whole ≡ Accepted f d
-    unfolding afterStep walkOf after fields depth
-    at-end e = let h = now .deep in looks ∙ rw e (ap₂ Accepted (omega arith) (omega arith))
+    pub at-fault : (k : ℕ) → step sc n (drop i s) ≡ Fault k → Refused k (at + i) ≡ whole
+    unfolding fieldsFrom afterStep
+    at-fault k e = traversal.at-fault fields depth (fieldsFrom sc inner n) at 0 s i f d now k (at + i) (rw e)
 
-    pub at-fault : (k : ℕ) → step sc n (drop i s) ≡ Fault k → whole ≡ Refused k (at + i)
-    unfolding afterStep walkOf after
-    at-fault k e = looks ∙ rw e
+    -- The end of a field lies within the octets, and beyond its start.
+    ends : (k l : ℕ) → (1 ≤ k) × (k + l ≤ length (drop i s)) → (i < i + k + l) × (i + k + l ≤ length s)
+    ends k l h =
+        let p = h .0 in
+        traversal.forward fields depth (fieldsFrom sc inner n) at 0 s i f d now (k + l) (i + k + l) (omega arith) (h .1) (omega arith)
 
-    -- The place and the octets after a step, counted from the message's start.
-    moved : (k l left : ℕ) → fieldsFrom sc inner n left (at + i + k + l) (drop (k + l) (drop i s)) ≡ fieldsFrom sc inner n left (at + (i + k + l)) (drop (i + k + l) s)
-    moved k l left =
-        let p : at + i + k + l ≡ at + (i + k + l) = omega arith in
-        let q : i + (k + l) ≡ i + k + l = omega arith in
-        rw (p, drop-drop (k + l) i s, q)
+    pub leaf-ends : (k l : ℕ) → step sc n (drop i s) ≡ Over k l → (i < i + k + l) × (i + k + l ≤ length s)
+    leaf-ends k l e = ends k l (step-inside sc n (drop i s) k l e)
 
-    -- A step over k + l octets adds g fields of depth e to the state.
-    stepped : (k l g e : ℕ) → 1 ≤ k → k + l ≤ length (drop i s) → g ≤ k + l
-        → whole ≡ after f d (after g e (walk (fieldsFrom sc inner n (now .left - 1) (at + i + k + l) (drop (k + l) (drop i s)))))
-        → State (i + k + l) (f + g) (max d e)
-    stepped k l g e p q b same =
-        let r = length-drop i s in
-        let u = now .enough in
-        let v = now .few in
-        let w = now .inside in
-        let x = now .deep in
-        record {
-          left = now .left - 1;
-          inside = omega arith;
-          enough = omega arith;
-          few = omega arith;
-          deep = omega arith;
-          same =
-              same
-              ∙ after-after f d g e (walk (fieldsFrom sc inner n (now .left - 1) (at + i + k + l) (drop (k + l) (drop i s))))
-              ∙ ap (λ (r : Reading Cut). after (f + g) (max d e) (walk r)) (moved k l (now .left - 1));
-        }
+    pub nested-ends : (m k l : ℕ) → step sc n (drop i s) ≡ Into m k l → (i < i + k + l) × (i + k + l ≤ length s)
+    nested-ends m k l e = ends k l (step-inside-nested sc n (drop i s) m k l e)
 
     pub over-leaf : (k l : ℕ) → step sc n (drop i s) ≡ Over k l → State (i + k + l) (f + 1) d
-    unfolding afterStep
+    unfolding fieldsFrom afterStep fields depth
     over-leaf k l e =
         let h = step-inside sc n (drop i s) k l e in
         let p = h .0 in
-        let m : max d 0 ≡ d = omega arith in
-        let c = take k (drop i s) in
-        let b = take l (drop k (drop i s)) in
-        let r = fieldsFrom sc inner n (now .left - 1) (at + i + k + l) (drop (k + l) (drop i s)) in
-        subst (State (i + k + l) (f + 1)) m
-        (stepped k l 1 0 p (h .1) (omega arith) (looks ∙ rw (e, walk-leaf (tagAt (drop i s)) c b r)))
+        traversal.over fields depth (fieldsFrom sc inner n) at 0 s i f d now (k + l) (i + k + l) (omega arith) (h .1) (omega arith)
+        (at + i + k + l) (omega arith) (leaf (tagAt (drop i s)) (take k (drop i s)) (take l (drop k (drop i s)))) (λ x. refl) (λ x. refl) (rw e)
 
-    over-nested : (m k l g e : ℕ) → step sc n (drop i s) ≡ Into m k l
-        → walk (inner m (at + i) (at + i + k) (take l (drop k (drop i s)))) ≡ Accepted g e → g ≤ l
-        → State (i + k + l) (f + (1 + g)) (max d (suc e))
-    unfolding afterStep
-    over-nested m k l g e h w b =
-        let j = step-inside-nested sc n (drop i s) m k l h in
-        let p = j .0 in
-        let c = take k (drop i s) in
-        let q = inner m (at + i) (at + i + k) (take l (drop k (drop i s))) in
-        let r = fieldsFrom sc inner n (now .left - 1) (at + i + k + l) (drop (k + l) (drop i s)) in
-        stepped k l (1 + g) (suc e) p (j .1) (omega arith) (looks ∙ rw (h, walk-nested (tagAt (drop i s)) c q g e r w))
+    -- A field that holds a message, whose octets and offset are counted from the start of the message around it.
+    module _ (m k l : ℕ) (r : Walk) (h : step sc n (drop i s) ≡ Into m k l)
+        (w : r ≡ walk (inner m (at + i) (at + (i + k)) (take (i + k + l - (i + k)) (drop (i + k) s)))) where
+      abbrev message-held : Reading Cut
+      message-held = inner m (at + i) (at + i + k) (take l (drop k (drop i s)))
 
-    refused-nested : (m k l number place : ℕ) → step sc n (drop i s) ≡ Into m k l
-        → walk (inner m (at + i) (at + i + k) (take l (drop k (drop i s)))) ≡ Refused number place → whole ≡ Refused number place
-    unfolding afterStep after
-    refused-nested m k l number place h w =
-        let c = take k (drop i s) in
-        let q = inner m (at + i) (at + i + k) (take l (drop k (drop i s))) in
-        let r = fieldsFrom sc inner n (now .left - 1) (at + i + k + l) (drop (k + l) (drop i s)) in
-        looks ∙ rw (h, walk-refused (tagAt (drop i s)) c q number place r w)
+      nested-octets : r ≡ walk message-held
+      nested-octets =
+          let p : at + i + k ≡ at + (i + k) = omega arith in
+          let q : i + k + l - (i + k) ≡ l = omega arith in
+          w ∙ rw (p, q, drop-drop k i s)
 
-    -- The end of the field that a step finds lies within the octets, and beyond its start.
-    pub leaf-ends : (k l : ℕ) → step sc n (drop i s) ≡ Over k l → (i < i + k + l) × (i + k + l ≤ length s)
-    leaf-ends k l e =
-        let h = step-inside sc n (drop i s) k l e in
-        let p = h .0 in
-        let q = h .1 in
-        let r = length-drop i s in
-        let w = now .inside in
-        (omega arith, omega arith)
+      pub nested-turn : (g e c : ℕ) → r ≡ Accepted g e → g ≤ l → c ≡ max d (e + 1) → State (i + k + l) (f + (1 + g)) c
+      unfolding fieldsFrom afterStep fields depth
+      nested-turn g e c a b x =
+          let j = step-inside-nested sc n (drop i s) m k l h in
+          let p = j .0 in
+          traversal.into fields depth (fieldsFrom sc inner n) at 0 s i f d now (k + l) (i + k + l) (omega arith) (j .1) (omega arith)
+          (at + i + k + l) (omega arith) (nested (tagAt (drop i s)) (take k (drop i s))) (λ x y. refl) (λ x y. refl) message-held r g e c
+          (rw h) nested-octets a (omega arith) x
 
-    pub nested-ends : (m k l : ℕ) → step sc n (drop i s) ≡ Into m k l → (i < i + k + l) × (i + k + l ≤ length s)
-    nested-ends m k l e =
-        let h = step-inside-nested sc n (drop i s) m k l e in
-        let p = h .0 in
-        let q = h .1 in
-        let r = length-drop i s in
-        let w = now .inside in
-        (omega arith, omega arith)
-
-    -- A nested message's octets and place, counted from the start of the message around it.
-    nested-octets : (m k l : ℕ)
-        → inner m (at + i) (at + (i + k)) (take (i + k + l - (i + k)) (drop (i + k) s)) ≡ inner m (at + i) (at + i + k) (take l (drop k (drop i s)))
-    nested-octets m k l =
-        let p : at + (i + k) ≡ at + i + k = omega arith in
-        let q : i + k + l - (i + k) ≡ l = omega arith in
-        rw (p, q, drop-drop k i s)
-
-    pub nested-turn : (m k l g e c : ℕ) (r : Walk) → step sc n (drop i s) ≡ Into m k l
-        → r ≡ walk (inner m (at + i) (at + (i + k)) (take (i + k + l - (i + k)) (drop (i + k) s))) → r ≡ Accepted g e → g ≤ l
-        → c ≡ max d (e + 1) → State (i + k + l) (f + (1 + g)) c
-    nested-turn m k l g e c r h w a b x =
-        let y : max d (suc e) ≡ c = sym (x ∙ omega arith) in
-        subst (State (i + k + l) (f + (1 + g))) y
-        (over-nested m k l g e h (ap walk (sym (nested-octets m k l)) ∙ sym w ∙ a) b)
-
-    pub nested-refusal : (m k l number place : ℕ) (r : Walk) → step sc n (drop i s) ≡ Into m k l
-        → r ≡ walk (inner m (at + i) (at + (i + k)) (take (i + k + l - (i + k)) (drop (i + k) s))) → r ≡ Refused number place
-        → whole ≡ Refused number place
-    nested-refusal m k l number place r h w a =
-        refused-nested m k l number place h (ap walk (sym (nested-octets m k l)) ∙ sym w ∙ a)
+      pub nested-refusal : (number place : ℕ) → r ≡ Refused number place → Refused number place ≡ whole
+      unfolding fieldsFrom afterStep
+      nested-refusal number place a =
+          traversal.at-nested-fault fields depth (fieldsFrom sc inner n) at 0 s i f d now (nested (tagAt (drop i s)) (take k (drop i s))) message-held
+          (fieldsFrom sc inner n (now .fuel - 1) (at + i + k + l) (drop (k + l) (drop i s))) r number place (rw h) nested-octets a
 
 -- A message has no more fields than octets.
 fields-few : (sc : Schema) (cut : Cut) (n : ℕ) → Allowed sc n cut → fields cut ≤ length (joined cut)
@@ -210,10 +130,10 @@ counts-small sc levels n field at s f d e = go (messageFrom sc levels n field at
 
 -- A message that may be one deep or more is the fields of one message.
 pub room-open : (sc : Schema) (levels n field at : ℕ) (s : List ℕ) → 1 ≤ levels
-    → messageFrom sc levels n field at s ≡ fieldsFrom sc (messageFrom sc (levels - 1)) n (suc (length s)) at s
+    → whole sc (messageFrom sc (levels - 1)) n at s ≡ walk (messageFrom sc levels n field at s)
 unfolding messageFrom
 room-open sc zero n field at s h = absurd (omega arith)
-room-open sc (suc levels) n field at s h = let k : suc levels - 1 ≡ levels = omega arith in rw k
+room-open sc (suc levels) n field at s h = let k : suc levels - 1 ≡ levels = omega arith in rw (k, add-zero at)
 
 -- A nested message's counts are small against its contents and the levels.
 pub nested-small : (sc : Schema) (levels n field at i k l : ℕ) (s : List ℕ) (f d : ℕ) (r : Walk) → i + k + l ≤ length s

@@ -1,2 +1,3 @@
 pub mod Checks
 pub mod Adding
+pub mod Traversal

@@ -10,5 +10,4 @@ pub mod Fronts
 pub mod Fields
 pub mod Kths
 pub mod Answers
-pub mod Turns
 pub mod WrongNames

@@ -1,5 +1,4 @@
 pub mod Headers
-pub mod Adding
 pub mod Turns
 pub mod Kths
 pub mod Places

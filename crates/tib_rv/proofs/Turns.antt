@@ -1,9 +1,9 @@
--- The state of the walk through the fields of one message, and what each turn of its loop does to it.
+-- The loop invariant of the traversal of one message's fields, and what each turn of the loop does to it.
 use Prim.Native.Nat.{ℕ, zero, suc, _+_, _-_, _≤_, _<_, max}
 use native.Mathlib.Omega.{arith}
-use mathlib.Core.Path.{_≡_, refl, sym, ap, ap₂, _∙_, subst}
+use mathlib.Core.Path.{_≡_, refl, ap, _∙_}
 use mathlib.Core.List.{List, _++_}
-use lib.ListN.{length, take, drop, length-append, length-drop}
+use lib.ListN.{length, take, drop, length-append}
 use lib.Seq.{drop-drop}
 use borrow.Author.Tests.{ne-eqb}
 use Rattle.tib_rv_field.specs.declared.Sizes.{Sizes}
@@ -12,18 +12,17 @@ use Rattle.reading.specs.Reading.{Reading, accepted, refused}
 use Rattle.reading.specs.internal.Walks.{walkOf}
 use Rattle.reading.specs.declared.Walk.{Walk}
 use Rattle.reading.specs.declared.Walk.the-variants.{Accepted, Refused}
-use Rattle.reading.proofs.Adding.{after, after-none}
-use Rattle.tib_field.proofs.Turns.{Walking, walking-first, looks, stepped}
+use Rattle.reading.proofs.Traversal as traversal
+use Rattle.reading.proofs.Traversal.{Traversal}
 use Rattle.tib_rv_field.specs.Layout.{Parts, octets, holder, magic, Fields, end, leaf, nested, joined, message, depth}
-use Rattle.tib_rv_field.specs.Reading.{nextField, lead, total, partsAt, Inner, afterStep, fieldsFrom, headerFault, messageFrom}
+use Rattle.tib_rv_field.specs.Reading.{nextField, lead, total, partsAt, Inner, nestedOf, afterStep, fieldsFrom, headerFault, messageFrom}
 use Rattle.tib_rv_field.specs.internal.Sizes.{sizes}
 use Rattle.tib_rv.specs.Answers.{count}
 use Rattle.tib_rv_field.proofs.Steps.{step-found, step-held, length-octets}
 use Rattle.tib_rv_field.proofs.Accepted.{accepted-good, field-size, depth-positive}
-use Rattle.tib_rv.proofs.Adding.{walk-leaf, walk-nested, walk-refused}
 
--- A field that is found lies within the octets, and takes two of them or more.
-inside-of : (f : Parts) (rest s : List ℕ) (z : Sizes) → s ≡ octets f ++ rest → sizes f ≡ z → (2 ≤ total z) × (total z ≤ length s)
+-- A field that is found lies within the octets, and takes one of them or more.
+inside-of : (f : Parts) (rest s : List ℕ) (z : Sizes) → s ≡ octets f ++ rest → sizes f ≡ z → (1 ≤ total z) × (total z ≤ length s)
 inside-of f rest s z d e =
     let l = ap length d ∙ length-append (octets f) rest in
     let m = length-octets f in
@@ -31,10 +30,10 @@ inside-of f rest s z d e =
     let h = field-size f in
     (omega arith, omega arith)
 
-pub over-inside : (s : List ℕ) (z : Sizes) → nextField s ≡ Over z → (2 ≤ total z) × (total z ≤ length s)
+pub over-inside : (s : List ℕ) (z : Sizes) → nextField s ≡ Over z → (1 ≤ total z) × (total z ≤ length s)
 over-inside s z e = let f = step-found s z e in inside-of (f .field) (f .rest) s z (f .divides) (f .sized)
 
-pub into-inside : (s : List ℕ) (z : Sizes) → nextField s ≡ Into z → (2 ≤ total z) × (total z ≤ length s)
+pub into-inside : (s : List ℕ) (z : Sizes) → nextField s ≡ Into z → (1 ≤ total z) × (total z ≤ length s)
 into-inside s z e = let f = step-held s z e in inside-of (holder (f .name) (f .octets-held)) (f .rest) s z (f .divides) (f .sized)
 
 -- The data of a field of these sizes that begins at i.
@@ -51,43 +50,28 @@ unfolding total lead
 lead-within z = (omega arith, omega arith)
 
 module _ (inner : Inner) (at : ℕ) (s : List ℕ) where
-  abbrev rest : ℕ → ℕ → Walk
-  rest left i = walkOf count depth (fieldsFrom inner left (at + i) (drop i s))
-
   abbrev pub whole : Walk
-  whole = rest (suc (length s)) 8
+  whole = traversal.whole count depth (fieldsFrom inner) at 8 s
 
-  -- After i octets, with f fields so far of depth d: what the rest comes to decides.
+  -- After i octets, with f fields so far of depth d.
   abbrev pub State : ℕ → ℕ → ℕ → Type 0
-  State i f d = Walking whole rest (length s) i f d
+  State = Traversal count depth (fieldsFrom inner) at 8 s
 
   pub start : 8 ≤ length s → State 8 0 1
-  start h =
-      walking-first whole rest (length s) 8 h
-      (sym (after-none count depth depth-positive (fieldsFrom inner (suc (length s)) (at + 8) (drop 8 s))))
+  start = traversal.start count depth (fieldsFrom inner) at 8 s depth-positive
 
   module _ (i f d : ℕ) (now : State i f d) where
-    -- One more look is left, and it is a step.
-    looked : whole ≡ after f d (walkOf count depth (afterStep inner (fieldsFrom inner (now .left - 1)) (at + i) (drop i s) (nextField (drop i s))))
-    unfolding fieldsFrom
-    looked = looks whole rest (length s) i f d now
-
     pub at-end : nextField (drop i s) ≡ Done → Accepted f d ≡ whole
-    unfolding afterStep walkOf after count depth
-    at-end e = let h = now .deep in sym (looked ∙ rw e (ap₂ Accepted (omega arith) (omega arith)))
+    unfolding fieldsFrom afterStep count depth
+    at-end e = traversal.at-end count depth (fieldsFrom inner) at 8 s i f d now end refl refl (rw e)
 
     pub at-fault : (k : ℕ) → nextField (drop i s) ≡ Fault k → Refused k (at + i) ≡ whole
-    unfolding afterStep walkOf after
-    at-fault k e = sym (looked ∙ rw e)
+    unfolding fieldsFrom afterStep
+    at-fault k e = traversal.at-fault count depth (fieldsFrom inner) at 8 s i f d now k (at + i) (rw e)
 
     -- The end of a field lies within the octets, and beyond its start.
-    fits : (z : Sizes) → (2 ≤ total z) × (total z ≤ length (drop i s)) → (i < i + total z) × (i + total z ≤ length s)
-    fits z h =
-        let p = h .0 in
-        let q = h .1 in
-        let r = length-drop i s in
-        let w = now .inside in
-        (omega arith, omega arith)
+    fits : (z : Sizes) → (1 ≤ total z) × (total z ≤ length (drop i s)) → (i < i + total z) × (i + total z ≤ length s)
+    fits z h = traversal.forward count depth (fieldsFrom inner) at 8 s i f d now (total z) (i + total z) (h .0) (h .1) refl
 
     pub over-fits : (z : Sizes) → nextField (drop i s) ≡ Over z → (i < i + total z) × (i + total z ≤ length s)
     over-fits z e = fits z (over-inside (drop i s) z e)
@@ -95,48 +79,37 @@ module _ (inner : Inner) (at : ℕ) (s : List ℕ) where
     pub into-fits : (z : Sizes) → nextField (drop i s) ≡ Into z → (i < i + total z) × (i + total z ≤ length s)
     into-fits z e = fits z (into-inside (drop i s) z e)
 
-    -- What follows a field, by its place in the octets.
-    follows : (z : Sizes) (j : ℕ) → j ≡ i + total z
-        → walkOf count depth (fieldsFrom inner (now .left - 1) (at + i + total z) (drop (total z) (drop i s))) ≡ rest (now .left - 1) j
-    follows z j place = let y : at + i + total z ≡ at + j = omega arith in rw (y, drop-drop (total z) i s, place)
-
     pub over-leaf : (z : Sizes) (j : ℕ) → nextField (drop i s) ≡ Over z → j ≡ i + total z → State j (f + 1) d
-    unfolding afterStep
+    unfolding fieldsFrom afterStep count depth
     over-leaf z j e place =
-        let p = over-inside (drop i s) z e .0 in
-        let m : max d 0 ≡ d = omega arith in
-        let r = fieldsFrom inner (now .left - 1) (at + i + total z) (drop (total z) (drop i s)) in
-        subst (State j (f + 1)) m
-        (stepped whole rest (length s) i f d now (total z) 1 0 j p (over-fits z e .1) (omega arith) place
-        (looked ∙ rw (e, walk-leaf (partsAt (drop i s) z) r, follows z j place)))
+        let h = over-inside (drop i s) z e in
+        traversal.over count depth (fieldsFrom inner) at 8 s i f d now (total z) j (h .0) (h .1) place (at + i + total z) (omega arith)
+        (leaf (partsAt (drop i s) z)) (λ x. refl) (λ x. refl) (rw e)
 
-    -- The nested message, by the part of the octets that it is.
-    inner-walk : (z : Sizes) (a e : ℕ) (w : Walk) → a ≡ i + lead z → e ≡ i + total z
-        → w ≡ walkOf count depth (inner (at + i) (at + a) (take (e - a) (drop a s)))
-        → walkOf count depth (inner (at + i) (at + i + lead z) (partsAt (drop i s) z .contents)) ≡ w
-    inner-walk z a e w p q h =
-        let y : at + i + lead z ≡ at + a = omega arith in
-        rw (y, data-part s i z, ← p, ← q) (sym h)
+    -- A field that holds a message. Its octets are those from a up to e.
+    module _ (z : Sizes) (a e : ℕ) (w : Walk) (k : nextField (drop i s) ≡ Into z) (p : a ≡ i + lead z) (q : e ≡ i + total z)
+        (o : w ≡ walkOf count depth (inner (at + i) (at + a) (take (e - a) (drop a s)))) where
+      abbrev message-held : Reading Fields
+      message-held = inner (at + i) (at + i + lead z) (partsAt (drop i s) z .contents)
 
-    pub over-nested : (z : Sizes) (a e : ℕ) (w : Walk) (g h m : ℕ) → nextField (drop i s) ≡ Into z → a ≡ i + lead z → e ≡ i + total z
-        → w ≡ walkOf count depth (inner (at + i) (at + a) (take (e - a) (drop a s))) → w ≡ Accepted g h → g ≤ e - a → m ≡ max d (h + 1)
-        → State e (f + (1 + g)) m
-    unfolding afterStep total
-    over-nested z a e w g h m k p q o v b n =
-        let x = into-inside (drop i s) z k .0 in
-        let r = fieldsFrom inner (now .left - 1) (at + i + total z) (drop (total z) (drop i s)) in
-        let c : h + 1 ≡ suc h = omega arith in
-        let l = lead-within z .0 in
-        subst (State e (f + (1 + g))) (sym (n ∙ ap (max d) c))
-        (stepped whole rest (length s) i f d now (total z) (1 + g) (suc h) e x (into-fits z k .1) (omega arith) q
-        (looked ∙ rw (k, walk-nested (partsAt (drop i s) z) (inner (at + i) (at + i + lead z) (partsAt (drop i s) z .contents)) g h r (inner-walk z a e w p q o ∙ v), follows z e q)))
+      inner-walk : w ≡ walkOf count depth message-held
+      inner-walk = let y : at + i + lead z ≡ at + a = omega arith in rw (y, data-part s i z, ← p, ← q) o
 
-    pub refused-nested : (z : Sizes) (a e : ℕ) (w : Walk) (number place : ℕ) → nextField (drop i s) ≡ Into z → a ≡ i + lead z → e ≡ i + total z
-        → w ≡ walkOf count depth (inner (at + i) (at + a) (take (e - a) (drop a s))) → w ≡ Refused number place → Refused number place ≡ whole
-    unfolding afterStep after
-    refused-nested z a e w number place k p q o v =
-        let r = fieldsFrom inner (now .left - 1) (at + i + total z) (drop (total z) (drop i s)) in
-        sym (looked ∙ rw (k, walk-refused (partsAt (drop i s) z) (inner (at + i) (at + i + lead z) (partsAt (drop i s) z .contents)) number place r (inner-walk z a e w p q o ∙ v)))
+      pub over-nested : (g h m : ℕ) → w ≡ Accepted g h → g ≤ e - a → m ≡ max d (h + 1) → State e (f + (1 + g)) m
+      unfolding fieldsFrom afterStep nestedOf count depth
+      over-nested g h m v b n =
+          let x = into-inside (drop i s) z k in
+          let l = lead-within z in
+          let l₀ = l .0 in
+          let l₁ = l .1 in
+          traversal.into count depth (fieldsFrom inner) at 8 s i f d now (total z) e (x .0) (x .1) q (at + i + total z) (omega arith)
+          (nestedOf (partsAt (drop i s) z)) (λ x y. refl) (λ x y. refl) message-held w g h m (rw k) inner-walk v (omega arith) n
+
+      pub refused-nested : (number place : ℕ) → w ≡ Refused number place → Refused number place ≡ whole
+      unfolding fieldsFrom afterStep
+      refused-nested number place v =
+          traversal.at-nested-fault count depth (fieldsFrom inner) at 8 s i f d now (nestedOf (partsAt (drop i s) z)) message-held
+          (fieldsFrom inner (now .fuel - 1) (at + i + total z) (drop (total z) (drop i s))) w number place (rw k) inner-walk v
 
 -- A message has no more fields than octets.
 held-length : (name m : List ℕ) → 1 + length m ≤ length (octets (holder name m))

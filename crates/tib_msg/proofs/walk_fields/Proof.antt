@@ -2,10 +2,11 @@
 use borrow.Author.Needs.{needs}
 use native.Mathlib.Omega.{arith}
 use Prim.Native.Nat.{_-_}
+use mathlib.Core.Path.{refl}
 use lib.ListN.{length}
 use Rattle.tib_field.proofs.Slices.{seen}
 use Rattle.tib_msg_field.specs.Reading.{nextField}
-use Rattle.tib_msg.proofs.Turns.{State, start, at-end, at-fault, fits, over-field, step-inside}
+use Rattle.tib_msg.proofs.Turns.{State, start, at-end, at-fault, forward, over-field}
 use Rattle.tib_msg.proofs.walk_fields.Statement.{statement}
 use Rattle.tib_msg.proofs.walk_fields.Tie as tie
 
@@ -47,7 +48,7 @@ enum-known-z c = search needs
 
 past-requires : tie.Need-past-requires Inv-loop μ-loop
 past-requires c κs =
-    let r = fits (c .before .before .before .before .before .before .before .args .s .now) (c .before .before .before .before .before .loop .i) (c .before .before .before .before .before .loop .fields) (c .before .before .before .before .before .loop .inv) _ (seen nextField (c .before .before .before .before .before .before .before .args .s .now) (c .before .before .before .before .before .loop .i) _ _ (c .before .before .before .next-field .ensures) (c .before .z .given .1)) in
+    let r = forward (c .before .before .before .before .before .before .before .args .s .now) (c .before .before .before .before .before .loop .i) (c .before .before .before .before .before .loop .fields) (c .before .before .before .before .before .loop .inv) _ _ (seen nextField (c .before .before .before .before .before .before .before .args .s .now) (c .before .before .before .before .before .loop .i) _ _ (c .before .before .before .next-field .ensures) (c .before .z .given .1)) refl .1 in
     omega arith
 
 add-fields : tie.Need-add-fields Inv-loop μ-loop
@@ -56,9 +57,9 @@ add-fields c = omega arith
 loop-less : tie.Need-loop-less Inv-loop μ-loop
 loop-less c =
     let e = seen nextField (c .before .before .before .before .before .before .before .before .args .s .now) (c .before .before .before .before .before .before .loop .i) _ _ (c .before .before .before .before .next-field .ensures) (c .before .before .z .given .1) in
-    let r = fits (c .before .before .before .before .before .before .before .before .args .s .now) (c .before .before .before .before .before .before .loop .i) (c .before .before .before .before .before .before .loop .fields) (c .before .before .before .before .before .before .loop .inv) _ e in
-    let t = step-inside _ _ e .0 in
-    let n = c .past .ensures in
+    let r = forward (c .before .before .before .before .before .before .before .before .args .s .now) (c .before .before .before .before .before .before .loop .i) (c .before .before .before .before .before .before .loop .fields) (c .before .before .before .before .before .before .loop .inv) _ _ e (c .past .ensures) in
+    let p = r .0 in
+    let q = r .1 in
     omega arith
 
 loop-again : tie.Need-loop-again Inv-loop μ-loop

@@ -323,8 +323,8 @@ message-returns-5 t c =
     let w = c .before .before .number .given in
     let m = c .before .before .before .before .message in
     c .refused4 .ensures
-    ∙ refused-nested (messageFrom (args t b .levels - 1)) (args t b .at) (octets t b) (i t b) (fields t b) (depth t b) (state t b) (z t d) (from t d) (end t d) (m .result) (w .0 .0) (w .0 .1 .0) (step-is t b _ (into t d)) (d .before .data-at .ensures) (d .past2 .ensures)
-    (m .ensures) (w .1)
+    ∙ refused-nested (messageFrom (args t b .levels - 1)) (args t b .at) (octets t b) (i t b) (fields t b) (depth t b) (state t b) (z t d) (from t d) (end t d) (m .result) (step-is t b _ (into t d)) (d .before .data-at .ensures) (d .past2 .ensures)
+    (m .ensures) (w .0 .0) (w .0 .1 .0) (w .1)
     ∙ opened t b
 
 message-enum-known-f : (t : ℕ) → message-lts.Need-enum-known-f (claims t) (message-at t) message.Post message-Inv-loop message-μ-loop
@@ -378,8 +378,8 @@ message-loop-again-2 t c =
     let m = n .before .before .before .message in (
       levels-left t b,
       b .before .before .loop .inv .1,
-      over-nested (messageFrom (args t b .levels - 1)) (args t b .at) (octets t b) (i t b) (fields t b) (depth t b) (state t b) (z t d) (from t d) (end t d) (m .result) (w .0 .0) (w .0 .1 .0) (c .larger .result) (step-is t b _ (into t d)) (d .before .data-at .ensures)
-          (d .past2 .ensures) (m .ensures) (w .1) (inner-small t n .0) (c .larger .ensures),
+      over-nested (messageFrom (args t b .levels - 1)) (args t b .at) (octets t b) (i t b) (fields t b) (depth t b) (state t b) (z t d) (from t d) (end t d) (m .result) (step-is t b _ (into t d)) (d .before .data-at .ensures)
+          (d .past2 .ensures) (m .ensures) (w .0 .0) (w .0 .1 .0) (c .larger .result) (w .1) (inner-small t n .0) (c .larger .ensures),
     )
 
 pub +message-spec : {M : Type 1} → statement M

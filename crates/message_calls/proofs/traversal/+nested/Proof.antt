@@ -1,17 +1,17 @@
 use borrow.Author.Needs.{needs}
-use Prim.Native.Nat.{ℕ, suc, _+_, _-_, _≤_, _<_}
+use Prim.Native.Nat.{ℕ, _+_, _-_, _≤_, _<_}
 use native.Mathlib.Omega.{arith}
-use mathlib.Core.Path.{_≡_, sym, ap, _∙_}
+use mathlib.Core.Path.{_≡_, sym, _∙_}
 use mathlib.Core.List.{List}
 use lib.ListN.{length, take, drop, length-take, length-drop}
 use lib.Seq.{take-all}
 use denote.Ref.{now}
 use Rattle.hproto_table.specs.Schema.{Schema}
 use Rattle.table_index.specs.internal.Cells.{indexed}
-use Rattle.hproto_message.specs.Reading.{messageFrom, fieldsFrom, step}
+use Rattle.hproto_message.specs.Reading.{messageFrom, step}
 use Rattle.reading.specs.internal.Walks.{walkOf}
 use Rattle.message_calls.specs.internal.Walks as walks
-use Rattle.message_calls.proofs.CheckLoop.{State, start, at-end, at-fault, over-leaf, leaf-ends, nested-ends, nested-turn, nested-refusal, nested-small, room-open}
+use Rattle.message_calls.proofs.CheckLoop.{whole, State, start, at-end, at-fault, over-leaf, leaf-ends, nested-ends, nested-turn, nested-refusal, nested-small, room-open}
 use borrow.Fn.Kinds.{In}
 use borrow.Fn.PlainCycle.{Measures, is, falls, and}
 use Rattle.message_calls.proofs.traversal.nested.Reads as nested
@@ -31,6 +31,10 @@ nested-at t = and 2 nested-kinds.ps (is 2 nested-kinds.ps μ-nested t) nested.Pr
 abbrev nested-below : ℕ → In 2 nested-kinds.ps
 nested-below t = and 2 nested-kinds.ps (falls 2 nested-kinds.ps _<_ μ-nested t) nested.Pre
 
+-- What the functions that are called ask and ensure.
+abbrev claims : ℕ → nested-lts.Claims
+claims t = (step-reads.Asked, step-reads.Learnt, nested-below t, nested.Post, larger-reads.Asked, larger-reads.Learnt)
+
 abbrev nested-Inv-loop : nested-lts.InvT-loop
 nested-Inv-loop cells n levels from at s i₀ fields₀ depth₀ i fields depth =
     (1 ≤ levels) × State (indexed cells) (messageFrom (indexed cells) (levels - 1)) n at s i fields depth
@@ -40,19 +44,19 @@ nested-μ-loop cells n levels from at s i₀ fields₀ depth₀ i fields depth =
 
 -- The places in the code that the facts below speak of.
 abbrev After-step : ℕ → Type 0
-After-step t = nested-lts.After-step (step-reads.Asked, step-reads.Learnt, nested-below t, nested.Post, larger-reads.Asked, larger-reads.Learnt) (nested-at t) nested.Post nested-Inv-loop nested-μ-loop
+After-step t = nested-lts.After-step (claims t) (nested-at t) nested.Post nested-Inv-loop nested-μ-loop
 
 abbrev Over-field : ℕ → Type 0
-Over-field t = nested-lts.After-known-told2 (step-reads.Asked, step-reads.Learnt, nested-below t, nested.Post, larger-reads.Asked, larger-reads.Learnt) (nested-at t) nested.Post nested-Inv-loop nested-μ-loop
+Over-field t = nested-lts.After-known-told2 (claims t) (nested-at t) nested.Post nested-Inv-loop nested-μ-loop
 
 abbrev In-field : ℕ → Type 0
-In-field t = nested-lts.After-known-told3 (step-reads.Asked, step-reads.Learnt, nested-below t, nested.Post, larger-reads.Asked, larger-reads.Learnt) (nested-at t) nested.Post nested-Inv-loop nested-μ-loop
+In-field t = nested-lts.After-known-told3 (claims t) (nested-at t) nested.Post nested-Inv-loop nested-μ-loop
 
 abbrev After-inner : ℕ → Type 0
-After-inner t = nested-lts.After-known-told4 (step-reads.Asked, step-reads.Learnt, nested-below t, nested.Post, larger-reads.Asked, larger-reads.Learnt) (nested-at t) nested.Post nested-Inv-loop nested-μ-loop
+After-inner t = nested-lts.After-known-told4 (claims t) (nested-at t) nested.Post nested-Inv-loop nested-μ-loop
 
 module _ (t : ℕ) (c : After-step t) where
-  abbrev args : nested-lts.Args (step-reads.Asked, step-reads.Learnt, nested-below t, nested.Post, larger-reads.Asked, larger-reads.Learnt) (nested-at t) nested.Post nested-Inv-loop nested-μ-loop (c .before .before .before .before .before .κs)
+  abbrev args : nested-lts.Args (claims t) (nested-at t) nested.Post nested-Inv-loop nested-μ-loop (c .before .before .before .before .before .κs)
   args = c .before .before .before .before .before .args
 
   abbrev sc : Schema
@@ -78,9 +82,9 @@ module _ (t : ℕ) (c : After-step t) where
   step-found = let h = state .inside in c .step .ensures ∙ rw (take-all (length octets - i) (drop i octets) (simp length-drop (omega arith)))
 
   -- What the whole message comes to, in terms of its fields.
-  opened : walks.walk (messageFrom sc (args .levels) (args .n) (args .from) (args .at) octets)
-      ≡ walks.walk (fieldsFrom sc (messageFrom sc (args .levels - 1)) (args .n) (suc (length octets)) (args .at) octets)
-  opened = ap walks.walk (room-open sc (args .levels) (args .n) (args .from) (args .at) octets room-left)
+  opened : whole sc (messageFrom sc (args .levels - 1)) (args .n) (args .at) octets
+      ≡ walks.walk (messageFrom sc (args .levels) (args .n) (args .from) (args .at) octets)
+  opened = room-open sc (args .levels) (args .n) (args .from) (args .at) octets room-left
 
 -- The field that the loop goes over ends within the octets.
 over-ends : (t : ℕ) (c : Over-field t) → let b = c .before .before .before in let v = c .before .control .given .0 in
@@ -111,98 +115,98 @@ inner-small t c =
     nested-small (sc t b) (args t b .levels - 1) (v .0) (args t b .at + i t b) (args t b .at + (i t b + v .1 .0)) (i t b) (v .1 .0) (v .1 .1 .0) (octets t b)
     (w .0 .0) (w .0 .1 .0) (c .before .before .before .nested .result) (in-ends t d .1) (c .before .before .before .nested .ensures) (w .1)
 
-nested-returns : (t : ℕ) → nested-lts.Need-returns (step-reads.Asked, step-reads.Learnt, nested-below t, nested.Post, larger-reads.Asked, larger-reads.Learnt) (nested-at t) nested.Post nested-Inv-loop nested-μ-loop
+nested-returns : (t : ℕ) → nested-lts.Need-returns (claims t) (nested-at t) nested.Post nested-Inv-loop nested-μ-loop
 unfolding messageFrom walkOf
 nested-returns t c = rw (c .if1 .taken)
 
-nested-loop-holds : (t : ℕ) → nested-lts.Need-loop-holds (step-reads.Asked, step-reads.Learnt, nested-below t, nested.Post, larger-reads.Asked, larger-reads.Learnt) (nested-at t) nested.Post nested-Inv-loop nested-μ-loop
+nested-loop-holds : (t : ℕ) → nested-lts.Need-loop-holds (claims t) (nested-at t) nested.Post nested-Inv-loop nested-μ-loop
 nested-loop-holds t c =
     let a = c .before .before .args in
     let e = indexed (now (a .cells)) in
     let h = c .if1 .left in
     (omega arith, start e (messageFrom e (a .levels - 1)) (a .n) (a .at) (now (a .s)))
 
-nested-sub-step : (t : ℕ) → nested-lts.Need-sub-step (step-reads.Asked, step-reads.Learnt, nested-below t, nested.Post, larger-reads.Asked, larger-reads.Learnt) (nested-at t) nested.Post nested-Inv-loop nested-μ-loop
+nested-sub-step : (t : ℕ) → nested-lts.Need-sub-step (claims t) (nested-at t) nested.Post nested-Inv-loop nested-μ-loop
 nested-sub-step t c = search needs
 
-nested-part-step-start : (t : ℕ) → nested-lts.Need-part-step-start (step-reads.Asked, step-reads.Learnt, nested-below t, nested.Post, larger-reads.Asked, larger-reads.Learnt) (nested-at t) nested.Post nested-Inv-loop nested-μ-loop
+nested-part-step-start : (t : ℕ) → nested-lts.Need-part-step-start (claims t) (nested-at t) nested.Post nested-Inv-loop nested-μ-loop
 nested-part-step-start t c = search needs
 
-nested-part-step-end : (t : ℕ) → nested-lts.Need-part-step-end (step-reads.Asked, step-reads.Learnt, nested-below t, nested.Post, larger-reads.Asked, larger-reads.Learnt) (nested-at t) nested.Post nested-Inv-loop nested-μ-loop
+nested-part-step-end : (t : ℕ) → nested-lts.Need-part-step-end (claims t) (nested-at t) nested.Post nested-Inv-loop nested-μ-loop
 nested-part-step-end t c = search needs
 
-nested-step-requires : (t : ℕ) → nested-lts.Need-step-requires (step-reads.Asked, step-reads.Learnt, nested-below t, nested.Post, larger-reads.Asked, larger-reads.Learnt) (nested-at t) nested.Post nested-Inv-loop nested-μ-loop
+nested-step-requires : (t : ℕ) → nested-lts.Need-step-requires (claims t) (nested-at t) nested.Post nested-Inv-loop nested-μ-loop
 nested-step-requires t c κs = search needs
 
-nested-enum-told : (t : ℕ) → nested-lts.Need-enum-told (step-reads.Asked, step-reads.Learnt, nested-below t, nested.Post, larger-reads.Asked, larger-reads.Learnt) (nested-at t) nested.Post nested-Inv-loop nested-μ-loop
+nested-enum-told : (t : ℕ) → nested-lts.Need-enum-told (claims t) (nested-at t) nested.Post nested-Inv-loop nested-μ-loop
 nested-enum-told t c = search needs
 
-nested-returns-2 : (t : ℕ) → nested-lts.Need-returns-2 (step-reads.Asked, step-reads.Learnt, nested-below t, nested.Post, larger-reads.Asked, larger-reads.Learnt) (nested-at t) nested.Post nested-Inv-loop nested-μ-loop
+nested-returns-2 : (t : ℕ) → nested-lts.Need-returns-2 (claims t) (nested-at t) nested.Post nested-Inv-loop nested-μ-loop
 nested-returns-2 t c =
     let b = c .before .before in
-    sym (opened t b ∙ at-end (sc t b) (messageFrom (sc t b) (args t b .levels - 1)) (args t b .n) (args t b .at) (octets t b) (i t b) (b .before .before .loop .fields) (b .before .before .loop .depth) (state t b) (sym (step-found t b) ∙ c .enum-told .given .1))
+    at-end (sc t b) (messageFrom (sc t b) (args t b .levels - 1)) (args t b .n) (args t b .at) (octets t b) (i t b) (b .before .before .loop .fields) (b .before .before .loop .depth) (state t b) (sym (step-found t b) ∙ c .enum-told .given .1) ∙ opened t b
 
-nested-enum-known-k : (t : ℕ) → nested-lts.Need-enum-known-k (step-reads.Asked, step-reads.Learnt, nested-below t, nested.Post, larger-reads.Asked, larger-reads.Learnt) (nested-at t) nested.Post nested-Inv-loop nested-μ-loop
+nested-enum-known-k : (t : ℕ) → nested-lts.Need-enum-known-k (claims t) (nested-at t) nested.Post nested-Inv-loop nested-μ-loop
 nested-enum-known-k t c = search needs
 
-nested-add-t31 : (t : ℕ) → nested-lts.Need-add-t31 (step-reads.Asked, step-reads.Learnt, nested-below t, nested.Post, larger-reads.Asked, larger-reads.Learnt) (nested-at t) nested.Post nested-Inv-loop nested-μ-loop
+nested-add-t31 : (t : ℕ) → nested-lts.Need-add-t31 (claims t) (nested-at t) nested.Post nested-Inv-loop nested-μ-loop
 nested-add-t31 t c = let b = c .before .before .before in let h = state t b .inside in let k = bounds t b .0 in omega arith
 
-nested-returns-3 : (t : ℕ) → nested-lts.Need-returns-3 (step-reads.Asked, step-reads.Learnt, nested-below t, nested.Post, larger-reads.Asked, larger-reads.Learnt) (nested-at t) nested.Post nested-Inv-loop nested-μ-loop
+nested-returns-3 : (t : ℕ) → nested-lts.Need-returns-3 (claims t) (nested-at t) nested.Post nested-Inv-loop nested-μ-loop
 nested-returns-3 t c =
     let b = c .before .before .before in
     let v = c .before .k .given in
-    sym (opened t b ∙ at-fault (sc t b) (messageFrom (sc t b) (args t b .levels - 1)) (args t b .n) (args t b .at) (octets t b) (i t b) (b .before .before .loop .fields) (b .before .before .loop .depth) (state t b) (v .0 .0) (sym (step-found t b) ∙ v .1))
+    at-fault (sc t b) (messageFrom (sc t b) (args t b .levels - 1)) (args t b .n) (args t b .at) (octets t b) (i t b) (b .before .before .loop .fields) (b .before .before .loop .depth) (state t b) (v .0 .0) (sym (step-found t b) ∙ v .1) ∙ opened t b
 
-nested-enum-known-control : (t : ℕ) → nested-lts.Need-enum-known-control (step-reads.Asked, step-reads.Learnt, nested-below t, nested.Post, larger-reads.Asked, larger-reads.Learnt) (nested-at t) nested.Post nested-Inv-loop nested-μ-loop
+nested-enum-known-control : (t : ℕ) → nested-lts.Need-enum-known-control (claims t) (nested-at t) nested.Post nested-Inv-loop nested-μ-loop
 nested-enum-known-control t c = search needs
 
-nested-add-i : (t : ℕ) → nested-lts.Need-add-i (step-reads.Asked, step-reads.Learnt, nested-below t, nested.Post, larger-reads.Asked, larger-reads.Learnt) (nested-at t) nested.Post nested-Inv-loop nested-μ-loop
+nested-add-i : (t : ℕ) → nested-lts.Need-add-i (claims t) (nested-at t) nested.Post nested-Inv-loop nested-μ-loop
 nested-add-i t c = let b = c .before .before .before in let h = over-ends t c .1 in let k = bounds t b .0 in omega arith
 
-nested-add-i-2 : (t : ℕ) → nested-lts.Need-add-i-2 (step-reads.Asked, step-reads.Learnt, nested-below t, nested.Post, larger-reads.Asked, larger-reads.Learnt) (nested-at t) nested.Post nested-Inv-loop nested-μ-loop
+nested-add-i-2 : (t : ℕ) → nested-lts.Need-add-i-2 (claims t) (nested-at t) nested.Post nested-Inv-loop nested-μ-loop
 nested-add-i-2 t c = let b = c .before .before .before in let h = over-ends t c .1 in let k = bounds t b .0 in omega arith
 
-nested-add-fields : (t : ℕ) → nested-lts.Need-add-fields (step-reads.Asked, step-reads.Learnt, nested-below t, nested.Post, larger-reads.Asked, larger-reads.Learnt) (nested-at t) nested.Post nested-Inv-loop nested-μ-loop
+nested-add-fields : (t : ℕ) → nested-lts.Need-add-fields (claims t) (nested-at t) nested.Post nested-Inv-loop nested-μ-loop
 nested-add-fields t c = let b = c .before .before .before in let h = state t b .few in let l = state t b .inside in let k = bounds t b .0 in omega arith
 
-nested-loop-less : (t : ℕ) → nested-lts.Need-loop-less (step-reads.Asked, step-reads.Learnt, nested-below t, nested.Post, larger-reads.Asked, larger-reads.Learnt) (nested-at t) nested.Post nested-Inv-loop nested-μ-loop
+nested-loop-less : (t : ℕ) → nested-lts.Need-loop-less (claims t) (nested-at t) nested.Post nested-Inv-loop nested-μ-loop
 nested-loop-less t c = let h = over-ends t c in let p = h .0 in let q = h .1 in omega arith
 
-nested-loop-again : (t : ℕ) → nested-lts.Need-loop-again (step-reads.Asked, step-reads.Learnt, nested-below t, nested.Post, larger-reads.Asked, larger-reads.Learnt) (nested-at t) nested.Post nested-Inv-loop nested-μ-loop
+nested-loop-again : (t : ℕ) → nested-lts.Need-loop-again (claims t) (nested-at t) nested.Post nested-Inv-loop nested-μ-loop
 nested-loop-again t c =
     let b = c .before .before .before in
     let v = c .before .control .given in
     (room-left t b, over-leaf (sc t b) (messageFrom (sc t b) (args t b .levels - 1)) (args t b .n) (args t b .at) (octets t b) (i t b) (b .before .before .loop .fields) (b .before .before .loop .depth) (state t b) (v .0 .0) (v .0 .1 .0) (sym (step-found t b) ∙ v .1))
 
-nested-enum-known-m : (t : ℕ) → nested-lts.Need-enum-known-m (step-reads.Asked, step-reads.Learnt, nested-below t, nested.Post, larger-reads.Asked, larger-reads.Learnt) (nested-at t) nested.Post nested-Inv-loop nested-μ-loop
+nested-enum-known-m : (t : ℕ) → nested-lts.Need-enum-known-m (claims t) (nested-at t) nested.Post nested-Inv-loop nested-μ-loop
 nested-enum-known-m t c = search needs
 
-nested-add-a : (t : ℕ) → nested-lts.Need-add-a (step-reads.Asked, step-reads.Learnt, nested-below t, nested.Post, larger-reads.Asked, larger-reads.Learnt) (nested-at t) nested.Post nested-Inv-loop nested-μ-loop
+nested-add-a : (t : ℕ) → nested-lts.Need-add-a (claims t) (nested-at t) nested.Post nested-Inv-loop nested-μ-loop
 nested-add-a t c = let b = c .before .before .before in let h = in-ends t c .1 in let k = bounds t b .0 in omega arith
 
-nested-add-e : (t : ℕ) → nested-lts.Need-add-e (step-reads.Asked, step-reads.Learnt, nested-below t, nested.Post, larger-reads.Asked, larger-reads.Learnt) (nested-at t) nested.Post nested-Inv-loop nested-μ-loop
+nested-add-e : (t : ℕ) → nested-lts.Need-add-e (claims t) (nested-at t) nested.Post nested-Inv-loop nested-μ-loop
 nested-add-e t c = let b = c .before .before .before in let h = in-ends t c .1 in let k = bounds t b .0 in omega arith
 
-nested-sub-nested : (t : ℕ) → nested-lts.Need-sub-nested (step-reads.Asked, step-reads.Learnt, nested-below t, nested.Post, larger-reads.Asked, larger-reads.Learnt) (nested-at t) nested.Post nested-Inv-loop nested-μ-loop
+nested-sub-nested : (t : ℕ) → nested-lts.Need-sub-nested (claims t) (nested-at t) nested.Post nested-Inv-loop nested-μ-loop
 nested-sub-nested t c = let b = c .before .before .before in let h = room-left t b in omega arith
 
-nested-add-here : (t : ℕ) → nested-lts.Need-add-here (step-reads.Asked, step-reads.Learnt, nested-below t, nested.Post, larger-reads.Asked, larger-reads.Learnt) (nested-at t) nested.Post nested-Inv-loop nested-μ-loop
+nested-add-here : (t : ℕ) → nested-lts.Need-add-here (claims t) (nested-at t) nested.Post nested-Inv-loop nested-μ-loop
 nested-add-here t c = let b = c .before .before .before in let h = in-ends t c .1 in let k = bounds t b .0 in omega arith
 
-nested-add-inside : (t : ℕ) → nested-lts.Need-add-inside (step-reads.Asked, step-reads.Learnt, nested-below t, nested.Post, larger-reads.Asked, larger-reads.Learnt) (nested-at t) nested.Post nested-Inv-loop nested-μ-loop
+nested-add-inside : (t : ℕ) → nested-lts.Need-add-inside (claims t) (nested-at t) nested.Post nested-Inv-loop nested-μ-loop
 nested-add-inside t c = let b = c .before .before .before in let h = in-ends t c .1 in let k = bounds t b .0 in omega arith
 
-nested-sub-nested-2 : (t : ℕ) → nested-lts.Need-sub-nested-2 (step-reads.Asked, step-reads.Learnt, nested-below t, nested.Post, larger-reads.Asked, larger-reads.Learnt) (nested-at t) nested.Post nested-Inv-loop nested-μ-loop
+nested-sub-nested-2 : (t : ℕ) → nested-lts.Need-sub-nested-2 (claims t) (nested-at t) nested.Post nested-Inv-loop nested-μ-loop
 nested-sub-nested-2 t c = search needs
 
-nested-part-nested-start : (t : ℕ) → nested-lts.Need-part-nested-start (step-reads.Asked, step-reads.Learnt, nested-below t, nested.Post, larger-reads.Asked, larger-reads.Learnt) (nested-at t) nested.Post nested-Inv-loop nested-μ-loop
+nested-part-nested-start : (t : ℕ) → nested-lts.Need-part-nested-start (claims t) (nested-at t) nested.Post nested-Inv-loop nested-μ-loop
 nested-part-nested-start t c = search needs
 
-nested-part-nested-end : (t : ℕ) → nested-lts.Need-part-nested-end (step-reads.Asked, step-reads.Learnt, nested-below t, nested.Post, larger-reads.Asked, larger-reads.Learnt) (nested-at t) nested.Post nested-Inv-loop nested-μ-loop
+nested-part-nested-end : (t : ℕ) → nested-lts.Need-part-nested-end (claims t) (nested-at t) nested.Post nested-Inv-loop nested-μ-loop
 nested-part-nested-end t c = let h = in-ends t c .1 in omega arith
 
-nested-nested-requires : (t : ℕ) → nested-lts.Need-nested-requires (step-reads.Asked, step-reads.Learnt, nested-below t, nested.Post, larger-reads.Asked, larger-reads.Learnt) (nested-at t) nested.Post nested-Inv-loop nested-μ-loop
+nested-nested-requires : (t : ℕ) → nested-lts.Need-nested-requires (claims t) (nested-at t) nested.Post nested-Inv-loop nested-μ-loop
 nested-nested-requires t c κs =
     let d = c .before in
     let b = d .before .before .before in
@@ -216,10 +220,10 @@ nested-nested-requires t c κs =
     simp length-take (omega arith) in
     (omega arith, (omega arith, omega arith))
 
-nested-enum-known-f : (t : ℕ) → nested-lts.Need-enum-known-f (step-reads.Asked, step-reads.Learnt, nested-below t, nested.Post, larger-reads.Asked, larger-reads.Learnt) (nested-at t) nested.Post nested-Inv-loop nested-μ-loop
+nested-enum-known-f : (t : ℕ) → nested-lts.Need-enum-known-f (claims t) (nested-at t) nested.Post nested-Inv-loop nested-μ-loop
 nested-enum-known-f t c = search needs
 
-nested-add-fields-2 : (t : ℕ) → nested-lts.Need-add-fields-2 (step-reads.Asked, step-reads.Learnt, nested-below t, nested.Post, larger-reads.Asked, larger-reads.Learnt) (nested-at t) nested.Post nested-Inv-loop nested-μ-loop
+nested-add-fields-2 : (t : ℕ) → nested-lts.Need-add-fields-2 (claims t) (nested-at t) nested.Post nested-Inv-loop nested-μ-loop
 nested-add-fields-2 t c =
     let d = c .before .before .before .before .before in
     let b = d .before .before .before in
@@ -230,7 +234,7 @@ nested-add-fields-2 t c =
     let g = state t b .inside in
     omega arith
 
-nested-add-fields-3 : (t : ℕ) → nested-lts.Need-add-fields-3 (step-reads.Asked, step-reads.Learnt, nested-below t, nested.Post, larger-reads.Asked, larger-reads.Learnt) (nested-at t) nested.Post nested-Inv-loop nested-μ-loop
+nested-add-fields-3 : (t : ℕ) → nested-lts.Need-add-fields-3 (claims t) (nested-at t) nested.Post nested-Inv-loop nested-μ-loop
 nested-add-fields-3 t c =
     let d = c .before .before .before .before .before in
     let b = d .before .before .before in
@@ -241,7 +245,7 @@ nested-add-fields-3 t c =
     let g = state t b .inside in
     omega arith
 
-nested-add-larger : (t : ℕ) → nested-lts.Need-add-larger (step-reads.Asked, step-reads.Learnt, nested-below t, nested.Post, larger-reads.Asked, larger-reads.Learnt) (nested-at t) nested.Post nested-Inv-loop nested-μ-loop
+nested-add-larger : (t : ℕ) → nested-lts.Need-add-larger (claims t) (nested-at t) nested.Post nested-Inv-loop nested-μ-loop
 nested-add-larger t c =
     let d = c .before .before .before .before .before in
     let b = d .before .before .before in
@@ -249,10 +253,10 @@ nested-add-larger t c =
     let k = bounds t b .1 in
     omega arith
 
-nested-larger-requires : (t : ℕ) → nested-lts.Need-larger-requires (step-reads.Asked, step-reads.Learnt, nested-below t, nested.Post, larger-reads.Asked, larger-reads.Learnt) (nested-at t) nested.Post nested-Inv-loop nested-μ-loop
+nested-larger-requires : (t : ℕ) → nested-lts.Need-larger-requires (claims t) (nested-at t) nested.Post nested-Inv-loop nested-μ-loop
 nested-larger-requires t c κs = search needs
 
-nested-loop-less-2 : (t : ℕ) → nested-lts.Need-loop-less-2 (step-reads.Asked, step-reads.Learnt, nested-below t, nested.Post, larger-reads.Asked, larger-reads.Learnt) (nested-at t) nested.Post nested-Inv-loop nested-μ-loop
+nested-loop-less-2 : (t : ℕ) → nested-lts.Need-loop-less-2 (claims t) (nested-at t) nested.Post nested-Inv-loop nested-μ-loop
 nested-loop-less-2 t c =
     let d = c .before .before .before .before .before .before in
     let h = in-ends t d in
@@ -260,7 +264,7 @@ nested-loop-less-2 t c =
     let q = h .1 in
     omega arith
 
-nested-loop-again-2 : (t : ℕ) → nested-lts.Need-loop-again-2 (step-reads.Asked, step-reads.Learnt, nested-below t, nested.Post, larger-reads.Asked, larger-reads.Learnt) (nested-at t) nested.Post nested-Inv-loop nested-μ-loop
+nested-loop-again-2 : (t : ℕ) → nested-lts.Need-loop-again-2 (claims t) (nested-at t) nested.Post nested-Inv-loop nested-μ-loop
 nested-loop-again-2 t c =
     let n = c .before in
     let d = n .before .before .before .before .before in
@@ -268,24 +272,25 @@ nested-loop-again-2 t c =
     let v = d .before .m .given in
     let w = n .before .f .given in (
       room-left t b,
-      nested-turn (sc t b) (messageFrom (sc t b) (args t b .levels - 1)) (args t b .n) (args t b .at) (octets t b) (i t b) (b .before .before .loop .fields) (b .before .before .loop .depth) (state t b) (v .0 .0) (v .0 .1 .0) (v .0 .1 .1 .0) (w .0 .0) (w .0 .1 .0) (c .larger .result) (n .before .before .before .nested .result)
-          (sym (step-found t b) ∙ v .1) (n .before .before .before .nested .ensures) (w .1) (inner-small t n .0) (c .larger .ensures),
+      nested-turn (sc t b) (messageFrom (sc t b) (args t b .levels - 1)) (args t b .n) (args t b .at) (octets t b) (i t b) (b .before .before .loop .fields) (b .before .before .loop .depth) (state t b) (v .0 .0) (v .0 .1 .0) (v .0 .1 .1 .0) (n .before .before .before .nested .result)
+          (sym (step-found t b) ∙ v .1) (n .before .before .before .nested .ensures) (w .0 .0) (w .0 .1 .0) (c .larger .result) (w .1) (inner-small t n .0) (c .larger .ensures),
     )
 
-nested-enum-known-k-2 : (t : ℕ) → nested-lts.Need-enum-known-k-2 (step-reads.Asked, step-reads.Learnt, nested-below t, nested.Post, larger-reads.Asked, larger-reads.Learnt) (nested-at t) nested.Post nested-Inv-loop nested-μ-loop
+nested-enum-known-k-2 : (t : ℕ) → nested-lts.Need-enum-known-k-2 (claims t) (nested-at t) nested.Post nested-Inv-loop nested-μ-loop
 nested-enum-known-k-2 t c = search needs
 
-nested-returns-4 : (t : ℕ) → nested-lts.Need-returns-4 (step-reads.Asked, step-reads.Learnt, nested-below t, nested.Post, larger-reads.Asked, larger-reads.Learnt) (nested-at t) nested.Post nested-Inv-loop nested-μ-loop
+nested-returns-4 : (t : ℕ) → nested-lts.Need-returns-4 (claims t) (nested-at t) nested.Post nested-Inv-loop nested-μ-loop
 nested-returns-4 t c =
     let d = c .before .before .before .before .before in
     let b = d .before .before .before in
     let v = d .before .m .given in
     let w = c .before .k2 .given in
-    sym (opened t b ∙ nested-refusal (sc t b) (messageFrom (sc t b) (args t b .levels - 1)) (args t b .n) (args t b .at) (octets t b) (i t b) (b .before .before .loop .fields) (b .before .before .loop .depth) (state t b) (v .0 .0) (v .0 .1 .0) (v .0 .1 .1 .0) (w .0 .0) (w .0 .1 .0) (c .before .before .before .nested .result)
-    (sym (step-found t b) ∙ v .1) (c .before .before .before .nested .ensures) (w .1))
+    nested-refusal (sc t b) (messageFrom (sc t b) (args t b .levels - 1)) (args t b .n) (args t b .at) (octets t b) (i t b) (b .before .before .loop .fields) (b .before .before .loop .depth) (state t b) (v .0 .0) (v .0 .1 .0) (v .0 .1 .1 .0) (c .before .before .before .nested .result)
+    (sym (step-found t b) ∙ v .1) (c .before .before .before .nested .ensures) (w .0 .0) (w .0 .1 .0) (w .1)
+    ∙ opened t b
 
 pub +nested-spec : {M : Type 1} → statement M
-+nested-spec = close μ-nested λ t. nested-lts.spec (step-reads.Asked, step-reads.Learnt, nested-below t, nested.Post, larger-reads.Asked, larger-reads.Learnt)
++nested-spec = close μ-nested λ t. nested-lts.spec (claims t)
     (nested-at t)
     nested.Post
     nested-Inv-loop
