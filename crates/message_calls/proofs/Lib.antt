@@ -1,4 +1,3 @@
-pub mod Adding
 pub mod CheckLoop
 pub mod Counts
 pub mod Passed
