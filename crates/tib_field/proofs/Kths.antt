@@ -1,5 +1,5 @@
--- The walk to the k-th of fields that stand in octets one after the other.
-use Prim.Native.Nat.{ℕ, zero, suc, _+_, _-_, _≤_}
+-- The traversal to the k-th of fields that stand in octets one after the other, and what it finds.
+use Prim.Native.Nat.{ℕ, zero, suc, _+_, _-_, _≤_, _<_}
 use native.Mathlib.Omega.{arith}
 use mathlib.Core.Path.{_≡_, refl, sym, ap, _∙_, subst}
 use mathlib.Core.List.{List, [], _∷_, _++_}
@@ -7,6 +7,7 @@ use mathlib.Core.Option.{Option, none, some}
 use lib.ListN.{length, drop, getElem?, length-append, length-drop}
 use lib.Seq.{drop-drop, drop-at}
 use Rattle.tib_field.specs.Fields.{Each, joined, placed}
+use Rattle.tib_field.specs.internal.KthOf.{foundOf}
 use Rattle.tib_field.proofs.Fields.{Row, kth-next}
 
 module _ {A : Type 0} (octets : A → List ℕ) (P : A → Type 0) where
@@ -87,3 +88,82 @@ module _ {A : Type 0} (octets : A → List ℕ) (P : A → Type 0) where
       go (stands g rest p d fits this later) next =
           let l : suc left - 1 ≡ left = omega arith in
           next (i + length (octets g)) (subst (Going s wanted (i + length (octets g))) l (later (omega arith)))
+
+-- What a traversal that finds each field by its sizes says of the field that is looked for: a K, which is `at` a place or `absent`.
+module _ {A Z K : Type 0} (octets : A → List ℕ) (P : A → Type 0) (sizes : A → Z) (total : Z → ℕ) (at : ℕ → Z → K) (absent : K)
+    (measured : (f : A) → (1 ≤ total (sizes f)) × (length (octets f) ≡ total (sizes f)))
+    (s : List ℕ) (wanted : Option (ℕ × A)) (i left : ℕ) (now : Going octets P s wanted i left) where
+  abbrev found : K
+  found = foundOf sizes at absent wanted
+
+  abbrev Here : Type 0
+  Here = Look octets P s wanted i left
+
+  here : Here
+  here = look octets P s wanted i left now
+
+  -- No field stands at i.
+  pub none-here : ((f : A) (rest : List ℕ) → P f → drop i s ≡ octets f ++ rest → ⊥) → absent ≡ found
+  unfolding foundOf
+  none-here never = go here
+    where
+      go : Here → absent ≡ found
+      go (ends d w) = sym (ap (foundOf sizes at absent) w)
+      go (stands f rest p d fits this later) = absurd (never f rest p d)
+
+  -- A field stands at i: it is the one, or another is still to come.
+  pub record OneMore (z : Z) : Type 0 where
+    pub takes : i < i + total z
+    pub fits : i + total z ≤ length s
+    pub this-one : left ≡ 0 → at i z ≡ found
+    pub later-one : (j : ℕ) → (left ≡ 0 → ⊥) → j ≡ i + total z → Going octets P s wanted j (left - 1)
+
+  pub one-here : (z : Z) → (drop i s ≡ [] → ⊥) → ((f : A) (rest : List ℕ) → P f → drop i s ≡ octets f ++ rest → sizes f ≡ z) → OneMore z
+  unfolding foundOf
+  one-here z more sized = go here
+    where
+      go : Here → OneMore z
+      go (ends d w) = absurd (more d)
+      go (stands f rest p d fits this later) =
+          let q = sized f rest p d in
+          let m = measured f in
+          let b = m .0 in
+          let t : length (octets f) ≡ total z = m .1 ∙ ap total q in
+          let e : total (sizes f) ≡ total z = ap total q in
+          record {
+            takes = omega arith;
+            fits = omega arith;
+            this-one = λ h. ap (at i) (sym q) ∙ sym (ap (foundOf sizes at absent) (this h));
+            later-one = λ j h place. subst (λ (x : ℕ). Going octets P s wanted x (left - 1)) (ap (λ (x : ℕ). i + x) t ∙ sym place) (later h);
+          }
+
+  -- The field that was found.
+  pub record KthFound (place : ℕ) (z : Z) : Type 0 where
+    pub field : A
+    pub same : wanted ≡ some (place, field)
+    pub sized : sizes field ≡ z
+    pub stands-there : KthStands octets P s place field
+    pub inside : place + total z ≤ length s
+
+  pub kth-found : ((p : ℕ) (y : Z) → absent ≡ at p y → ⊥) → ((p q : ℕ) (y z : Z) → at p y ≡ at q z → (p ≡ q) × (y ≡ z)) → (place : ℕ) (z : Z)
+      → found ≡ at place z → KthFound place z
+  unfolding foundOf
+  kth-found apart same place z e = go wanted refl e
+    where
+      go : (w : Option (ℕ × A)) → wanted ≡ w → foundOf sizes at absent w ≡ at place z → KthFound place z
+      go none f g = absurd (apart place z g)
+      go (some p) f g =
+          let x = same (p .0) place (sizes (p .1)) z g in
+          let q : wanted ≡ some (place, p .1) = f ∙ ap (λ (n : ℕ). some (n, p .1)) (x .0) in
+          let h = kth-stands octets P s wanted i left now place (p .1) q in
+          let l = h .inside in
+          let m : length (octets (p .1)) ≡ total z = measured (p .1) .1 ∙ ap total (x .1) in
+          record { field = p .1; same = q; sized = x .1; stands-there = h; inside = omega arith }
+
+  pub kth-absent : ((p : ℕ) (y : Z) → at p y ≡ absent → ⊥) → found ≡ absent → wanted ≡ none
+  unfolding foundOf
+  kth-absent apart e = go wanted refl e
+    where
+      go : (w : Option (ℕ × A)) → wanted ≡ w → foundOf sizes at absent w ≡ absent → wanted ≡ none
+      go none f g = f
+      go (some p) f g = absurd (apart (p .0) (sizes (p .1)) g)

@@ -1,8 +1,8 @@
--- The walk to the k-th outermost field of a message that is accepted, and the answer for the field that it finds.
-use Prim.Native.Nat.{ℕ, _+_, _-_, _≤_, _<_}
+-- The traversal to the k-th outermost field of a message that is accepted, and the answer for the field that it finds.
+use Prim.Native.Nat.{ℕ, _+_, _≤_}
 use native.Mathlib.Omega.{arith}
-use mathlib.Core.Path.{_≡_, refl, sym, ap, _∙_, subst}
-use mathlib.Core.List.{List, [], _++_}
+use mathlib.Core.Path.{_≡_, refl, sym, ap, _∙_}
+use mathlib.Core.List.{List, _++_}
 use mathlib.Core.Option.{Option, none, some}
 use lib.ListN.{length, drop}
 use Rattle.tib_field.specs.declared.Field.{Field as Shown}
@@ -12,7 +12,8 @@ use Rattle.tib_field.specs.Fields.{Each, joined as joinedParts}
 use Rattle.tib_field.specs.Kth.{answerFor}
 use Rattle.tib_field.specs.internal.KthOf.{kthOf}
 use Rattle.tib_field.specs.Refused.{refusedField}
-use Rattle.tib_field.proofs.Kths.{Going as Passing, Look, ends, stands, look, kth-stands}
+use Rattle.tib_field.proofs.Kths as kths
+use Rattle.tib_field.proofs.Kths.{none-here, one-here, kth-found, kth-absent}
 use Rattle.tib_field.proofs.Answers.{field-of-kth}
 use Rattle.tib_rv_field.specs.declared.Sizes.{Sizes}
 use Rattle.tib_rv.specs.declared.Outer.{Outer}
@@ -60,7 +61,7 @@ wanted s k = kthOf places k (reading s)
 
 -- The fields that are left begin at i, and the `left`-th of them is the one that is looked for.
 abbrev pub Going : List ℕ → ℕ → ℕ → ℕ → Type 0
-Going s k i left = Passing octets Outermost s (wanted s k) i left
+Going s k i left = kths.Going octets Outermost s (wanted s k) i left
 
 pub start : (s : List ℕ) (k : ℕ) → IsAccepted (reading s) → Going s k 8 k
 unfolding IsAccepted kthOf places
@@ -74,57 +75,28 @@ start s k a =
       same = rw (a .1);
     }
 
+pub measured : (f : Parts) → (1 ≤ total (sizes f)) × (length (octets f) ≡ total (sizes f))
+measured f = let h = field-size f in let l = length-octets f in (omega arith, l)
+
 module _ (s : List ℕ) (k i left : ℕ) (now : Going s k i left) where
-  abbrev Here : Type 0
-  Here = Look octets Outermost s (wanted s k) i left
-
-  here : Here
-  here = look octets Outermost s (wanted s k) i left now
-
-  -- What the next step finds where no field is left, and where one is.
-  next-of-none : drop i s ≡ [] → next (drop i s) ≡ Nothing
-  unfolding outerOf
-  next-of-none d = ap next d ∙ rw step-of-end
-
+  -- What the next step finds where a field is left.
   next-of : (f : Parts) (rest : List ℕ) → Outermost f → drop i s ≡ octets f ++ rest → next (drop i s) ≡ Field (sizes f)
   next-of f rest o d = ap next d ∙ found-first f rest o
 
   pub ended : next (drop i s) ≡ Nothing → Absent ≡ foundAt (wanted s k)
-  unfolding foundAt
-  ended e = go here
-    where
-      go : Here → Absent ≡ foundAt (wanted s k)
-      go (ends d w) = sym (ap foundAt w)
-      go (stands f rest o d fits this later) =
-          let n = next-of f rest o d in
-          let z : _≡_ {A = ℕ} 0 1 = cc in absurd (omega arith)
+  ended e =
+      none-here octets Outermost sizes total At Absent measured s (wanted s k) i left now
+      (λ f rest o d. let n = next-of f rest o d in let z : _≡_ {A = ℕ} 0 1 = cc in absurd (omega arith))
 
-  -- The field that the next step finds: it is the one, or another is still to come.
-  pub record OneMore (z : Sizes) : Type 0 where
-    pub takes : i < i + total z
-    pub fits : i + total z ≤ length s
-    pub this-one : left ≡ 0 → At i z ≡ foundAt (wanted s k)
-    pub later-one : (j : ℕ) → (left ≡ 0 → ⊥) → j ≡ i + total z → Going s k j (left - 1)
+  abbrev OneMore : Sizes → Type 0
+  OneMore = kths.OneMore octets Outermost sizes total At Absent measured s (wanted s k) i left now
 
   pub one-more : (z : Sizes) → next (drop i s) ≡ Field z → OneMore z
-  unfolding foundAt
-  one-more z e = go here
-    where
-      go : Here → OneMore z
-      go (ends d w) =
-          let n = next-of-none d in
-          let y : _≡_ {A = ℕ} 0 1 = cc in absurd (omega arith)
-      go (stands f rest o d fits this later) =
-          let n = next-of f rest o d in
-          let q : sizes f ≡ z = cc in
-          let t : length (octets f) ≡ total z = length-octets f ∙ ap total q in
-          let b = field-size f in
-          record {
-            takes = omega arith;
-            fits = omega arith;
-            this-one = λ h. ap (At i) (sym q) ∙ sym (ap foundAt (this h));
-            later-one = λ j h place. subst (λ (x : ℕ). Going s k x (left - 1)) (ap (λ (x : ℕ). i + x) t ∙ sym place) (later h);
-          }
+  unfolding outerOf
+  one-more z e =
+      one-here octets Outermost sizes total At Absent measured s (wanted s k) i left now z
+      (λ d. let n : next (drop i s) ≡ Nothing = ap next d ∙ rw step-of-end in let y : _≡_ {A = ℕ} 0 1 = cc in absurd (omega arith))
+      (λ f rest o d. let n = next-of f rest o d in cc)
 
 -- The answer for a field is that for its sizes.
 shown-sizes : (at : ℕ) (f : Parts) → shownSizes at (sizes f) ≡ shown at f
@@ -140,25 +112,19 @@ pub record KthFound (s : List ℕ) (place : ℕ) (z : Sizes) (answer : Shown) : 
 
 module _ (s : List ℕ) (k : ℕ) (a : IsAccepted (reading s)) where
   pub field-found : (place : ℕ) (z : Sizes) → foundAt (wanted s k) ≡ At place z → KthFound s place z (field s k)
-  unfolding foundAt answerFor field
-  field-found place z e = go (wanted s k) refl e
-    where
-      go : (w : Option (ℕ × Parts)) → wanted s k ≡ w → foundAt w ≡ At place z → KthFound s place z (field s k)
-      go none f g = let y : _≡_ {A = ℕ} 0 1 = cc in absurd (omega arith)
-      go (some p) f g =
-          let h = kth-stands octets Outermost s (wanted s k) 8 k (start s k a) (p .0) (p .1) f in
-          let x : p .0 ≡ place = cc in
-          let y : sizes (p .1) ≡ z = cc in
-          let l = length-octets (p .1) in
-          let i = h .inside in
-          let m : KthFound s (p .0) (sizes (p .1)) (field s k)
-          = record { inside = omega arith; shows = shown-sizes (p .0) (p .1) ∙ field-of-kth shown places k (reading s) a (some p) f } in
-          subst (λ (n : ℕ). KthFound s n z (field s k)) x (subst (λ (t : Sizes). KthFound s (p .0) t (field s k)) y m)
+  unfolding answerFor field
+  field-found place z e =
+      let h = kth-found octets Outermost sizes total At Absent measured s (wanted s k) 8 k (start s k a)
+      (λ p y f. let n : _≡_ {A = ℕ} 0 1 = cc in absurd (omega arith)) (λ p q x y f. (cc, cc)) place z e in
+      let f = h .field in
+      record {
+        inside = h .inside;
+        shows = ap (shownSizes place) (sym (h .sized)) ∙ shown-sizes place f ∙ field-of-kth shown places k (reading s) a (some (place, f)) (h .same);
+      }
 
   pub field-absent : foundAt (wanted s k) ≡ Absent → refusedField 18 0 ≡ field s k
-  unfolding foundAt answerFor field
-  field-absent e = go (wanted s k) refl e
-    where
-      go : (w : Option (ℕ × Parts)) → wanted s k ≡ w → foundAt w ≡ Absent → refusedField 18 0 ≡ field s k
-      go none f g = field-of-kth shown places k (reading s) a none f
-      go (some p) f g = let y : _≡_ {A = ℕ} 0 1 = cc in absurd (omega arith)
+  unfolding answerFor field
+  field-absent e =
+      field-of-kth shown places k (reading s) a none
+      (kth-absent octets Outermost sizes total At Absent measured s (wanted s k) 8 k (start s k a)
+      (λ p y f. let n : _≡_ {A = ℕ} 0 1 = cc in absurd (omega arith)) e)

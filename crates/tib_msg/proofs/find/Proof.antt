@@ -1,12 +1,12 @@
 -- `tib_msg::find` meets its contract: at each turn the field that is looked for is among those left.
 use borrow.Author.Needs.{needs}
 use native.Mathlib.Omega.{arith}
-use Prim.Native.Nat.{_-_}
+use Prim.Native.Nat.{ℕ, _-_}
+use mathlib.Core.Path.{_≡_}
 use lib.ListN.{length}
 use Rattle.tib_field.proofs.Slices.{seen}
 use Rattle.tib_msg_field.specs.Reading.{nextField}
-use Rattle.tib_msg.proofs.Turns.{step-inside}
-use Rattle.tib_msg.proofs.Kths.{Going, start, ended, no-fault, one-more}
+use Rattle.tib_msg.proofs.Kths.{Going, start, ended, one-more}
 use Rattle.tib_msg.proofs.find.Statement.{statement}
 use Rattle.tib_msg.proofs.find.Tie as tie
 
@@ -35,13 +35,13 @@ enum-told : tie.Need-enum-told Inv-loop μ-loop
 enum-told c = search needs
 
 returns : tie.Need-returns Inv-loop μ-loop
-returns c = ended (c .before .before .before .before .before .before .args .s .now) (c .before .before .before .before .before .before .args .k) (c .before .before .before .before .loop .i) (c .before .before .before .before .loop .left) (c .before .before .before .before .loop .inv) (seen nextField (c .before .before .before .before .before .before .args .s .now) (c .before .before .before .before .loop .i) _ _ (c .before .before .next-field .ensures) (c .enum-told .given .1))
+returns c = ended (c .before .before .before .before .before .before .args .s .now) (c .before .before .before .before .before .before .args .k) (c .before .before .before .before .loop .i) (c .before .before .before .before .loop .left) (c .before .before .before .before .loop .inv) _ (seen nextField (c .before .before .before .before .before .before .args .s .now) (c .before .before .before .before .loop .i) _ _ (c .before .before .next-field .ensures) (c .enum-told .given .1)) (λ z f. let y : _≡_ {A = ℕ} 0 1 = cc in absurd (omega arith))
 
 enum-told-2 : tie.Need-enum-told-2 Inv-loop μ-loop
 enum-told-2 c = search needs
 
 returns-2 : tie.Need-returns-2 Inv-loop μ-loop
-returns-2 c = no-fault (c .before .before .before .before .before .before .args .s .now) (c .before .before .before .before .before .before .args .k) (c .before .before .before .before .loop .i) (c .before .before .before .before .loop .left) (c .before .before .before .before .loop .inv) _ (seen nextField (c .before .before .before .before .before .before .args .s .now) (c .before .before .before .before .loop .i) _ _ (c .before .before .next-field .ensures) (c .enum-told2 .given .1))
+returns-2 c = ended (c .before .before .before .before .before .before .args .s .now) (c .before .before .before .before .before .before .args .k) (c .before .before .before .before .loop .i) (c .before .before .before .before .loop .left) (c .before .before .before .before .loop .inv) _ (seen nextField (c .before .before .before .before .before .before .args .s .now) (c .before .before .before .before .loop .i) _ _ (c .before .before .next-field .ensures) (c .enum-told2 .given .1)) (λ z f. let y : _≡_ {A = ℕ} 0 1 = cc in absurd (omega arith))
 
 enum-known-z : tie.Need-enum-known-z Inv-loop μ-loop
 enum-known-z c = search needs
@@ -60,8 +60,9 @@ sub-left c = omega arith
 loop-less : tie.Need-loop-less Inv-loop μ-loop
 loop-less c =
     let e = seen nextField (c .before .before .before .before .before .before .before .before .before .args .s .now) (c .before .before .before .before .before .before .before .loop .i) _ _ (c .before .before .before .before .before .next-field .ensures) (c .before .before .before .z .given .1) in
-    let r = one-more (c .before .before .before .before .before .before .before .before .before .args .s .now) (c .before .before .before .before .before .before .before .before .before .args .k) (c .before .before .before .before .before .before .before .loop .i) (c .before .before .before .before .before .before .before .loop .left) (c .before .before .before .before .before .before .before .loop .inv) _ e .fits in
-    let t = step-inside _ _ e .0 in
+    let r = one-more (c .before .before .before .before .before .before .before .before .before .args .s .now) (c .before .before .before .before .before .before .before .before .before .args .k) (c .before .before .before .before .before .before .before .loop .i) (c .before .before .before .before .before .before .before .loop .left) (c .before .before .before .before .before .before .before .loop .inv) _ e in
+    let p = r .takes in
+    let q = r .fits in
     let n = c .past .ensures in
     omega arith
 

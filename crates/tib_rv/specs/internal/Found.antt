@@ -1,7 +1,7 @@
 -- What the private functions `find`, `next_outer` and `shown` answer.
 use Prim.Native.Nat.{ℕ, _+_}
 use mathlib.Core.Bool.{false}
-use mathlib.Core.Option.{Option, none, some}
+use mathlib.Core.Option.{Option}
 use Rattle.tib_field.specs.declared.Field.{Field as Shown}
 use Rattle.tib_field.specs.Refused.{noReal}
 use Rattle.tib_rv_field.specs.declared.Sizes.{Sizes}
@@ -9,6 +9,7 @@ use Rattle.tib_rv_field.specs.declared.Step.{Step}
 use Rattle.tib_rv_field.specs.declared.Step.the-variants.{Done, Fault, Over, Into}
 use Rattle.tib_rv.specs.declared.Outer.{Outer}
 use Rattle.tib_rv.specs.declared.Outer.the-variants.{Nothing, Field}
+use Rattle.tib_field.specs.internal.KthOf.{foundOf}
 use Rattle.tib_rv.specs.declared.Kth.{Kth}
 use Rattle.tib_rv.specs.declared.Kth.the-variants.{At, Absent}
 use Rattle.tib_rv_field.specs.Layout.{Parts}
@@ -16,9 +17,8 @@ use Rattle.tib_rv_field.specs.Reading.{lead}
 use Rattle.tib_rv_field.specs.internal.Sizes.{sizes}
 
 -- The place and the sizes of a field, or that there is none.
-unfoldable pub foundAt : Option (ℕ × Parts) → Kth
-foundAt none = Absent
-foundAt (some f) = At (f .0) (sizes (f .1))
+abbrev pub foundAt : Option (ℕ × Parts) → Kth
+foundAt = foundOf sizes At Absent
 
 -- The field that a step finds, of either kind.
 unfoldable pub outerOf : Step → Outer
