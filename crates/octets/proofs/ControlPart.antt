@@ -41,24 +41,37 @@ control-of-front x a b r h p q =
     let k : length a + length b ≤ length (a ++ (b ++ r)) = simp length-append (omega arith) in
     rw (lt-ltb x 256 h, ← p, ← q, le-ltb (length (a ++ (b ++ r))) (length a + length b) k, take-at a (b ++ r) (length a) refl, drop-at a (b ++ r) (length a) refl, take-at b r (length b) refl)
 
+-- How many octets of the tag and of the length follow a first octet, and what is read where they are all there.
+abbrev pub tag-width : ℕ → ℕ
+tag-width x = following tagCode (x / 16)
+
+abbrev pub length-width : ℕ → ℕ
+length-width x = following lengthCode (x % 16)
+
+abbrev pub tag-read : ℕ → List ℕ → ℕ
+tag-read x s = coded tagCode (x / 16) (take (tag-width x) s)
+
+abbrev pub length-read : ℕ → List ℕ → ℕ
+length-read x s = coded lengthCode (x % 16) (take (length-width x) (drop (tag-width x) s))
+
+pub control-wide : (x : ℕ) (s : List ℕ) → x < 256 → tag-width x + length-width x ≤ length s
+    → control (x ∷ s) ≡ Whole (tag-read x s) (length-read x s) (1 + tag-width x + length-width x)
+unfolding control controlOf
+control-wide x s small wide = rw (lt-ltb x 256 small, le-ltb (length s) (tag-width x + length-width x) wide)
+
 front-of-control : (s : List ℕ) (tag len size : ℕ) → control s ≡ Whole tag len size → Front s tag len size
 unfolding control controlOf
 front-of-control [] tag len size e = let z : _≡_ {A = ℕ} 0 1 = cc in absurd (omega arith)
-front-of-control (x ∷ s) tag len size e = octet (ltb x 256) refl e
+front-of-control (x ∷ s) tag len size e = go (ltb x 256) refl (ltb (length s) (tag-width x + length-width x)) refl
   where
-    n : ℕ
-    n = following tagCode (x / 16)
-
-    m : ℕ
-    m = following lengthCode (x % 16)
-
-    read : Control
-    read = Whole (coded tagCode (x / 16) (take n s)) (coded lengthCode (x % 16) (take m (drop n s))) (1 + n + m)
-
-    go : x < 256 → (t : Bool) → ltb (length s) (n + m) ≡ t → cond t Partial read ≡ Whole tag len size → Front (x ∷ s) tag len size
-    go small true t f = let z : _≡_ {A = ℕ} 0 1 = cc in absurd (omega arith)
-    go small false t f =
-        let h = ltb-false (length s) (n + m) t in
+    go : (t : Bool) → ltb x 256 ≡ t → (u : Bool) → ltb (length s) (tag-width x + length-width x) ≡ u → Front (x ∷ s) tag len size
+    go false t u v = let f = rw t at e in let z : _≡_ {A = ℕ} 0 1 = cc in absurd (omega arith)
+    go true t true v = let f = rw (t, v) at e in let z : _≡_ {A = ℕ} 0 1 = cc in absurd (omega arith)
+    go true t false v =
+        let n = tag-width x in
+        let m = length-width x in
+        let h = ltb-false (length s) (n + m) v in
+        let f = sym (control-wide x s (ltb-true x 256 t) h) ∙ e in
         let d = length-drop n s in
         let a = length-take-le n s (omega arith) in
         let b = length-take-le m (drop n s) (omega arith) in
@@ -68,17 +81,13 @@ front-of-control (x ∷ s) tag len size e = octet (ltb x 256) refl e
           sized = take m (drop n s);
           rest = drop m (drop n s);
           is = rw (take-append-drop m (drop n s), take-append-drop n s);
-          small = small;
+          small = ltb-true x 256 t;
           tag-wide = a;
           length-wide = b;
           tag-is = cc;
           length-is = cc;
           size-is = rw (a, b) (cc);
         }
-
-    octet : (t : Bool) → ltb x 256 ≡ t → cond t (cond (ltb (length s) (n + m)) Partial read) Partial ≡ Whole tag len size → Front (x ∷ s) tag len size
-    octet true t f = go (ltb-true x 256 t) (ltb (length s) (n + m)) refl f
-    octet false t f = let z : _≡_ {A = ℕ} 0 1 = cc in absurd (omega arith)
 
 -- A whole control part takes an octet or more, and no more than there are.
 pub control-size : (s : List ℕ) (tag len size : ℕ) → control s ≡ Whole tag len size → (1 ≤ size) × (size ≤ length s)

@@ -8,14 +8,14 @@ use mathlib.Core.Logic.{_↔_}
 use lib.ListN.{length, take, drop, replicate, length-append, length-replicate, take-append-drop}
 use lib.Seq.{length-take-le}
 use lib.Dec.{ltb}
-use borrow.Author.Tests.{ltb-true, lt-ltb, le-ltb}
+use borrow.Author.Tests.{ltb-true, ltb-false}
 use Rattle.octets.specs.Number.{Octets}
 use Rattle.octets.specs.ControlPart.{tagCode, lengthCode}
 use Rattle.octets.specs.CutControl.{CutControl}
 use Rattle.octets.specs.Control.{following, coded, controlOf, control}
 use Rattle.octets.specs.declared.Control.{Control}
 use Rattle.octets.specs.declared.Control.the-variants.{Absent, Partial, Whole}
-use Rattle.octets.proofs.ControlPart.{control-size, part-of-control, part-read, control-exactly, control-absent}
+use Rattle.octets.proofs.ControlPart.{tag-width, length-width, tag-read, length-read, control-wide, control-size, part-of-control, part-read, control-exactly, control-absent}
 
 -- What is read at the front of octets is read there whatever follows them.
 pub control-before : (s more : List ℕ) (tag len size : ℕ) → control s ≡ Whole tag len size → control (s ++ more) ≡ Whole tag len size
@@ -48,31 +48,25 @@ cut-read s c = go (control s) refl
     go (Whole tag len size) e = absurd (cut-no-part s tag len size c e)
 
 read-cut : (s : List ℕ) → Octets s → control s ≡ Partial → CutControl s
-unfolding control controlOf Octets
+unfolding control Octets
 read-cut [] o e = let z : _≡_ {A = ℕ} 0 1 = cc in absurd (omega arith)
-read-cut (x ∷ s) o e = go (ltb (length s) (n + m)) refl (subst (λ (t : Bool). cond t (cond (ltb (length s) (n + m)) Partial read) Partial ≡ Partial) (lt-ltb x 256 (o .0)) e)
+read-cut (x ∷ s) o e = go (ltb (length s) (tag-width x + length-width x)) refl
   where
-    n : ℕ
-    n = following tagCode (x / 16)
-
-    m : ℕ
-    m = following lengthCode (x % 16)
-
-    read : Control
-    read = Whole (coded tagCode (x / 16) (take n s)) (coded lengthCode (x % 16) (take m (drop n s))) (1 + n + m)
-
-    go : (t : Bool) → ltb (length s) (n + m) ≡ t → cond t Partial read ≡ Partial → CutControl (x ∷ s)
-    go false t f = let z : _≡_ {A = ℕ} 0 1 = cc in absurd (omega arith)
-    go true t f =
-        let h = ltb-true (length s) (n + m) t in
-        let more : List ℕ = replicate (n + m - length s) 0 in
-        let r : length more ≡ n + m - length s = length-replicate (n + m - length s) 0 in
-        let l : length (s ++ more) ≡ n + m = length-append s more ∙ omega arith in
-        let tag = coded tagCode (x / 16) (take n (s ++ more)) in
-        let len = coded lengthCode (x % 16) (take m (drop n (s ++ more))) in
-        let e : control (x ∷ s ++ more) ≡ Whole tag len (length (x ∷ s ++ more)) =
-        rw (lt-ltb x 256 (o .0), le-ltb (length (s ++ more)) (n + m) (omega arith), l) (ap (Whole tag len) (omega arith)) in
-        record { tag = tag; len = len; missing = more; some = omega arith; too-few = omega arith; part = control-exactly (x ∷ s ++ more) tag len .0 e }
+    go : (t : Bool) → ltb (length s) (tag-width x + length-width x) ≡ t → CutControl (x ∷ s)
+    go false t =
+        let f = control-wide x s (o .0) (ltb-false (length s) (tag-width x + length-width x) t) in
+        let z : _≡_ {A = ℕ} 0 1 = cc in absurd (omega arith)
+    go true t =
+        let w = tag-width x + length-width x in
+        let h = ltb-true (length s) w t in
+        let more : List ℕ = replicate (w - length s) 0 in
+        let r : length more ≡ w - length s = length-replicate (w - length s) 0 in
+        let l : length (s ++ more) ≡ w = length-append s more ∙ omega arith in
+        let tag = tag-read x (s ++ more) in
+        let len = length-read x (s ++ more) in
+        let f : control (x ∷ s ++ more) ≡ Whole tag len (length (x ∷ s ++ more)) =
+        control-wide x (s ++ more) (o .0) (omega arith) ∙ ap (Whole tag len) (omega arith) in
+        record { tag = tag; len = len; missing = more; some = omega arith; too-few = omega arith; part = control-exactly (x ∷ s ++ more) tag len .0 f }
 
 -- Octets are read as a part of a control part exactly where they are a control part that ends too early.
 pub cut-exactly : (s : List ℕ) → Octets s → (control s ≡ Partial) ↔ CutControl s

@@ -96,18 +96,12 @@ module _ {A Z K : Type 0} (octets : A → List ℕ) (P : A → Type 0) (sizes : 
   abbrev found : K
   found = foundOf sizes at absent wanted
 
-  abbrev Here : Type 0
-  Here = Look octets P s wanted i left
-
-  here : Here
-  here = look octets P s wanted i left now
-
   -- No field stands at i.
   pub none-here : ((f : A) (rest : List ℕ) → P f → drop i s ≡ octets f ++ rest → ⊥) → absent ≡ found
   unfolding foundOf
-  none-here never = go here
+  none-here never = go (look octets P s wanted i left now)
     where
-      go : Here → absent ≡ found
+      go : Look octets P s wanted i left → absent ≡ found
       go (ends d w) = sym (ap (foundOf sizes at absent) w)
       go (stands f rest p d fits this later) = absurd (never f rest p d)
 
@@ -120,9 +114,9 @@ module _ {A Z K : Type 0} (octets : A → List ℕ) (P : A → Type 0) (sizes : 
 
   pub one-here : (z : Z) → (drop i s ≡ [] → ⊥) → ((f : A) (rest : List ℕ) → P f → drop i s ≡ octets f ++ rest → sizes f ≡ z) → OneMore z
   unfolding foundOf
-  one-here z more sized = go here
+  one-here z more sized = go (look octets P s wanted i left now)
     where
-      go : Here → OneMore z
+      go : Look octets P s wanted i left → OneMore z
       go (ends d w) = absurd (more d)
       go (stands f rest p d fits this later) =
           let q = sized f rest p d in

@@ -11,8 +11,7 @@ use Rattle.tib_field.specs.Kth.{answerFor}
 use Rattle.tib_field.specs.internal.KthOf.{kthOf}
 use Rattle.tib_field.specs.Refused.{refusedField}
 use Rattle.tib_field.specs.declared.Field.{Field}
-use Rattle.tib_field.proofs.Kths as kths
-use Rattle.tib_field.proofs.Kths.{none-here, one-here, kth-found, kth-absent}
+use Rattle.tib_field.proofs.Kths.{Going as Passing, OneMore, none-here, one-here, kth-found, kth-absent}
 use Rattle.tib_field.proofs.Answers.{field-of-kth}
 use Rattle.tib_msg_field.specs.declared.Sizes.{Sizes}
 use Rattle.tib_msg_field.specs.declared.Step.{Step}
@@ -33,7 +32,7 @@ wanted s k = kthOf places k (reading s)
 
 -- The fields that are left begin at i, and the `left`-th of them is the one that is looked for.
 abbrev pub Going : List ℕ → ℕ → ℕ → ℕ → Type 0
-Going s k i left = kths.Going octets Allowed s (wanted s k) i left
+Going s k i left = Passing octets Allowed s (wanted s k) i left
 
 pub start : (s : List ℕ) (k : ℕ) → IsAccepted (reading s) → Going s k 9 k
 unfolding IsAccepted kthOf places
@@ -46,23 +45,17 @@ unfolding total
 measured f = (omega arith, length-octets f)
 
 module _ (s : List ℕ) (k i left : ℕ) (now : Going s k i left) where
-  -- What the next step finds where a field is left.
-  next-of : (f : Parts) (rest : List ℕ) → Allowed f → drop i s ≡ octets f ++ rest → nextField (drop i s) ≡ Over (sizes f)
-  next-of f rest a d = ap nextField d ∙ step-of-field f rest a
-
   -- A step that finds no field.
   pub ended : (q : Step) → nextField (drop i s) ≡ q → ((z : Sizes) → q ≡ Over z → ⊥) → Absent ≡ foundAt (wanted s k)
   ended q e other =
-      none-here octets Allowed sizes total At Absent measured s (wanted s k) i left now (λ f rest a d. other (sizes f) (sym e ∙ next-of f rest a d))
+      none-here octets Allowed sizes total At Absent measured s (wanted s k) i left now
+      (λ f rest a d. other (sizes f) (sym e ∙ ap nextField d ∙ step-of-field f rest a))
 
-  abbrev OneMore : Sizes → Type 0
-  OneMore = kths.OneMore octets Allowed sizes total At Absent measured s (wanted s k) i left now
-
-  pub one-more : (z : Sizes) → nextField (drop i s) ≡ Over z → OneMore z
+  pub one-more : (z : Sizes) → nextField (drop i s) ≡ Over z → OneMore octets Allowed sizes total At Absent measured s (wanted s k) i left now z
   one-more z e =
       one-here octets Allowed sizes total At Absent measured s (wanted s k) i left now z
       (λ d. let n = ap nextField d ∙ step-of-end in let y : _≡_ {A = ℕ} 0 1 = cc in absurd (omega arith))
-      (λ f rest a d. let n = next-of f rest a d in cc)
+      (λ f rest a d. let n = ap nextField d ∙ step-of-field f rest a in cc)
 
 -- A hint has ten octets at most.
 hint-small : (kind size : ℕ) (t : Bool) (hint : List ℕ) → Hint kind size t hint → length hint ≤ 10

@@ -12,8 +12,7 @@ use Rattle.tib_field.specs.Fields.{Each, joined as joinedParts}
 use Rattle.tib_field.specs.Kth.{answerFor}
 use Rattle.tib_field.specs.internal.KthOf.{kthOf}
 use Rattle.tib_field.specs.Refused.{refusedField}
-use Rattle.tib_field.proofs.Kths as kths
-use Rattle.tib_field.proofs.Kths.{none-here, one-here, kth-found, kth-absent}
+use Rattle.tib_field.proofs.Kths.{Going as Passing, OneMore, none-here, one-here, kth-found, kth-absent}
 use Rattle.tib_field.proofs.Answers.{field-of-kth}
 use Rattle.tib_rv_field.specs.declared.Sizes.{Sizes}
 use Rattle.tib_rv.specs.declared.Outer.{Outer}
@@ -61,7 +60,7 @@ wanted s k = kthOf places k (reading s)
 
 -- The fields that are left begin at i, and the `left`-th of them is the one that is looked for.
 abbrev pub Going : List ℕ → ℕ → ℕ → ℕ → Type 0
-Going s k i left = kths.Going octets Outermost s (wanted s k) i left
+Going s k i left = Passing octets Outermost s (wanted s k) i left
 
 pub start : (s : List ℕ) (k : ℕ) → IsAccepted (reading s) → Going s k 8 k
 unfolding IsAccepted kthOf places
@@ -79,24 +78,17 @@ pub measured : (f : Parts) → (1 ≤ total (sizes f)) × (length (octets f) ≡
 measured f = let h = field-size f in let l = length-octets f in (omega arith, l)
 
 module _ (s : List ℕ) (k i left : ℕ) (now : Going s k i left) where
-  -- What the next step finds where a field is left.
-  next-of : (f : Parts) (rest : List ℕ) → Outermost f → drop i s ≡ octets f ++ rest → next (drop i s) ≡ Field (sizes f)
-  next-of f rest o d = ap next d ∙ found-first f rest o
-
   pub ended : next (drop i s) ≡ Nothing → Absent ≡ foundAt (wanted s k)
   ended e =
       none-here octets Outermost sizes total At Absent measured s (wanted s k) i left now
-      (λ f rest o d. let n = next-of f rest o d in let z : _≡_ {A = ℕ} 0 1 = cc in absurd (omega arith))
+      (λ f rest o d. let n = ap next d ∙ found-first f rest o in let z : _≡_ {A = ℕ} 0 1 = cc in absurd (omega arith))
 
-  abbrev OneMore : Sizes → Type 0
-  OneMore = kths.OneMore octets Outermost sizes total At Absent measured s (wanted s k) i left now
-
-  pub one-more : (z : Sizes) → next (drop i s) ≡ Field z → OneMore z
+  pub one-more : (z : Sizes) → next (drop i s) ≡ Field z → OneMore octets Outermost sizes total At Absent measured s (wanted s k) i left now z
   unfolding outerOf
   one-more z e =
       one-here octets Outermost sizes total At Absent measured s (wanted s k) i left now z
       (λ d. let n : next (drop i s) ≡ Nothing = ap next d ∙ rw step-of-end in let y : _≡_ {A = ℕ} 0 1 = cc in absurd (omega arith))
-      (λ f rest o d. let n = next-of f rest o d in cc)
+      (λ f rest o d. let n = ap next d ∙ found-first f rest o in cc)
 
 -- The answer for a field is that for its sizes.
 shown-sizes : (at : ℕ) (f : Parts) → shownSizes at (sizes f) ≡ shown at f
