@@ -14,7 +14,7 @@ use Rattle.hproto_state.specs.Calls.{orRefuse, startRefusal, putRefusal,
 use Rattle.hproto_state.specs.declared.State.{State}
 
 -- Where no refusal came, a test that has one is met, and nothing after it is refused.
-passed : (test : Bool) (n next : ℕ) → 0 < n → orRefuse test n next ≡ 0 → (test ≡ true) × (next ≡ 0)
+pub passed : (test : Bool) (n next : ℕ) → 0 < n → orRefuse test n next ≡ 0 → (test ≡ true) × (next ≡ 0)
 unfolding orRefuse
 passed true n next h e = (refl, e)
 passed false n next h e = absurd (omega arith)

@@ -10,6 +10,7 @@ use borrow.Author.Tests.{ltb-true, ltb-false, lt-ltb, le-ltb}
 use Rattle.octets.specs.Number.{Octets, number, octetsOf}
 use Rattle.octets.specs.ControlPart.{Code, Form, direct, follows}
 use Rattle.octets.specs.Control.{following, coded, firstFit, leastCode}
+use Rattle.octets.proofs.Slices.{length-zero}
 use Rattle.octets.proofs.Number.{number-below, number-octetsOf, octets-octetsOf, length-octetsOf, number-injective}
 
 pub form-following : (code : Code) (v x : ℕ) (s : List ℕ) → Form code v x s → following code x ≡ length s
@@ -33,13 +34,9 @@ pub form-of : (code : Code) (x : ℕ) (s : List ℕ) → x < code .direct + leng
 unfolding following coded
 form-of code x s h l = go (ltb x (code .direct)) refl l
   where
-    empty : (r : List ℕ) → length r ≡ 0 → x < code .direct → Form code x x r
-    empty [] e k = direct k
-    empty (y ∷ r) e k = absurd (omega arith)
-
     go : (t : Bool) → ltb x (code .direct) ≡ t → length s ≡ cond t 0 (getD (code .widths) (x - code .direct) 0)
         → Form code (cond t x (number s)) x s
-    go true e k = empty s k (ltb-true x (code .direct) e)
+    go true e k = subst (Form code x x) (sym (length-zero s k)) (direct (ltb-true x (code .direct) e))
     go false e k =
         let b = ltb-false x (code .direct) e in
         let i = x - code .direct in

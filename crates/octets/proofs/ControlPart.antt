@@ -14,7 +14,6 @@ use borrow.Author.Tests.{ltb-true, ltb-false, lt-ltb, le-ltb}
 use Rattle.octets.specs.Number.{Octets}
 use Rattle.octets.specs.ControlPart.{Code, tagCode, lengthCode, Form, direct, follows, ControlPart}
 use Rattle.octets.specs.Control.{following, coded, controlOf, control, leastCode, leastControl}
-use Rattle.octets.specs.declared.Control.{Control}
 use Rattle.octets.specs.declared.Control.the-variants.{Absent, Partial, Whole}
 use Rattle.octets.proofs.Number.{octets-append, octets-before, octets-after, number-below-most}
 use Rattle.octets.proofs.Codes.{form-following, form-coded, form-lead, form-of, Rising, Holds, leastCode-form, leastCode-octets, leastCode-least}

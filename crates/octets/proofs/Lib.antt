@@ -1,3 +1,4 @@
+pub mod Slices
 pub mod Number
 pub mod Shorter
 pub mod Integer

@@ -41,7 +41,7 @@ module _ (a : ℕ) where
   unfolding follower Between
   follows h = let k = h .0 in let l = h .1 in rw (le-leb 0x80 a k, lt-ltb a 0xc0 (omega arith))
 
-lead-passed : (x n : ℕ) (s : List ℕ) → followers x ≡ some n → textAfter 0 (x ∷ s) ≡ textAfter n s
+pub lead-passed : (x n : ℕ) (s : List ℕ) → followers x ≡ some n → textAfter 0 (x ∷ s) ≡ textAfter n s
 unfolding textAfter
 lead-passed x n s e = ap (λ (o : Option ℕ). elim o [ none ↦ false | some n ↦ textAfter n s ]) e
 

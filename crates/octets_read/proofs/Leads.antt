@@ -2,15 +2,15 @@
 use Prim.Native.Nat.{ℕ, _+_, _-_, _/_, _%_, _≤_, _<_}
 use native.Mathlib.Nat.{add-assoc}
 use native.Mathlib.Omega.{arith}
-use mathlib.Core.Path.{_≡_, refl, sym, ap, _∙_}
+use mathlib.Core.Path.{_≡_, sym, ap, _∙_}
 use mathlib.Core.List.{List, [], _∷_}
 use lib.Bits.{bitAnd, and-mask, mask-lt}
-use lib.ListN.{length, getD, take, drop, length-drop}
-use lib.Seq.{take-all}
+use lib.ListN.{length, getD, take, drop}
 use borrow.Author.Tests.{lt-ltb, le-ltb}
 use Rattle.octets.specs.ControlPart.{Code, tagCode, lengthCode}
 use Rattle.octets.specs.Control.{following, coded, controlOf, control}
 use Rattle.octets.specs.declared.Control.the-variants.{Absent, Partial, Whole}
+use Rattle.octets.proofs.Slices.{length-zero, tail-part}
 
 -- No octets follow a lead that is the number itself.
 pub direct : (code : Code) (t : ℕ) → t < code .direct → 0 ≡ following code t
@@ -22,8 +22,7 @@ marked code t k e = ap (following code) (sym e)
 
 pub control-none : (s : List ℕ) → length s ≡ 0 → Absent ≡ control s
 unfolding control
-control-none [] h = refl
-control-none (x ∷ s) h = absurd (omega arith)
+control-none s h = sym (ap control (length-zero s h))
 
 control-some : (s : List ℕ) → 0 < length s → getD s 0 0 < 256 → controlOf (getD s 0 0 / 16) (getD s 0 0 % 16) (drop 1 s) ≡ control s
 unfolding control
@@ -34,7 +33,7 @@ control-some (x ∷ s) h l = rw (lt-ltb x 256 l)
 pub control-split : (s : List ℕ) (t l : ℕ) → 0 < length s → t < 16 → t ≡ getD s 0 0 / 16 → l ≡ bitAnd (getD s 0 0) 15
     → controlOf t l (take (length s - 1) (drop 1 s)) ≡ control s
 control-split s t l h b p q =
-    rw (p, q ∙ and-mask (getD s 0 0) 4, take-all (length s - 1) (drop 1 s) (rw (length-drop 1 s) (omega arith))) (control-some s h (omega arith))
+    rw (p, q ∙ and-mask (getD s 0 0) 4, tail-part s 1) (control-some s h (omega arith))
 
 pub nybbles : (x t l : ℕ) → x < 256 → t ≡ x / 16 → l ≡ bitAnd x 15 → (t < 16) × (l < 16)
 nybbles x t l h p q = let m = mask-lt x 4 in (omega arith, omega arith)

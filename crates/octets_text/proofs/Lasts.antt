@@ -9,6 +9,7 @@ use lib.Dec.{leb, ltb}
 use lib.ListN.{length, getD, drop, drop-of-length-le}
 use borrow.Author.Tests.{ltb-true, ltb-false, leb-true, leb-false, lt-ltb, le-ltb, le-leb, lt-leb}
 use Rattle.octets.specs.Text.{followers, follower, textAfter, text}
+use Rattle.octets.proofs.Text.{lead-passed}
 use Rattle.octets_text.specs.internal.Last.{wants, toCome}
 use Rattle.octets_text.proofs.Groups.{Here, cut}
 
@@ -140,10 +141,6 @@ pub no-lead : (x : ℕ) (s : List ℕ) → followers x ≡ none → textAfter 0 
 unfolding textAfter
 no-lead x s e = rw (textAfter, e)
 
-pub lead-of : (x n : ℕ) (s : List ℕ) → followers x ≡ some n → textAfter 0 (x ∷ s) ≡ textAfter n s
-unfolding textAfter
-lead-of x n s e = rw (textAfter, e)
-
 -- Where an octet can stand after a group of which n octets are to come, the octets to come after it are those that it wants, or one
 -- fewer than before.
 judged : (n x : ℕ) (s : List ℕ)
@@ -157,7 +154,7 @@ judged zero x s = go (follower x) refl (leb 0xf8 x) refl
     go false e true g = no-lead x s (none-above x (leb-true 0xf8 x g))
     go false e false g =
         let k : wants x ≡ max (wants x) (0 - 1) = omega arith in
-        lead-of x (wants x) s (lead-wants x e (leb-false 0xf8 x g)) ∙ ap (λ (m : ℕ). textAfter m s) k
+        lead-passed x (wants x) s (lead-wants x e (leb-false 0xf8 x g)) ∙ ap (λ (m : ℕ). textAfter m s) k
 judged (suc n) x s = go (follower x) refl
   where
     go : (f : Bool) → follower x ≡ f

@@ -10,9 +10,10 @@ use lib.ListN.{length, getD, drop, length-drop, drop-of-length-le}
 use lib.Seq.{drop-drop}
 use borrow.Author.Tests.{lt-ltb, le-ltb}
 use Rattle.octets.specs.Text.{followers, follower, textAfter, text}
+use Rattle.octets.proofs.Text.{lead-passed}
 use Rattle.octets_text.specs.internal.Group.{follow, sizeWith, groupSize}
 use Rattle.octets_text.proofs.Groups.{Here, cut}
-use Rattle.octets_text.proofs.Lasts.{no-lead, lead-of}
+use Rattle.octets_text.proofs.Lasts.{no-lead}
 
 -- Past the end no octet follows.
 pub follows-none : (s : List ℕ) (i : ℕ) → length s ≤ i → false ≡ follow 1 (drop i s)
@@ -133,7 +134,7 @@ no-text (x ∷ r) h e = go (followers x) refl e
 
     go : (f : Option ℕ) → followers x ≡ f → sizeWith r f ≡ 0 → textAfter 0 (x ∷ r) ≡ false
     go none q k = no-lead x r q
-    go (some n) q k = lead-of x n r q ∙ open-group n (follow n r) refl k
+    go (some n) q k = lead-passed x n r q ∙ open-group n (follow n r) refl k
 
 record Past (r : List ℕ) (n : ℕ) : Type 0 where
   inside : n ≤ length r
@@ -147,7 +148,7 @@ past-group (x ∷ r) ne = go (followers x) refl ne
     whole : (n : ℕ) → followers x ≡ some n → (t : Bool) → follow n r ≡ t → (cond t (suc n) 0 ≡ 0 → ⊥) → Past (x ∷ r) (cond t (suc n) 0)
     whole n q true f k =
         let l = follow-length n r (sym f) in
-        record { inside = omega arith; same = lead-of x n r q ∙ after-follow n r ∙ rw f }
+        record { inside = omega arith; same = lead-passed x n r q ∙ after-follow n r ∙ rw f }
     whole n q false f k = absurd (k refl)
 
     go : (f : Option ℕ) → followers x ≡ f → (sizeWith r f ≡ 0 → ⊥) → Past (x ∷ r) (sizeWith r f)

@@ -10,7 +10,7 @@ use Rattle.tib_field.specs.declared.Front.{Front}
 use Rattle.tib_field.specs.declared.Front.the-variants.{End, Fault, Name as Sized}
 use Rattle.tib_field.proofs.Names.{front-end, front-found, front-of-name}
 use Rattle.tib_field.proofs.Refusals.{OfName, name-refused}
-use Rattle.tib_field.proofs.Slices.{tail-part}
+use Rattle.octets.proofs.Slices.{tail-part}
 
 module _ {A : Type 0} (done : A) (fault : ℕ → A) (after : ℕ → List ℕ → A) where
   abbrev pub next : List ℕ → A

@@ -1,4 +1,3 @@
-pub mod Slices
 pub mod Numbers
 pub mod Marks
 pub mod Names

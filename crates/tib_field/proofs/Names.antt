@@ -8,15 +8,11 @@ use lib.Dec.{eqb, ltb}
 use lib.ListN.{length, getD, take, drop, length-append, take-append-drop}
 use lib.Seq.{take-at, length-take-le, getD-take}
 use borrow.Author.Tests.{eq-eqb, ne-eqb, eqb-true, eqb-false, lt-ltb, le-ltb, ltb-false}
+use Rattle.octets.proofs.Slices.{length-zero}
 use Rattle.tib_field.specs.Name.{NoZero, Name, none, closed, closes, named, nameFront}
 use Rattle.tib_field.specs.internal.Zeros.{faultOf, nameFault, ZeroIn}
 use Rattle.tib_field.specs.declared.Front.{Front}
 use Rattle.tib_field.specs.declared.Front.the-variants.{End, Fault, Name as Sized}
-
--- A list is empty or has a first element.
-length-zero : (s : List ℕ) → length s ≡ 0 → s ≡ []
-length-zero [] e = refl
-length-zero (x ∷ s) e = absurd (omega arith)
 
 abbrev Closed : List ℕ → Type 0
 Closed s = (r : List ℕ) × NoZero r × (s ≡ r ++ (0 ∷ []))
@@ -112,8 +108,7 @@ module _ (x : ℕ) (s : List ℕ) where
 -- Why the name at the front of octets is refused.
 pub fault-of-none : (s : List ℕ) → length s ≡ 0 → 0 ≡ nameFault s
 unfolding nameFault nameFront faultOf
-fault-of-none [] h = refl
-fault-of-none (x ∷ s) h = absurd (omega arith)
+fault-of-none s h = sym (ap nameFault (length-zero s h))
 
 pub fault-cut : (s : List ℕ) (n : ℕ) → 0 < length s → n ≡ getD s 0 0 → length s - 1 < n → 3 ≡ nameFault s
 unfolding nameFault nameFront faultOf
@@ -148,8 +143,7 @@ fault-good (x ∷ s) n h e g z t f p =
 -- What stands at the front, from the refusal of its name.
 pub front-of-none : (s : List ℕ) → length s ≡ 0 → nameFront s ≡ End
 unfolding nameFront
-front-of-none [] h = refl
-front-of-none (x ∷ s) h = absurd (omega arith)
+front-of-none s h = ap nameFront (length-zero s h)
 
 refused-front : (f : Front) (k : ℕ) → k ≡ faultOf f → (k ≡ 0 → ⊥) → f ≡ Fault k
 unfolding faultOf

@@ -8,7 +8,7 @@ use lib.Dec.{eqb, ltb}
 use lib.ListN.{length, getD, take, drop}
 use borrow.Author.Tests.{eqb-true, eqb-false, ltb-true, ltb-false, lt-ltb}
 use Rattle.tib_field.specs.internal.Zeros.{ZeroIn, Far}
-use Rattle.tib_field.proofs.Slices.{tail-part}
+use Rattle.octets.proofs.Slices.{tail-part}
 
 -- Whether an octet at a place below n is zero.
 unfoldable Told : Bool → ℕ → ℕ → ℕ → Type 0

@@ -10,7 +10,7 @@ use lib.Dec.{eqb}
 use borrow.Author.Tests.{eq-eqb, ne-eqb}
 use Rattle.octets.specs.Number.{number}
 use Rattle.octets.specs.internal.Bounded.{unsigned}
-use Rattle.tib_field.proofs.Slices.{tail-part}
+use Rattle.octets.proofs.Slices.{length-zero, tail-part}
 use Rattle.octets.proofs.Number.{unsigned-is}
 use Rattle.tib_msg_field.specs.declared.Sizes.{Sizes}
 use Rattle.tib_msg_field.specs.Reading.{total, partsAt}
@@ -19,8 +19,7 @@ use Rattle.tib_msg_field.specs.Layout.{kind, hinted}
 use Rattle.tib_msg.specs.Answers.{hintNumber, realShown, shown}
 
 pub first-none : (s : List ℕ) → length s ≡ 0 → 0 ≡ getD s 0 0
-first-none [] h = refl
-first-none (x ∷ s) h = absurd (omega arith)
+first-none s h = rw (length-zero s h)
 
 pub number-none : (k : ℕ) (s : List ℕ) → length s < 2 → 0 ≡ hintNumber k s
 unfolding hintNumber number

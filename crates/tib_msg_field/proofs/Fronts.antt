@@ -11,7 +11,7 @@ use borrow.Author.Tests.{lt-ltb, le-ltb}
 use Rattle.tib_msg_field.specs.declared.HintPart.the-variants.{Fault as HintFault}
 use Rattle.octets.specs.Number.{number}
 use Rattle.octets.specs.internal.Bounded.{unsigned}
-use Rattle.tib_field.proofs.Slices.{tail-part, front-part}
+use Rattle.octets.proofs.Slices.{length-zero, tail-part, front-part}
 use Rattle.octets.proofs.Number.{unsigned-is}
 use Rattle.tib_msg_field.specs.declared.Step.the-variants.{Fault}
 use Rattle.tib_msg_field.specs.declared.HintPart.{HintPart}
@@ -71,8 +71,7 @@ module _ (n c w : ℕ) (s : List ℕ) (e : w ≡ sizeWidth c) where
 
 pub type-cut : (n : ℕ) (s : List ℕ) → length s ≡ 0 → Fault 3 ≡ fromType n s
 unfolding fromType
-type-cut n [] h = refl
-type-cut n (c ∷ s) h = absurd (omega arith)
+type-cut n s h = rw (length-zero s h)
 
 type-some : (n : ℕ) (s : List ℕ) → (length s ≡ 0 → ⊥)
     → cond (typeAllowed (getD s 0 0)) (fromSize n (getD s 0 0) (sizeWidth (getD s 0 0)) (drop 1 s)) (Fault 16) ≡ fromType n s

@@ -10,7 +10,7 @@ use borrow.Author.Tests.{lt-ltb, le-ltb, eq-eqb, ne-eqb}
 use Rattle.octets.specs.Number.{number}
 use Rattle.octets.specs.internal.Bounded.{unsigned}
 use Rattle.tib_field.specs.Mark.{begins}
-use Rattle.tib_field.proofs.Slices.{tail-part}
+use Rattle.octets.proofs.Slices.{tail-part}
 use Rattle.octets.proofs.Number.{unsigned-is}
 use Rattle.reading.specs.Reading.{messageLimit}
 use Rattle.reading.specs.internal.Walks.{walkOf}

@@ -10,7 +10,7 @@ use lib.Dec.{ltb}
 use borrow.Author.Tests.{lt-ltb, le-ltb, ne-eqb}
 use Rattle.octets.specs.Number.{number}
 use Rattle.octets.specs.internal.Bounded.{unsigned}
-use Rattle.tib_field.proofs.Slices.{tail-part, front-part}
+use Rattle.octets.proofs.Slices.{length-zero, tail-part, front-part}
 use Rattle.octets.proofs.Number.{unsigned-is}
 use Rattle.tib_rv_field.specs.declared.Step.{Step}
 use Rattle.tib_rv_field.specs.declared.Step.the-variants.{Fault}
@@ -18,8 +18,7 @@ use Rattle.tib_rv_field.specs.Reading.{following, counted, fromCount, fr
 
 pub size-none : (n c : ℕ) (s : List ℕ) → length s ≡ 0 → Fault 3 ≡ fromSize n c s
 unfolding fromSize
-size-none n c [] h = refl
-size-none n c (m ∷ s) h = absurd (omega arith)
+size-none n c s h = rw (length-zero s h)
 
 size-some : (n c : ℕ) (s : List ℕ) (m : ℕ) → (length s ≡ 0 → ⊥) → m ≡ getD s 0 0
     → cond (ltb 0x7a m) (Fault 16)
@@ -70,8 +69,7 @@ module _ (n c m w : ℕ) (s : List ℕ) where
 
 pub type-cut : (n : ℕ) (s : List ℕ) → length s ≡ 0 → Fault 3 ≡ fromType n s
 unfolding fromType
-type-cut n [] h = refl
-type-cut n (c ∷ s) h = absurd (omega arith)
+type-cut n s h = rw (length-zero s h)
 
 type-some : (n : ℕ) (s : List ℕ) → (length s ≡ 0 → ⊥) → fromSize n (getD s 0 0) (drop 1 s) ≡ fromType n s
 unfolding fromType

@@ -1,5 +1,5 @@
 -- A step of the reading refuses exactly the fields that are wrong, with the same number; and so does the test of a header.
-use Prim.Native.Nat.{ℕ, _+_, _-_, _≤_, _<_}
+use Prim.Native.Nat.{ℕ, _+_, _-_, _≤_}
 use native.Mathlib.Omega.{arith}
 use mathlib.Core.Path.{_≡_, refl, sym, ap, ap₂, _∙_, subst}
 use mathlib.Core.Bool.{Bool, true, false, cond, not, _||_}
@@ -9,6 +9,7 @@ use lib.Seq.{take-at, drop-at, length-take-le, drop-drop}
 use lib.Dec.{eqb, ltb}
 use borrow.Author.Tests.{le-leb, eqb-true, eqb-false, eq-eqb, ne-eqb, ltb-true, ltb-false, lt-ltb, le-ltb}
 use Rattle.octets.specs.Number.{number}
+use Rattle.octets.proofs.Slices.{length-zero}
 use Rattle.tib_field.specs.Mark.{begins}
 use Rattle.tib_field.specs.WrongName.{named}
 use Rattle.tib_field.proofs.Marks.{mark-begins, begins-mark}
@@ -27,12 +28,8 @@ octets-of : (m : ℕ) (s : List ℕ) → m ≤ 0x7a → length s ≡ following m
 unfolding following
 octets-of m s h l = go (form m h)
   where
-    empty : (r : List ℕ) → length r ≡ 0 → m < 0x79 → SizeOctets (m ∷ r)
-    empty [] e k = one m (omega arith)
-    empty (x ∷ r) e k = absurd (omega arith)
-
     go : Form m → SizeOctets (m ∷ s)
-    go (short k) = empty s (l ∙ following-short m k) k
+    go (short k) = subst (λ (r : List ℕ). SizeOctets (m ∷ r)) (sym (length-zero s (l ∙ following-short m k))) (one m (omega arith))
     go (middle e) = subst (λ (x : ℕ). length s ≡ following x → SizeOctets (x ∷ s)) (sym e) (two s) l
     go (long e) = subst (λ (x : ℕ). length s ≡ following x → SizeOctets (x ∷ s)) (sym e) (four s) l
 

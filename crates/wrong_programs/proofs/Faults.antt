@@ -13,7 +13,6 @@ use Rattle.hproto_table.specs.declared.Table.{Table}
 use Rattle.hproto_table.proofs.Bools.{and-left, and-right}
 use Rattle.hproto_table.proofs.Valid.{valid-loadable}
 use Rattle.hproto_state.specs.Sound.{falling, small, sound}
-use Rattle.hproto_state.specs.Calls.{orRefuse}
 use Rattle.hproto_state.specs.declared.State.{State}
 use Rattle.hproto_state.proofs.SoundStates.{sound-within, sound-few, last-mark}
 use Rattle.wrong_programs.specs.Kinds.{refusal-of}
@@ -36,12 +35,6 @@ equal m n h = go (eqb m n) refl
 pub holds : (b : Bool) → refusal-of b ≡ 0 → b ≡ true
 holds true e = refl
 holds false e = absurd (omega arith)
-
--- Where no refusal comes from a chain of tests, the first is met, and none comes from the others.
-pub met : (test : Bool) (n next : ℕ) → 0 < n → orRefuse test n next ≡ 0 → (test ≡ true) × (next ≡ 0)
-unfolding orRefuse
-met true n next h e = (refl, e)
-met false n next h e = absurd (omega arith)
 
 -- ---- states
 

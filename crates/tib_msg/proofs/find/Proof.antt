@@ -4,7 +4,7 @@ use native.Mathlib.Omega.{arith}
 use Prim.Native.Nat.{ℕ, _-_}
 use mathlib.Core.Path.{_≡_}
 use lib.ListN.{length}
-use Rattle.tib_field.proofs.Slices.{seen}
+use Rattle.octets.proofs.Slices.{seen}
 use Rattle.tib_msg_field.specs.Reading.{nextField}
 use Rattle.tib_msg.proofs.Kths.{Going, start, ended, one-more}
 use Rattle.tib_msg.proofs.find.Statement.{statement}

@@ -4,7 +4,7 @@ use native.Mathlib.Omega.{arith}
 use Prim.Native.Nat.{_-_}
 use mathlib.Core.Path.{refl}
 use lib.ListN.{length}
-use Rattle.tib_field.proofs.Slices.{seen}
+use Rattle.octets.proofs.Slices.{seen}
 use Rattle.tib_msg_field.specs.Reading.{nextField}
 use Rattle.tib_msg.proofs.Turns.{State, start, at-end, at-fault, forward, over-field}
 use Rattle.tib_msg.proofs.walk_fields.Statement.{statement}

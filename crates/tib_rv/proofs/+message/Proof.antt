@@ -13,7 +13,7 @@ use Rattle.tib_rv_field.specs.declared.Step.the-variants.{Over, Into}
 use Rattle.tib_rv_field.specs.Reading.{nextField, total, fieldsFrom, headerFault, messageFrom}
 use Rattle.reading.specs.Reading.{messageLimit}
 use Rattle.reading.specs.internal.Walks.{walkOf}
-use Rattle.tib_field.proofs.Slices.{seen}
+use Rattle.octets.proofs.Slices.{seen}
 use Rattle.tib_rv.specs.Answers.{count}
 use Rattle.tib_rv_field.proofs.Accepted.{header-good}
 use Rattle.tib_rv.proofs.Turns.{State, start, at-end, at-fault, over-leaf, over-nested, refused-nested, over-fits, into-fits, lead-within, counts-small, header-open, header-bad, too-deep}

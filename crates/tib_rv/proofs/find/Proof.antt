@@ -3,7 +3,7 @@ use borrow.Author.Needs.{needs}
 use native.Mathlib.Omega.{arith}
 use Prim.Native.Nat.{_-_}
 use lib.ListN.{length}
-use Rattle.tib_field.proofs.Slices.{seen}
+use Rattle.octets.proofs.Slices.{seen}
 use Rattle.tib_rv.proofs.Kths.{next, Going, start, ended, one-more}
 use Rattle.tib_rv.proofs.find.Statement.{statement}
 use Rattle.tib_rv.proofs.find.Tie as tie

@@ -1,11 +1,11 @@
 use borrow.Author.Needs.{needs}
 use Prim.Native.Nat.{ℕ, _+_, _-_, _≤_, _<_}
 use native.Mathlib.Omega.{arith}
-use mathlib.Core.Path.{_≡_, sym, _∙_}
+use mathlib.Core.Path.{_≡_, sym, ap, _∙_}
 use mathlib.Core.List.{List}
-use lib.ListN.{length, take, drop, length-take, length-drop}
-use lib.Seq.{take-all}
+use lib.ListN.{length, take, drop, length-take}
 use denote.Ref.{now}
+use Rattle.octets.proofs.Slices.{tail-part}
 use Rattle.hproto_table.specs.Schema.{Schema}
 use Rattle.table_index.specs.internal.Cells.{indexed}
 use Rattle.hproto_message.specs.Reading.{messageFrom, step}
@@ -79,7 +79,7 @@ module _ (t : ℕ) (c : After-step t) where
 
   -- What the step found at the octets that are left.
   step-found : c .step .result ≡ step sc (args .n) (drop i octets)
-  step-found = let h = state .inside in c .step .ensures ∙ rw (take-all (length octets - i) (drop i octets) (simp length-drop (omega arith)))
+  step-found = c .step .ensures ∙ ap (step sc (args .n)) (tail-part octets i)
 
   -- What the whole message comes to, in terms of its fields.
   opened : whole sc (messageFrom sc (args .levels - 1)) (args .n) (args .at) octets

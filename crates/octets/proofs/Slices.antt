@@ -1,10 +1,14 @@
--- Parts of a slice that start or end where the slice does.
+-- Parts of octets that start or end where these do, and octets of length 0.
 use Prim.Native.Nat.{ℕ, _-_}
 use native.Mathlib.Omega.{arith}
-use mathlib.Core.Path.{_≡_, sym, ap, _∙_}
-use mathlib.Core.List.{List}
+use mathlib.Core.Path.{_≡_, refl, sym, ap, _∙_}
+use mathlib.Core.List.{List, [], _∷_}
 use lib.ListN.{length, take, drop, length-drop}
 use lib.Seq.{take-all}
+
+pub length-zero : (s : List ℕ) → length s ≡ 0 → s ≡ []
+length-zero [] e = refl
+length-zero (x ∷ s) e = absurd (omega arith)
 
 pub tail-part : (s : List ℕ) (d : ℕ) → take (length s - d) (drop d s) ≡ drop d s
 tail-part s d = take-all (length s - d) (drop d s) (rw (length-drop d s) (omega arith))
