@@ -74,11 +74,11 @@ module _ (sc : Schema) (levels : ℕ) (inner : Inner)
       go (accepted i) d (refused number place) f g = let z : _≡_ {A = ℕ} 0 1 = cc in absurd (omega arith)
       go (refused number place) d r f g = let z : _≡_ {A = ℕ} 0 1 = cc in absurd (omega arith)
 
-  fields-good : (n left at : ℕ) (s : List ℕ) (cut : Cut) → fieldsFrom sc inner n left at s ≡ accepted cut → Good sc (suc levels) n s cut
+  fields-good : (n fuel at : ℕ) (s : List ℕ) (cut : Cut) → fieldsFrom sc inner n fuel at s ≡ accepted cut → Good sc (suc levels) n s cut
   unfolding fieldsFrom
   fields-good n zero at s cut e = let z : _≡_ {A = ℕ} 0 1 = cc in absurd (omega arith)
-  fields-good n (suc left) at s cut e =
-      after-good n (fieldsFrom sc inner n left) (fields-good n left) at s cut (step sc n s) (step-means sc n s) e
+  fields-good n (suc fuel) at s cut e =
+      after-good n (fieldsFrom sc inner n fuel) (fields-good n fuel) at s cut (step sc n s) (step-means sc n s) e
 
 pub accepted-good : (sc : Schema) (levels n field at : ℕ) (s : List ℕ) (cut : Cut)
     → messageFrom sc levels n field at s ≡ accepted cut → Good sc levels n s cut
@@ -90,26 +90,26 @@ accepted-good sc (suc levels) n field at s cut e =
 -- Where nested messages with a good cut are accepted, so is a message of good fields.
 module _ (sc : Schema) (levels : ℕ) (inner : Inner)
     (below : (m field at : ℕ) (b : List ℕ) (cut : Cut) → Good sc levels m b cut → inner m field at b ≡ accepted cut) where
-  fields-accepted : (cut : Cut) (n left at : ℕ) → Allowed sc n cut → depth cut ≤ suc levels → length (joined cut) < left
-      → fieldsFrom sc inner n left at (joined cut) ≡ accepted cut
+  fields-accepted : (cut : Cut) (n fuel at : ℕ) → Allowed sc n cut → depth cut ≤ suc levels → length (joined cut) < fuel
+      → fieldsFrom sc inner n fuel at (joined cut) ≡ accepted cut
   unfolding fieldsFrom afterStep onAccepted inOrder joined Allowed depth
   fields-accepted end n zero at a d h = absurd (omega arith)
-  fields-accepted end n (suc left) at a d h = rw (step-of-end sc n)
+  fields-accepted end n (suc fuel) at a d h = rw (step-of-end sc n)
   fields-accepted (leaf tag c b cut) n zero at a d h = absurd (omega arith)
-  fields-accepted (leaf tag c b cut) n (suc left) at a d h =
+  fields-accepted (leaf tag c b cut) n (suc fuel) at a d h =
       let k = part-size tag (length b) c (a .0 .whole) in
       let l : length (c ++ b ++ joined cut) ≡ length c + length b + length (joined cut) = simp length-append (omega arith) in
-      let r = fields-accepted cut n left (at + length c + length b) (a .1) d (omega arith) in
+      let r = fields-accepted cut n fuel (at + length c + length b) (a .1) d (omega arith) in
       let p = in-three c b (joined cut) in
       rw (step-of-leaf sc n tag c b (joined cut) (a .0), field-tag tag c b (joined cut) (a .0 .whole), p .first, p .second, p .third, r)
   fields-accepted (nested tag c inside cut) n zero at a d h = absurd (omega arith)
-  fields-accepted (nested tag c inside cut) n (suc left) at a d h =
+  fields-accepted (nested tag c inside cut) n (suc fuel) at a d h =
       let m = a .0 .0 in
       let b = joined inside in
       let k = part-size tag (length b) c (a .0 .1 .whole) in
       let l : length (c ++ b ++ joined cut) ≡ length c + length b + length (joined cut) = simp length-append (omega arith) in
       let q = below m at (at + length c) b inside (record { divides = refl; allowed = a .0 .2; shallow = omega arith }) in
-      let r = fields-accepted cut n left (at + length c + length b) (a .1) (omega arith) (omega arith) in
+      let r = fields-accepted cut n fuel (at + length c + length b) (a .1) (omega arith) (omega arith) in
       let p = in-three c b (joined cut) in
       rw (step-of-nested sc n m tag c b (joined cut) (a .0 .1), field-tag tag c b (joined cut) (a .0 .1 .whole), p .first, p .second, p .third, q, r)
 

@@ -76,10 +76,10 @@ module _ (sc : Schema) (inner : Inner) (below : (m field at : ℕ) (b : List ℕ
       inOrder-told (Cut.nested (tagAt s) (take k s)) (inner m at (at + k) (take l (drop k s))) (next (at + k + l) (drop (k + l) s))
       (below m at (at + k) (take l (drop k s))) (later (at + k + l) (drop (k + l) s))
 
-  fields-told : (n left at : ℕ) (s : List ℕ) → Told (fieldsFrom sc inner n left at s)
+  fields-told : (n fuel at : ℕ) (s : List ℕ) → Told (fieldsFrom sc inner n fuel at s)
   unfolding Told fieldsFrom step
   fields-told n zero at s = omega arith
-  fields-told n (suc left) at s = after-told (fieldsFrom sc inner n left) (fields-told n left) at s (step sc n s) (stepFrom-numbered sc n s (control s))
+  fields-told n (suc fuel) at s = after-told (fieldsFrom sc inner n fuel) (fields-told n fuel) at s (step sc n s) (stepFrom-numbered sc n s (control s))
 
 message-told : (sc : Schema) (levels n field at : ℕ) (s : List ℕ) → Told (messageFrom sc levels n field at s)
 unfolding Told messageFrom

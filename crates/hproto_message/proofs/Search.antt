@@ -66,7 +66,7 @@ afterFound into next s (steps.Into m k l) = into m (tagAt s) (take k s) (take l 
 
 unfoldable pub searchFields : Schema → Nested → ℕ → ℕ → List ℕ → Search
 searchFields sc into n zero s = faulty (here (endsEarly s))
-searchFields sc into n (suc left) s = afterFound into (searchFields sc into n left) s (step sc n s)
+searchFields sc into n (suc fuel) s = afterFound into (searchFields sc into n fuel) s (step sc n s)
 
 -- A nested message may be `levels` deep.
 unfoldable pub searchNested : Schema → ℕ → Nested
@@ -148,15 +148,15 @@ module _ (sc : Schema) (levels : ℕ) (inner : Inner) (into : Nested)
       (rw (x, y) (later k l (h .1) i)) in
       rw x at g
 
-  fields-agree : (n left at : ℕ) (s : List ℕ) → Octets s → length s < left
-      → Agree sc levels n at s (fieldsFrom sc inner n left at s) (searchFields sc into n left s)
+  fields-agree : (n fuel at : ℕ) (s : List ℕ) → Octets s → length s < fuel
+      → Agree sc levels n at s (fieldsFrom sc inner n fuel at s) (searchFields sc into n fuel s)
   unfolding fieldsFrom searchFields
   fields-agree n zero at s o h = absurd (omega arith)
-  fields-agree n (suc left) at s o h =
-      after-agrees n (fieldsFrom sc inner n left) (searchFields sc into n left) at s o
+  fields-agree n (suc fuel) at s o h =
+      after-agrees n (fieldsFrom sc inner n fuel) (searchFields sc into n fuel) at s o
       (λ k l p q.
       let d = length-drop (k + l) s in
-      fields-agree n left (at + k + l) (drop (k + l) s) (octets-after (take (k + l) s) (drop (k + l) s) (rw (take-append-drop (k + l) s) o)) (omega arith))
+      fields-agree n fuel (at + k + l) (drop (k + l) s) (octets-after (take (k + l) s) (drop (k + l) s) (rw (take-append-drop (k + l) s) o)) (omega arith))
       (step sc n s) refl (step-means sc n s)
 
 -- A field that is a message agrees, and so does a message.
@@ -193,61 +193,61 @@ good-searched sc levels n s cut o g = go (search sc levels n s) (search-agrees s
 
 -- ---- the search finds the first fault
 
-here-found : (sc : Schema) (into : Nested) (n left : ℕ) (w : Wrong) → Refused sc n w → searchFields sc into n (suc left) (wrongOctets w) ≡ faulty (here w)
+here-found : (sc : Schema) (into : Nested) (n fuel : ℕ) (w : Wrong) → Refused sc n w → searchFields sc into n (suc fuel) (wrongOctets w) ≡ faulty (here w)
 unfolding searchFields afterFound
-here-found sc into n left w r = rw (r .stepped, r .same)
+here-found sc into n fuel w r = rw (r .stepped, r .same)
 
 module _ (sc : Schema) where
-  deep-found : (n m left tag : ℕ) (c b after : List ℕ) → NestedField sc n m tag c b
-      → searchFields sc (searchNested sc 0) n (suc left) (c ++ b ++ after) ≡ faulty (here (tooDeep tag c b after))
+  deep-found : (n m fuel tag : ℕ) (c b after : List ℕ) → NestedField sc n m tag c b
+      → searchFields sc (searchNested sc 0) n (suc fuel) (c ++ b ++ after) ≡ faulty (here (tooDeep tag c b after))
   unfolding searchFields afterFound searchNested
-  deep-found n m left tag c b after f =
+  deep-found n m fuel tag c b after f =
       let p = in-three c b after in
       rw (step-of-nested sc n m tag c b after f, field-tag tag c b after (f .whole), p .first, p .second, p .third)
 
-  wrong-found : (levels n left : ℕ) (w : Wrong) → IsWrong sc (suc levels) n w
-      → searchFields sc (searchNested sc levels) n (suc left) (wrongOctets w) ≡ faulty (here w)
+  wrong-found : (levels n fuel : ℕ) (w : Wrong) → IsWrong sc (suc levels) n w
+      → searchFields sc (searchNested sc levels) n (suc fuel) (wrongOctets w) ≡ faulty (here w)
   unfolding IsWrong
-  wrong-found levels n left (endsEarly s) h = here-found sc (searchNested sc levels) n left (endsEarly s) (early-refused sc n s (cut-read s h))
-  wrong-found levels n left (pastTheEnd tag len c after) h =
-      here-found sc (searchNested sc levels) n left (pastTheEnd tag len c after) (past-refused sc n tag len c after (h .0) (h .1))
-  wrong-found zero n left (tooDeep tag c b after) h = unfold wrongOctets in deep-found n (h .0 .0) left tag c b after (h .0 .1)
-  wrong-found (suc levels) n left (tooDeep tag c b after) h = let e = h .1 in absurd (omega arith)
-  wrong-found levels n left (tooWide tag c b after) h =
-      here-found sc (searchNested sc levels) n left (tooWide tag c b after) (wide-refused sc n tag c b after (h .0) (h .1) (h .2))
-  wrong-found levels n left (noText tag c b after) h =
-      here-found sc (searchNested sc levels) n left (noText tag c b after) (text-refused sc n tag c b after (h .0) (h .1) (h .2))
+  wrong-found levels n fuel (endsEarly s) h = here-found sc (searchNested sc levels) n fuel (endsEarly s) (early-refused sc n s (cut-read s h))
+  wrong-found levels n fuel (pastTheEnd tag len c after) h =
+      here-found sc (searchNested sc levels) n fuel (pastTheEnd tag len c after) (past-refused sc n tag len c after (h .0) (h .1))
+  wrong-found zero n fuel (tooDeep tag c b after) h = unfold wrongOctets in deep-found n (h .0 .0) fuel tag c b after (h .0 .1)
+  wrong-found (suc levels) n fuel (tooDeep tag c b after) h = let e = h .1 in absurd (omega arith)
+  wrong-found levels n fuel (tooWide tag c b after) h =
+      here-found sc (searchNested sc levels) n fuel (tooWide tag c b after) (wide-refused sc n tag c b after (h .0) (h .1) (h .2))
+  wrong-found levels n fuel (noText tag c b after) h =
+      here-found sc (searchNested sc levels) n fuel (noText tag c b after) (text-refused sc n tag c b after (h .0) (h .1) (h .2))
 
-  leads-found : (f : Fault) (levels n left : ℕ) → Octets (faultOctets f) → LeadsTo sc (suc levels) n f → length (faultOctets f) < left
-      → searchFields sc (searchNested sc levels) n left (faultOctets f) ≡ faulty f
+  leads-found : (f : Fault) (levels n fuel : ℕ) → Octets (faultOctets f) → LeadsTo sc (suc levels) n f → length (faultOctets f) < fuel
+      → searchFields sc (searchNested sc levels) n fuel (faultOctets f) ≡ faulty f
   unfolding faultOctets LeadsTo searchFields afterFound searchNested thenLeaf thenNested search
   leads-found (here w) levels n zero o h k = absurd (omega arith)
-  leads-found (here w) levels n (suc left) o h k = wrong-found levels n left w h
+  leads-found (here w) levels n (suc fuel) o h k = wrong-found levels n fuel w h
   leads-found (over tag c b later) levels n zero o h k = absurd (omega arith)
-  leads-found (over tag c b later) levels n (suc left) o h k =
+  leads-found (over tag c b later) levels n (suc fuel) o h k =
       let s = c ++ b ++ faultOctets later in
       let j = part-size tag (length b) c (h .0 .whole) in
       let l : length s ≡ length c + length b + length (faultOctets later) = simp length-append (omega arith) in
-      let r = leads-found later levels n left (octets-after (c ++ b) (faultOctets later) o) (h .1) (omega arith) in
+      let r = leads-found later levels n fuel (octets-after (c ++ b) (faultOctets later) o) (h .1) (omega arith) in
       let p = in-three c b (faultOctets later) in
       rw (step-of-leaf sc n tag c b (faultOctets later) (h .0), field-tag tag c b (faultOctets later) (h .0 .whole), p .first, p .second, p .third, r)
   leads-found (past tag c cut later) levels n zero o h k = absurd (omega arith)
-  leads-found (past tag c cut later) zero n (suc left) o h k =
+  leads-found (past tag c cut later) zero n (suc fuel) o h k =
       let g = h .0 .2 .shallow in let d = depth-positive cut in absurd (omega arith)
-  leads-found (past tag c cut later) (suc levels) n (suc left) o h k =
+  leads-found (past tag c cut later) (suc levels) n (suc fuel) o h k =
       let d : suc (suc levels) - 1 ≡ suc levels = omega arith in
       let m = h .0 .0 in
       let f = h .0 .1 in
       let b = joined cut in
       let j = part-size tag (length b) c (f .whole) in
       let l : length (c ++ b ++ faultOctets later) ≡ length c + length b + length (faultOctets later) = simp length-append (omega arith) in
-      let r = leads-found later (suc levels) n left (octets-after (c ++ b) (faultOctets later) o) (h .1) (omega arith) in
+      let r = leads-found later (suc levels) n fuel (octets-after (c ++ b) (faultOctets later) o) (h .1) (omega arith) in
       let q = good-searched sc levels m b cut (octets-after c b (octets-before (c ++ b) (faultOctets later) o)) (subst (λ (x : ℕ). Good sc x m b cut) d (h .0 .2)) in
       let p = in-three c b (faultOctets later) in
       rw (step-of-nested sc n m tag c b (faultOctets later) f, field-tag tag c b (faultOctets later) (f .whole), p .first, p .second, p .third, q, r)
   leads-found (inside tag c inner after) levels n zero o h k = absurd (omega arith)
-  leads-found (inside tag c inner after) zero n (suc left) o h k = let l = h .0 in absurd (omega arith)
-  leads-found (inside tag c inner after) (suc levels) n (suc left) o h k =
+  leads-found (inside tag c inner after) zero n (suc fuel) o h k = let l = h .0 in absurd (omega arith)
+  leads-found (inside tag c inner after) (suc levels) n (suc fuel) o h k =
       let d : suc (suc levels) - 1 ≡ suc levels = omega arith in
       let m = h .1 .0 in
       let f = h .1 .1 in

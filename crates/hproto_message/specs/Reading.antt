@@ -56,10 +56,10 @@ afterStep inner next at s (Over k l) = onAccepted (leaf (tagAt s) (take k s) (ta
 afterStep inner next at s (Into m k l) =
     inOrder (nested (tagAt s) (take k s)) (inner m at (at + k) (take l (drop k s))) (next (at + k + l) (drop (k + l) s))
 
--- The fields of one message, from a place on. `left` bounds the fields that are still looked at.
+-- The fields of one message, from a place on. `fuel` bounds the fields that are still looked at.
 unfoldable pub fieldsFrom : Schema → Inner → ℕ → ℕ → ℕ → List ℕ → Reading Cut
 fieldsFrom sc inner n zero at s = refused 3 at
-fieldsFrom sc inner n (suc left) at s = afterStep inner (fieldsFrom sc inner n left) at s (step sc n s)
+fieldsFrom sc inner n (suc fuel) at s = afterStep inner (fieldsFrom sc inner n fuel) at s (step sc n s)
 
 -- A message of a number, at most `levels` messages deep. With none left it is refused with 5, at the field that holds it. A field takes
 -- an octet or more, so one look more than there are octets is enough.
