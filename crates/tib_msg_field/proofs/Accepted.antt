@@ -56,25 +56,25 @@ after-fields next later at s fs (Over z) h e = go (next (at + total z) (drop (to
         subst (Fields s) (cc) (one-more s z rest (step-found s z h) (later (at + total z) (drop (total z) s) rest f))
     go (refused number place) f g = let y : _≡_ {A = ℕ} 0 1 = cc in absurd (omega arith)
 
-fields-whole : (left at : ℕ) (s : List ℕ) (fs : List Parts) → fieldsFrom left at s ≡ accepted fs → Fields s fs
+fields-whole : (fuel at : ℕ) (s : List ℕ) (fs : List Parts) → fieldsFrom fuel at s ≡ accepted fs → Fields s fs
 unfolding fieldsFrom
 fields-whole zero at s fs e = let z : _≡_ {A = ℕ} 0 1 = cc in absurd (omega arith)
-fields-whole (suc left) at s fs e = after-fields (fieldsFrom left) (fields-whole left) at s fs (nextField s) refl e
+fields-whole (suc fuel) at s fs e = after-fields (fieldsFrom fuel) (fields-whole fuel) at s fs (nextField s) refl e
 
 -- A field takes two octets or more.
 pub field-size : (f : Parts) → 2 ≤ total (sizes f)
 unfolding total
 field-size f = omega arith
 
-pub fields-accepted : (fs : List Parts) (left at : ℕ) → Each Allowed fs → length (joined octets fs) < left → fieldsFrom left at (joined octets fs) ≡ accepted fs
+pub fields-accepted : (fs : List Parts) (fuel at : ℕ) → Each Allowed fs → length (joined octets fs) < fuel → fieldsFrom fuel at (joined octets fs) ≡ accepted fs
 unfolding fieldsFrom afterStep onAccepted joined Each
 fields-accepted [] zero at a h = absurd (omega arith)
-fields-accepted [] (suc left) at a h = rw step-of-end
+fields-accepted [] (suc fuel) at a h = rw step-of-end
 fields-accepted (f ∷ fs) zero at a h = absurd (omega arith)
-fields-accepted (f ∷ fs) (suc left) at a h =
+fields-accepted (f ∷ fs) (suc fuel) at a h =
     let k = field-size f in
     let l : length (octets f ++ joined octets fs) ≡ total (sizes f) + length (joined octets fs) = rw (length-append, length-octets f) in
-    let r = fields-accepted fs left (at + total (sizes f)) (a .1) (omega arith) in
+    let r = fields-accepted fs fuel (at + total (sizes f)) (a .1) (omega arith) in
     rw (step-of-field f (joined octets fs) (a .0), parts-of-field f (joined octets fs), rest-of-field f (joined octets fs), r)
 
 -- What an accepted message has: the tests of its header passed, and fields stand after it.

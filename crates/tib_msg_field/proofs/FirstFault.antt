@@ -61,13 +61,13 @@ one-more at s z f (refused k p) h =
       place = omega arith;
     }
 
-fields-told : (left at : ℕ) (s : List ℕ) → length s < left → FieldsTold at s (fieldsFrom left at s)
+fields-told : (fuel at : ℕ) (s : List ℕ) → length s < fuel → FieldsTold at s (fieldsFrom fuel at s)
 unfolding fieldsFrom afterStep FieldsTold joined Each
 fields-told zero at s h = absurd (omega arith)
-fields-told (suc left) at s h = go (nextField s) refl (fields-told left)
+fields-told (suc fuel) at s h = go (nextField s) refl (fields-told fuel)
   where
-    go : (p : Step) → nextField s ≡ p → ((at : ℕ) (r : List ℕ) → length r < left → FieldsTold at r (fieldsFrom left at r))
-        → FieldsTold at s (afterStep (fieldsFrom left) at s p)
+    go : (p : Step) → nextField s ≡ p → ((at : ℕ) (r : List ℕ) → length r < fuel → FieldsTold at r (fieldsFrom fuel at r))
+        → FieldsTold at s (afterStep (fieldsFrom fuel) at s p)
     go Done e later = tt
     go (Fault k) e later =
         record { fields = []; rest = s; divides = refl; each = tt; wrong = field-told s k e; place = omega arith }
@@ -79,15 +79,15 @@ fields-told (suc left) at s h = go (nextField s) refl (fields-told left)
         let c : length s ≡ length (octets (f .field) ++ f .rest) = ap length (f .divides) in
         let m = length-append (octets (f .field)) (f .rest) in
         let n = length-octets (f .field) in
-        one-more at s z f (fieldsFrom left (at + total z) (drop (total z) s)) (later (at + total z) (drop (total z) s) (omega arith))
+        one-more at s z f (fieldsFrom fuel (at + total z) (drop (total z) s)) (later (at + total z) (drop (total z) s) (omega arith))
 
-fields-refused : (fs : List Parts) (rest : List ℕ) (k left at : ℕ) → Each Allowed fs → WrongField k rest → length (joined octets fs ++ rest) < left
-    → fieldsFrom left at (joined octets fs ++ rest) ≡ refused k (at + length (joined octets fs))
+fields-refused : (fs : List Parts) (rest : List ℕ) (k fuel at : ℕ) → Each Allowed fs → WrongField k rest → length (joined octets fs ++ rest) < fuel
+    → fieldsFrom fuel at (joined octets fs ++ rest) ≡ refused k (at + length (joined octets fs))
 unfolding fieldsFrom afterStep onAccepted joined Each
 fields-refused [] rest k zero at a w h = absurd (omega arith)
-fields-refused [] rest k (suc left) at a w h = rw (wrong-field k rest w) (ap (refused k) (omega arith))
+fields-refused [] rest k (suc fuel) at a w h = rw (wrong-field k rest w) (ap (refused k) (omega arith))
 fields-refused (f ∷ fs) rest k zero at a w h = absurd (omega arith)
-fields-refused (f ∷ fs) rest k (suc left) at a w h =
+fields-refused (f ∷ fs) rest k (suc fuel) at a w h =
     let b = joined octets fs in
     let s = b ++ rest in
     let j = field-size f in
@@ -95,7 +95,7 @@ fields-refused (f ∷ fs) rest k (suc left) at a w h =
     let x = append-assoc (octets f) b rest in
     let l : length (octets f ++ b ++ rest) ≡ total (sizes f) + length s = ap length x ∙ length-append (octets f) s ∙ ap (λ (n : ℕ). n + length s) o in
     let m = length-append (octets f) b in
-    let r = fields-refused fs rest k left (at + total (sizes f)) (a .1) w (omega arith) in
+    let r = fields-refused fs rest k fuel (at + total (sizes f)) (a .1) w (omega arith) in
     rw (x, step-of-field f s (a .0), parts-of-field f s, rest-of-field f s, r) (ap (refused k) (omega arith))
 
 -- ---- the whole message

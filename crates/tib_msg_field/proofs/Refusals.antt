@@ -91,10 +91,10 @@ step-read next later at s Done h = tt
 step-read next later at s (Fault k) h = h
 step-read next later at s (Over z) h = on-accepted Positive (λ (fs : List Parts). partsAt s z ∷ fs) _ (later (at + total z) (drop (total z) s))
 
-fields-numbered : (left at : ℕ) (s : List ℕ) → NumberedReading (fieldsFrom left at s)
+fields-numbered : (fuel at : ℕ) (s : List ℕ) → NumberedReading (fieldsFrom fuel at s)
 unfolding NumberedReading OfReading Positive fieldsFrom
 fields-numbered zero at s = omega arith
-fields-numbered (suc left) at s = step-read (fieldsFrom left) (fields-numbered left) at s (nextField s) (step-numbered s)
+fields-numbered (suc fuel) at s = step-read (fieldsFrom fuel) (fields-numbered fuel) at s (nextField s) (step-numbered s)
 
 reading-numbered : (s : List ℕ) → NumberedReading (reading s)
 unfolding NumberedReading OfReading Positive reading

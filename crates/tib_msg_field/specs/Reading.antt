@@ -91,10 +91,10 @@ afterStep next at s Done = accepted []
 afterStep next at s (Fault number) = refused number at
 afterStep next at s (Over z) = onAccepted (λ (fs : List Parts). partsAt s z ∷ fs) (next (at + total z) (drop (total z) s))
 
--- The fields from a place on. `left` bounds the fields that are still looked at.
+-- The fields from a place on. `fuel` bounds the fields that are still looked at.
 unfoldable pub fieldsFrom : ℕ → ℕ → List ℕ → Reading (List Parts)
 fieldsFrom zero at s = refused 3 at
-fieldsFrom (suc left) at s = afterStep (fieldsFrom left) at s (nextField s)
+fieldsFrom (suc fuel) at s = afterStep (fieldsFrom fuel) at s (nextField s)
 
 -- The whole message. A field takes an octet or more, so one look more than there are octets is enough.
 unfoldable pub reading : List ℕ → Reading (List Parts)

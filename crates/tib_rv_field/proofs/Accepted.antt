@@ -110,10 +110,10 @@ module _ (levels : ℕ) (inner : Inner)
       go (accepted inside) d (refused number place) f g = let y : _≡_ {A = ℕ} 0 1 = cc in absurd (omega arith)
       go (refused number place) d r f g = let y : _≡_ {A = ℕ} 0 1 = cc in absurd (omega arith)
 
-  fields-good : (left at : ℕ) (s : List ℕ) (fs : Fields) → fieldsFrom inner left at s ≡ accepted fs → Good (suc levels) s fs
+  fields-good : (fuel at : ℕ) (s : List ℕ) (fs : Fields) → fieldsFrom inner fuel at s ≡ accepted fs → Good (suc levels) s fs
   unfolding fieldsFrom
   fields-good zero at s fs e = let z : _≡_ {A = ℕ} 0 1 = cc in absurd (omega arith)
-  fields-good (suc left) at s fs e = after-good (fieldsFrom inner left) (fields-good left) at s fs (nextField s) refl e
+  fields-good (suc fuel) at s fs e = after-good (fieldsFrom inner fuel) (fields-good fuel) at s fs (nextField s) refl e
 
 -- What a header without fault has.
 pub record GoodHeader (s : List ℕ) : Type 0 where
@@ -177,19 +177,19 @@ message-counted size fs h =
 -- Where good nested messages are accepted, so is a message of good fields.
 module _ (levels : ℕ) (inner : Inner)
     (below : (field at : ℕ) (m : List ℕ) (fs : Fields) → GoodMessage levels m fs → inner field at m ≡ accepted fs) where
-  fields-accepted : (fs : Fields) (left at : ℕ) → Allowed fs → depth fs ≤ suc levels → length (joined fs) < left
-      → fieldsFrom inner left at (joined fs) ≡ accepted fs
+  fields-accepted : (fs : Fields) (fuel at : ℕ) → Allowed fs → depth fs ≤ suc levels → length (joined fs) < fuel
+      → fieldsFrom inner fuel at (joined fs) ≡ accepted fs
   unfolding fieldsFrom afterStep onAccepted inOrder nestedOf joined message Allowed depth
   fields-accepted end zero at a d h = absurd (omega arith)
-  fields-accepted end (suc left) at a d h = rw step-of-end
+  fields-accepted end (suc fuel) at a d h = rw step-of-end
   fields-accepted (leaf f rest) zero at a d h = absurd (omega arith)
-  fields-accepted (leaf f rest) (suc left) at a d h =
+  fields-accepted (leaf f rest) (suc fuel) at a d h =
       let k = field-size f in
       let l = length-append (octets f) (joined rest) in
-      let r = fields-accepted rest left (at + total (sizes f)) (a .1) d (omega arith) in
+      let r = fields-accepted rest fuel (at + total (sizes f)) (a .1) d (omega arith) in
       rw (step-of-leaf f (joined rest) (a .0), parts-of-field f (joined rest), rest-of-field f (joined rest), r)
   fields-accepted (nested name size inside rest) zero at a d h = absurd (omega arith)
-  fields-accepted (nested name size inside rest) (suc left) at a d h =
+  fields-accepted (nested name size inside rest) (suc fuel) at a d h =
       let m = message size inside in
       let f = holder name m in
       let c = message-counted size inside (a .0 .1) in
@@ -201,7 +201,7 @@ module _ (levels : ℕ) (inner : Inner)
       } in
       let k = field-size f in
       let l = length-append (octets f) (joined rest) in
-      let r = fields-accepted rest left (at + total (sizes f)) (a .1) (omega arith) (omega arith) in
+      let r = fields-accepted rest fuel (at + total (sizes f)) (a .1) (omega arith) (omega arith) in
       rw (
         step-of-held name m (joined rest) (a .0 .0) (c .0),
         parts-of-field f (joined rest),

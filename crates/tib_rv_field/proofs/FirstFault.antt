@@ -101,35 +101,35 @@ open-message levels field at s fields o =
 
 -- ---- a fault in the fields is refused
 
-module _ (levels left at : ℕ) (name held s : List ℕ) (good : Name name) (c : Counted held) where
+module _ (levels fuel at : ℕ) (name held s : List ℕ) (good : Name name) (c : Counted held) where
   -- A step into what a field of type 1 holds.
-  into-held : fieldsFrom (messageFrom levels) (suc left) at (octets (holder name held) ++ s)
+  into-held : fieldsFrom (messageFrom levels) (suc fuel) at (octets (holder name held) ++ s)
       ≡ inOrder (nestedOf (holder name held)) (messageFrom levels at (at + (3 + length name)) held)
-      (fieldsFrom (messageFrom levels) left (at + length (octets (holder name held))) s)
+      (fieldsFrom (messageFrom levels) fuel (at + length (octets (holder name held))) s)
   unfolding fieldsFrom afterStep
   into-held =
       let f = holder name held in
       rw (step-of-held name held s good c, parts-of-field f s, rest-of-field f s, lead-held name held, length-octets f)
 
   into-refused : (k p : ℕ) → messageFrom levels at (at + (3 + length name)) held ≡ refused k p
-      → fieldsFrom (messageFrom levels) (suc left) at (octets (holder name held) ++ s) ≡ refused k p
+      → fieldsFrom (messageFrom levels) (suc fuel) at (octets (holder name held) ++ s) ≡ refused k p
   unfolding inOrder
   into-refused k p e = into-held ∙ rw e
 
-fault-refused : (depth : ℕ) (s : List ℕ) (k p : ℕ) → FaultIn depth s k p → (levels left at : ℕ) → depth ≡ suc levels → length s < left
-    → fieldsFrom (messageFrom levels) left at s ≡ refused k (at + p)
+fault-refused : (depth : ℕ) (s : List ℕ) (k p : ℕ) → FaultIn depth s k p → (levels fuel at : ℕ) → depth ≡ suc levels → length s < fuel
+    → fieldsFrom (messageFrom levels) fuel at s ≡ refused k (at + p)
 unfolding fieldsFrom afterStep onAccepted inOrder
 fault-refused depth s k p (here d j r w) levels zero at e h = absurd (omega arith)
-fault-refused depth s k p (here d j r w) levels (suc left) at e h = rw (wrong-field j r w) (ap (refused j) (omega arith))
+fault-refused depth s k p (here d j r w) levels (suc fuel) at e h = rw (wrong-field j r w) (ap (refused j) (omega arith))
 fault-refused depth s k p (over d j q f r l later) levels zero at e h = absurd (omega arith)
-fault-refused depth s k p (over d j q f r l later) levels (suc left) at e h =
+fault-refused depth s k p (over d j q f r l later) levels (suc fuel) at e h =
     let a = field-size f in
     let b = length-append (octets f) r in
     let o = length-octets f in
-    let i = fault-refused d r j q later levels left (at + total (sizes f)) e (omega arith) in
+    let i = fault-refused d r j q later levels fuel (at + total (sizes f)) e (omega arith) in
     rw (step-of-leaf f r l, parts-of-field f r, rest-of-field f r, i) (ap (refused j) (omega arith))
 fault-refused depth s k p (past d j q name size inner r good head allowed deep later) levels zero at e h = absurd (omega arith)
-fault-refused depth s k p (past d j q name size inner r good head allowed deep later) levels (suc left) at e h =
+fault-refused depth s k p (past d j q name size inner r good head allowed deep later) levels (suc fuel) at e h =
     let m = message size inner in
     let f = holder name m in
     let c = message-counted size inner head in
@@ -141,24 +141,24 @@ fault-refused depth s k p (past d j q name size inner r good head allowed deep l
       header = subst (λ (x : List ℕ). Header x inner) (sym (c .1)) head;
       fields = record { divides = refl; allowed = allowed; shallow = omega arith };
     } in
-    let i = fault-refused d r j q later levels left (at + length (octets f)) e (omega arith) in
-    into-held levels left at name m r good (c .0)
+    let i = fault-refused d r j q later levels fuel (at + length (octets f)) e (omega arith) in
+    into-held levels fuel at name m r good (c .0)
     ∙ rw (good-accepted levels at (at + (3 + length name)) m inner g, i) (ap (refused j) (omega arith))
 fault-refused depth s k p (tooDeep name held r o) levels zero at e h = absurd (omega arith)
-fault-refused depth s k p (tooDeep name held r o) zero (suc left) at e h =
-    into-refused 0 left at name held r (o .good) (holds-counted name held o) 5 (at + 0) (unfold messageFrom in ap (refused 5) (omega arith))
-fault-refused depth s k p (tooDeep name held r o) (suc levels) (suc left) at e h = absurd (omega arith)
+fault-refused depth s k p (tooDeep name held r o) zero (suc fuel) at e h =
+    into-refused 0 fuel at name held r (o .good) (holds-counted name held o) 5 (at + 0) (unfold messageFrom in ap (refused 5) (omega arith))
+fault-refused depth s k p (tooDeep name held r o) (suc levels) (suc fuel) at e h = absurd (omega arith)
 fault-refused depth s k p (header d j name held r l o w) levels zero at e h = absurd (omega arith)
-fault-refused depth s k p (header d j name held r l o w) zero (suc left) at e h = absurd (omega arith)
-fault-refused depth s k p (header d j name held r l o w) (suc levels) (suc left) at e h =
-    into-refused (suc levels) left at name held r (o .good) (holds-counted name held o) j (at + (3 + length name))
+fault-refused depth s k p (header d j name held r l o w) zero (suc fuel) at e h = absurd (omega arith)
+fault-refused depth s k p (header d j name held r l o w) (suc levels) (suc fuel) at e h =
+    into-refused (suc levels) fuel at name held r (o .good) (holds-counted name held o) j (at + (3 + length name))
     (wrong-message levels at (at + (3 + length name)) held j w)
 fault-refused depth s k p (inside d j q name held fields r l good o inner) levels zero at e h = absurd (omega arith)
-fault-refused depth s k p (inside d j q name held fields r l good o inner) zero (suc left) at e h = absurd (omega arith)
-fault-refused depth s k p (inside d j q name held fields r l good o inner) (suc levels) (suc left) at e h =
+fault-refused depth s k p (inside d j q name held fields r l good o inner) zero (suc fuel) at e h = absurd (omega arith)
+fault-refused depth s k p (inside d j q name held fields r l good o inner) (suc levels) (suc fuel) at e h =
     let b : length held ≡ 8 + length fields = held-length in
     let i = fault-refused d fields j q inner levels (suc (length held)) (at + (3 + length name) + 8) (omega arith) (omega arith) in
-    into-refused (suc levels) left at name held r good (opens-counted held fields o) j (at + (3 + length name + 8 + q))
+    into-refused (suc levels) fuel at name held r good (opens-counted held fields o) j (at + (3 + length name + 8 + q))
     (open-message levels at (at + (3 + length name)) held fields o ∙ i ∙ ap (refused j) (omega arith))
   where
     held-length : length held ≡ 8 + length fields
@@ -217,12 +217,12 @@ one-held levels at s z f (accepted i) good h (refused k p) t =
 module _ (levels : ℕ) (inner : Inner) (good : (field at : ℕ) (m : List ℕ) (fs : Fields) → inner field at m ≡ accepted fs → GoodMessage levels m fs)
     (below : (at : ℕ) (name held s : List ℕ) → Name name → Counted held
     → FieldsTold (suc levels) at (octets (holder name held) ++ s) (inner at (at + (3 + length name)) held)) where
-  fields-told : (left at : ℕ) (s : List ℕ) → length s < left → FieldsTold (suc levels) at s (fieldsFrom inner left at s)
+  fields-told : (fuel at : ℕ) (s : List ℕ) → length s < fuel → FieldsTold (suc levels) at s (fieldsFrom inner fuel at s)
   unfolding fieldsFrom afterStep FieldsTold
   fields-told zero at s h = absurd (omega arith)
-  fields-told (suc left) at s h = go (nextField s) refl (fields-told left)
+  fields-told (suc fuel) at s h = go (nextField s) refl (fields-told fuel)
     where
-      shorter : (z : Sizes) (f : Parts) (rest : List ℕ) → s ≡ octets f ++ rest → sizes f ≡ z → length (drop (total z) s) < left
+      shorter : (z : Sizes) (f : Parts) (rest : List ℕ) → s ≡ octets f ++ rest → sizes f ≡ z → length (drop (total z) s) < fuel
       shorter z f rest e q =
           let a = field-size f in
           let b = length-octets f in
@@ -231,13 +231,13 @@ module _ (levels : ℕ) (inner : Inner) (good : (field at : ℕ) (m : List ℕ) 
           let l : length s ≡ length (octets f) + length rest = ap length e ∙ length-append (octets f) rest in
           omega arith
 
-      go : (p : Step) → nextField s ≡ p → ((at : ℕ) (r : List ℕ) → length r < left → FieldsTold (suc levels) at r (fieldsFrom inner left at r))
-          → FieldsTold (suc levels) at s (afterStep inner (fieldsFrom inner left) at s p)
+      go : (p : Step) → nextField s ≡ p → ((at : ℕ) (r : List ℕ) → length r < fuel → FieldsTold (suc levels) at r (fieldsFrom inner fuel at r))
+          → FieldsTold (suc levels) at s (afterStep inner (fieldsFrom inner fuel) at s p)
       go Done e later = tt
       go (Fault k) e later = (0, here (suc levels) k s (field-told s k e), omega arith)
       go (Over z) e later =
           let f = step-found s z e in
-          one-leaf (suc levels) at s z f (fieldsFrom inner left (at + total z) (drop (total z) s))
+          one-leaf (suc levels) at s z f (fieldsFrom inner fuel (at + total z) (drop (total z) s))
           (later (at + total z) (drop (total z) s) (shorter z (f .field) (f .rest) (f .divides) (f .sized)))
       go (Into z) e later =
           let f = step-held s z e in
@@ -251,7 +251,7 @@ module _ (levels : ℕ) (inner : Inner) (good : (field at : ℕ) (m : List ℕ) 
           (below at (f .name) m (f .rest) (f .good) (f .measured)) in
           one-held levels at s z f q (λ i y. good at (at + (3 + length (f .name))) m i (x ∙ y))
           (subst (λ (r : List ℕ). FieldsTold (suc levels) at r q) (sym (f .divides)) b)
-          (fieldsFrom inner left (at + total z) (drop (total z) s))
+          (fieldsFrom inner fuel (at + total z) (drop (total z) s))
           (later (at + total z) (drop (total z) s) (shorter z o (f .rest) (f .divides) (f .sized)))
 
 held-told : (levels at : ℕ) (name held s : List ℕ) → Name name → Counted held

@@ -71,10 +71,10 @@ module _ (P : ℕ → Type 0) (three : P 3) (four : P 4) (name : P 15) (rule : P
         in-order P (nestedOf (partsAt s z)) _ _ (below at (at + lead z) (partsAt s z .contents) (inner-counted s z e))
         (later (at + total z) (drop (total z) s))
 
-    fields-refused : (left at : ℕ) (s : List ℕ) → OfReading P (fieldsFrom inner left at s)
+    fields-refused : (fuel at : ℕ) (s : List ℕ) → OfReading P (fieldsFrom inner fuel at s)
     unfolding OfReading fieldsFrom
     fields-refused zero at s = three
-    fields-refused (suc left) at s = step-read (fieldsFrom inner left) (fields-refused left) at s (nextField s) refl (step-refused s)
+    fields-refused (suc fuel) at s = step-read (fieldsFrom inner fuel) (fields-refused fuel) at s (nextField s) refl (step-refused s)
 
   module _ (deep : P 5) (mark : P 13) where
     -- P holds of a header's fault; 0 is none.

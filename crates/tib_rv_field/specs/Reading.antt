@@ -93,10 +93,10 @@ afterStep inner next at s (Over z) = onAccepted (leaf (partsAt s z)) (next (at +
 afterStep inner next at s (Into z) =
     inOrder (nestedOf (partsAt s z)) (inner at (at + lead z) (partsAt s z .contents)) (next (at + total z) (drop (total z) s))
 
--- The fields of one message, from a place on. `left` bounds the fields that are still looked at.
+-- The fields of one message, from a place on. `fuel` bounds the fields that are still looked at.
 unfoldable pub fieldsFrom : Inner → ℕ → ℕ → List ℕ → Reading Fields
 fieldsFrom inner zero at s = refused 3 at
-fieldsFrom inner (suc left) at s = afterStep inner (fieldsFrom inner left) at s (nextField s)
+fieldsFrom inner (suc fuel) at s = afterStep inner (fieldsFrom inner fuel) at s (nextField s)
 
 -- The refusal of a header, 0 where it is good: cut, another magic number, another size than the message has. The size of a nested message
 -- is what gave its octets, so 14 is the outermost message's alone.
