@@ -1,4 +1,4 @@
--- What the answers of a walk, a check and a field tell of the reading that they come from.
+-- What the answers of a walk, a check and a field tell of the reading that they come from, and what a reading tells of its first fault.
 use Prim.Native.Nat.{ℕ, _<_}
 use native.Mathlib.Omega.{arith}
 use mathlib.Core.Path.{_≡_, refl, sym, ap, _∙_}
@@ -44,6 +44,28 @@ module _ {A : Type 0} (count depth : A → ℕ) where
       go : (q : Reading A) → r ≡ q → counts count depth q .refusal ≡ 0 → (x : A) × Whole x
       go (accepted x) f e = (x, exactly x .0 f)
       go (refused k place) f e = let h = positive k place f in absurd (omega arith)
+
+-- A reading that refuses exactly a message that has a first fault, with its number and its place.
+module _ {A : Type 0} (r : Reading A) (Fault : ℕ → ℕ → Type 0) (refuses : (k p : ℕ) → (r ≡ refused k p) ↔ Fault k p) where
+  -- A message has at most one,
+  pub fault-unique : (k p j q : ℕ) → Fault k p → Fault j q → (k ≡ j) × (p ≡ q)
+  fault-unique k p j q a b = let e = refuses k p .1 a in let f = refuses j q .1 b in (cc, cc)
+
+  -- and one exactly where it is not whole.
+  pub fault-exactly : (Whole : A → Type 0) → ((x : A) → (r ≡ accepted x) ↔ Whole x)
+      → ((k : ℕ) × (p : ℕ) × Fault k p) ↔ (((x : A) × Whole x) → ⊥)
+  fault-exactly Whole accepts = (
+    λ a w.
+        let e = refuses (a .0) (a .1) .1 (a .2) in
+        let f = accepts (w .0) .1 (w .1) in
+        let z : _≡_ {A = ℕ} 0 1 = cc in
+        absurd (omega arith),
+    λ none. go none r refl,
+  )
+    where
+      go : (((x : A) × Whole x) → ⊥) → (q : Reading A) → r ≡ q → (k : ℕ) × (p : ℕ) × Fault k p
+      go none (accepted x) e = absurd (none (x, accepts x .0 e))
+      go none (refused k p) e = (k, p, refuses k p .0 e)
 
 -- The answer of a message that is accepted is that for its k-th field.
 pub field-of-kth : {A B : Type 0} (shown : ℕ → B → Field) (fields : A → List (ℕ × B)) (k : ℕ) (r : Reading A) → IsAccepted r

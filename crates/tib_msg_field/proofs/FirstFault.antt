@@ -14,6 +14,7 @@ use Rattle.reading.specs.Reading.{Reading, accepted, refused, onAccepted, messa
 use Rattle.tib_field.specs.Mark.{begins}
 use Rattle.tib_field.specs.Fields.{Each, joined}
 use Rattle.tib_field.proofs.Marks.{mark-begins, begins-mark}
+use Rattle.tib_field.proofs.Answers as answers
 use Rattle.tib_msg_field.specs.declared.Sizes.{Sizes}
 use Rattle.tib_msg_field.specs.declared.Step.{Step}
 use Rattle.tib_msg_field.specs.declared.Step.the-variants.{Done, Fault, Over}
@@ -22,7 +23,7 @@ use Rattle.tib_msg_field.specs.FirstFault.{WrongField, FirstFault, tooLo
 use Rattle.tib_msg_field.specs.Reading.{nextField, total, partsAt, afterStep, fieldsFrom, reading}
 use Rattle.tib_msg_field.specs.internal.Sizes.{sizes}
 use Rattle.tib_msg_field.proofs.Steps.{Found, step-found, step-of-field, parts-of-field, rest-of-field, length-octets}
-use Rattle.tib_msg_field.proofs.Accepted.{field-size, accepted-whole, whole-accepted}
+use Rattle.tib_msg_field.proofs.Accepted.{field-size, accepted-exactly}
 use Rattle.tib_msg_field.proofs.WrongFields.{field-told, wrong-field}
 
 -- ---- the fields
@@ -205,23 +206,8 @@ refused-exactly s k p = (λ e. subst (Told s) e (reading-told s), fault-refused 
 
 -- It has at most one,
 pub first-fault-unique : (s : List ℕ) (k p j q : ℕ) → FirstFault s k p → FirstFault s j q → (k ≡ j) × (p ≡ q)
-first-fault-unique s k p j q a b =
-    let e = fault-refused s k p a in
-    let f = fault-refused s j q b in
-    (cc, cc)
+first-fault-unique s = answers.fault-unique (reading s) (FirstFault s) (refused-exactly s)
 
 -- and one exactly where it is not whole.
 pub fault-exactly : (s : List ℕ) → ((k : ℕ) × (p : ℕ) × FirstFault s k p) ↔ (((fs : List Parts) × Whole s fs) → ⊥)
-unfolding Told
-fault-exactly s = (
-  λ a w.
-      let e = fault-refused s (a .0) (a .1) (a .2) in
-      let f = whole-accepted s (w .0) (w .1) in
-      let z : _≡_ {A = ℕ} 0 1 = cc in
-      absurd (omega arith),
-  λ none. go none (reading s) refl (reading-told s),
-)
-  where
-    go : (((fs : List Parts) × Whole s fs) → ⊥) → (r : Reading (List Parts)) → reading s ≡ r → Told s r → (k : ℕ) × (p : ℕ) × FirstFault s k p
-    go none (accepted fs) e t = absurd (none (fs, accepted-whole s fs e))
-    go none (refused k p) e t = (k, p, t)
+fault-exactly s = answers.fault-exactly (reading s) (FirstFault s) (refused-exactly s) (Whole s) (accepted-exactly s)

@@ -14,6 +14,7 @@ use Rattle.reading.specs.Reading.{Reading, accepted, refused, onAccepted, inOrd
 use Rattle.tib_field.specs.Name.{Name}
 use Rattle.tib_field.specs.Mark.{begins}
 use Rattle.tib_field.proofs.Marks.{mark-begins, begins-mark}
+use Rattle.tib_field.proofs.Answers as answers
 use Rattle.tib_rv_field.specs.declared.Sizes.{Sizes}
 use Rattle.tib_rv_field.specs.declared.Step.{Step}
 use Rattle.tib_rv_field.specs.declared.Step.the-variants.{Done, Fault, Over, Into}
@@ -23,7 +24,7 @@ use Rattle.tib_rv_field.specs.FirstFault as faults
 use Rattle.tib_rv_field.specs.Reading.{nextField, lead, total, partsAt, Inner, nestedOf, afterStep, fieldsFrom, headerFault, messageFrom, reading}
 use Rattle.tib_rv_field.specs.internal.Sizes.{sizes}
 use Rattle.tib_rv_field.proofs.Steps.{Found, Held, Counted, step-found, step-held, step-of-leaf, step-of-held, parts-of-field, rest-of-field, length-octets}
-use Rattle.tib_rv_field.proofs.Accepted.{GoodMessage, GoodHeader, leaf-parts, held-parts, header-good, good-header, field-size, message-counted, accepted-good, good-accepted, accepted-whole, whole-accepted}
+use Rattle.tib_rv_field.proofs.Accepted.{GoodMessage, GoodHeader, leaf-parts, held-parts, header-good, good-header, field-size, message-counted, accepted-good, good-accepted, accepted-exactly}
 use Rattle.tib_rv_field.proofs.WrongFields.{field-told, wrong-field, header-told, wrong-header}
 
 -- ---- a header that is good
@@ -333,23 +334,8 @@ refused-exactly s k p = (λ e. subst (Told s) e (reading-told s), refused-by s k
 
 -- It has at most one,
 pub first-fault-unique : (s : List ℕ) (k p j q : ℕ) → FirstFault s k p → FirstFault s j q → (k ≡ j) × (p ≡ q)
-first-fault-unique s k p j q a b =
-    let e = refused-by s k p a in
-    let f = refused-by s j q b in
-    (cc, cc)
+first-fault-unique s = answers.fault-unique (reading s) (FirstFault s) (refused-exactly s)
 
 -- and one exactly where it is not whole.
 pub fault-exactly : (s : List ℕ) → ((k : ℕ) × (p : ℕ) × FirstFault s k p) ↔ (((fs : Fields) × Whole s fs) → ⊥)
-unfolding Told
-fault-exactly s = (
-  λ a w.
-      let e = refused-by s (a .0) (a .1) (a .2) in
-      let f = whole-accepted s (w .0) (w .1) in
-      let z : _≡_ {A = ℕ} 0 1 = cc in
-      absurd (omega arith),
-  λ none. go none (reading s) refl (reading-told s),
-)
-  where
-    go : (((fs : Fields) × Whole s fs) → ⊥) → (r : Reading Fields) → reading s ≡ r → Told s r → (k : ℕ) × (p : ℕ) × FirstFault s k p
-    go none (accepted fs) e t = absurd (none (fs, accepted-whole s fs e))
-    go none (refused k p) e t = (k, p, t)
+fault-exactly s = answers.fault-exactly (reading s) (FirstFault s) (refused-exactly s) (Whole s) (accepted-exactly s)
