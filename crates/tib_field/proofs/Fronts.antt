@@ -9,7 +9,6 @@ use Rattle.tib_field.specs.Name.{Name, nameFront, afterName}
 use Rattle.tib_field.specs.declared.Front.{Front}
 use Rattle.tib_field.specs.declared.Front.the-variants.{End, Fault, Name as Sized}
 use Rattle.tib_field.proofs.Names.{front-end, front-found, front-of-name}
-use Rattle.tib_field.proofs.Refusals.{OfName, name-refused}
 use Rattle.octets.proofs.Slices.{tail-part}
 
 module _ {A : Type 0} (done : A) (fault : ℕ → A) (after : ℕ → List ℕ → A) where
@@ -73,14 +72,3 @@ module _ {A : Type 0} (done : A) (fault : ℕ → A) (after : ℕ → List ℕ �
       go End f g = front-end s f
       go (Fault k) f g = absurd (a k g)
       go (Sized n) f g = absurd (b n (drop (1 + n) s) g)
-
-  -- What holds of the end, of each fault that a name is refused with and of all that stands after a name holds of what is found.
-  pub of-next : (P : ℕ → Type 0) (Q : A → Type 0) → P 3 → P 15 → Q done → ((k : ℕ) → P k → Q (fault k))
-      → ((n : ℕ) (r : List ℕ) → Q (after n r)) → (s : List ℕ) → Q (next s)
-  unfolding afterName OfName
-  of-next P Q three name a b c s = go (nameFront s) (name-refused P three name s)
-    where
-      go : (f : Front) → OfName P f → Q (afterName done fault after s f)
-      go End p = a
-      go (Fault k) p = b k p
-      go (Sized n) p = c n (drop (1 + n) s)

@@ -4,7 +4,6 @@ pub mod Names
 pub mod Zeros
 pub mod Standing
 pub mod Choices
-pub mod Refusals
 pub mod Fronts
 pub mod Fields
 pub mod Kths

@@ -53,3 +53,10 @@ module _ {A : Type 0} (done : A) (fault : ℕ → A) (after : ℕ → List ℕ �
       bad true e = absurd (h (named-name name e))
       bad false e = e
   name-wrong later k s (named j name r good w) = next-of-name done fault after name r good ∙ later j (length name) r w
+
+-- What holds of 3, 15 and each number of what is wrong after a name holds of each number of what is wrong.
+pub of-named : (After : ℕ → List ℕ → Type 0) (P : ℕ → Type 0) → P 3 → P 15 → ((k : ℕ) (s : List ℕ) → After k s → P k) → (k : ℕ) (s : List ℕ)
+    → WrongNamed After k s → P k
+of-named After P three name later k s (nameCut n r h) = three
+of-named After P three name later k s (nameBad n r h) = name
+of-named After P three name later k s (named j n r good w) = later j r w

@@ -19,7 +19,7 @@ use Rattle.tib_msg_field.specs.declared.Step.the-variants.{Done, Fault, 
 use Rattle.tib_field.specs.Fields.{Each, joined}
 use Rattle.tib_field.proofs.Fields.{Row}
 use Rattle.tib_field.proofs.Choices.{fails}
-use Rattle.tib_field.proofs.Refusals.{not-accepted}
+use Rattle.tib_field.proofs.Answers.{not-accepted}
 use Rattle.tib_msg_field.specs.Layout.{Parts, octets, Allowed, magic, Whole}
 use Rattle.tib_msg_field.specs.Reading.{nextField, total, partsAt, afterStep, fieldsFrom, reading}
 use Rattle.tib_msg_field.specs.internal.Sizes.{sizes}

@@ -14,7 +14,7 @@ use Rattle.reading.specs.Reading.{Reading, accepted, refused, onAccepted, inOrd
 use Rattle.tib_field.specs.Mark.{begins}
 use Rattle.tib_field.proofs.Marks.{mark-begins, begins-mark}
 use Rattle.tib_field.proofs.Choices.{passes, fails}
-use Rattle.tib_field.proofs.Refusals.{not-accepted}
+use Rattle.tib_field.proofs.Answers.{not-accepted}
 use Rattle.tib_rv_field.specs.declared.Sizes.{Sizes}
 use Rattle.tib_rv_field.specs.declared.Step.{Step}
 use Rattle.tib_rv_field.specs.declared.Step.the-variants.{Done, Fault, Over, Into}

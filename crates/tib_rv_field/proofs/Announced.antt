@@ -1,17 +1,13 @@
 -- The size that a nested message announces is what gave its octets, so it is their count.
 use Prim.Native.Nat.{ℕ}
 use mathlib.Core.Path.{_≡_, sym, ap₂, _∙_, subst}
-use mathlib.Core.Bool.{Bool, true, false, cond, not}
 use mathlib.Core.List.{List}
-use lib.ListN.{length, take, drop}
-use lib.Dec.{ltb}
-use borrow.Author.Tests.{eq-eqb}
+use lib.ListN.{length, take}
 use Rattle.octets.specs.Number.{number}
-use Rattle.tib_field.specs.Mark.{begins}
 use Rattle.tib_rv_field.specs.declared.Sizes.{Sizes}
 use Rattle.tib_rv_field.specs.declared.Step.the-variants.{Into}
-use Rattle.tib_rv_field.specs.Layout.{Parts, holder, magic}
-use Rattle.tib_rv_field.specs.Reading.{nextField, partsAt, headerFault}
+use Rattle.tib_rv_field.specs.Layout.{Parts, holder}
+use Rattle.tib_rv_field.specs.Reading.{nextField, partsAt}
 use Rattle.tib_rv_field.proofs.Steps.{Counted, step-held, parts-of-field}
 
 module _ (s : List ℕ) (z : Sizes) (e : nextField s ≡ Into z) where
@@ -26,14 +22,3 @@ module _ (s : List ℕ) (z : Sizes) (e : nextField s ≡ Into z) where
   -- A nested message announces exactly the octets that it has.
   pub inner-size : number (take 4 (partsAt s z .contents)) ≡ length (partsAt s z .contents)
   inner-size = inner-counted .same
-
--- The header of a message that announces the octets that it has is refused with 3 or 13, or not at all: its fault is one of 0, 3 and 13.
-pub counted-header : (P : ℕ → Type 0) → P 0 → P 3 → P 13 → (m : List ℕ) → number (take 4 m) ≡ length m → P (headerFault m)
-unfolding headerFault
-counted-header P a b c m e =
-    rw (eq-eqb (number (take 4 m)) (length m) e) (go (ltb (length m) 8) (begins magic (drop 4 m)))
-  where
-    go : (t u : Bool) → P (cond t 3 (cond (not u) 13 0))
-    go true u = b
-    go false true = a
-    go false false = c

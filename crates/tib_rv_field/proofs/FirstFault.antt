@@ -57,7 +57,7 @@ header-opens s h =
     }
 
 -- What a field of type 1 holds, by its first four octets.
-holds-counted : (name held : List ℕ) → Holds name held → Counted held
+pub holds-counted : (name held : List ℕ) → Holds name held → Counted held
 holds-counted name held h =
     let e = h .divides in
     let w = h .width in

@@ -3,6 +3,6 @@ pub mod Steps
 pub mod Accepted
 pub mod Fronts
 pub mod Announced
-pub mod Refusals
 pub mod WrongFields
 pub mod FirstFault
+pub mod Refusals
