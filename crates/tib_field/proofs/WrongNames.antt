@@ -9,36 +9,41 @@ use lib.Seq.{take-at, length-take-le}
 use lib.Dec.{ltb}
 use borrow.Author.Tests.{ltb-true, ltb-false, lt-ltb, le-ltb}
 use Rattle.tib_field.specs.Name as names
-use Rattle.tib_field.specs.Name.{Name, nameFront, afterName}
+use Rattle.tib_field.specs.Name.{nameFront, afterName}
 use Rattle.tib_field.specs.WrongName.{WrongNamed, nameCut, nameBad, named}
 use Rattle.tib_field.specs.declared.Front.the-variants.{Fault, Name as Sized}
 use Rattle.tib_field.proofs.Names.{named-name, name-named}
 use Rattle.tib_field.proofs.Fronts.{next, next-of-name}
 
 module _ {A : Type 0} (done : A) (fault : ℕ → A) (after : ℕ → List ℕ → A) (After : ℕ → List ℕ → Type 0) where
-  -- What holds of the end, of each fault of the octets and of all that stands after a name in them holds of what is found.
-  pub name-told : (Q : A → Type 0) (s : List ℕ) → Q done → ((k : ℕ) → WrongNamed After k s → Q (fault k))
-      → ((name rest : List ℕ) → s ≡ length name ∷ (name ++ rest) → Name name → Q (after (length name) rest)) → Q (next done fault after s)
+  -- Each fault that is found is wrong, where each that is found after a name is wrong there. No two faults are the same, and none is the end.
+  pub name-told : ((k : ℕ) → done ≡ fault k → ⊥) → ((j k : ℕ) → fault j ≡ fault k → j ≡ k)
+      → ((k n : ℕ) (s : List ℕ) → after n s ≡ fault k → After k s) → (k : ℕ) (s : List ℕ) → next done fault after s ≡ fault k → WrongNamed After k s
   unfolding nameFront afterName
-  name-told Q [] a b c = a
-  name-told Q (n ∷ s) a b c = cut (ltb (length s) n) refl
+  name-told ended same later k [] e = absurd (ended k e)
+  name-told ended same later k (n ∷ s) e = cut (ltb (length s) n) refl e
     where
+      wrong : (j : ℕ) → fault j ≡ fault k → WrongNamed After j (n ∷ s) → WrongNamed After k (n ∷ s)
+      wrong j f w = subst (λ (i : ℕ). WrongNamed After i (n ∷ s)) (same j k f) w
+
       name : length (take n s) ≡ n → (t : Bool) → names.named (take n s) ≡ t
-          → Q (afterName done fault after (n ∷ s) (cond t (Sized n) (Fault 15)))
-      name l true e =
-          let d : n ∷ s ≡ length (take n s) ∷ (take n s ++ drop n s) = rw (l, take-append-drop n s) refl in
-          let k : 1 + n ≡ suc n = omega arith in
-          let q : Q (after n (drop n s)) = subst (λ (x : ℕ). Q (after x (drop n s))) l (c (take n s) (drop n s) d (named-name (take n s) e)) in
-          rw k q
-      name l false e =
-          let g : WrongNamed After 15 (length (take n s) ∷ (take n s ++ drop n s)) =
-          nameBad (take n s) (drop n s) (λ x. let f = name-named (take n s) x in let z : _≡_ {A = ℕ} 0 1 = cc in absurd (omega arith)) in
-          b 15 (rw (l, take-append-drop n s) at g)
+          → afterName done fault after (n ∷ s) (cond t (Sized n) (Fault 15)) ≡ fault k → WrongNamed After k (n ∷ s)
+      name l true e f =
+          let i : 1 + n ≡ suc n = omega arith in
+          let g : after n (drop n s) ≡ fault k = rw i at f in
+          let w : WrongNamed After k (length (take n s) ∷ (take n s ++ drop n s)) =
+          named k (take n s) (drop n s) (named-name (take n s) e) (later k n (drop n s) g) in
+          rw (l, take-append-drop n s) at w
+      name l false e f =
+          let w : WrongNamed After 15 (length (take n s) ∷ (take n s ++ drop n s)) =
+          nameBad (take n s) (drop n s) (λ x. let g = name-named (take n s) x in let z : _≡_ {A = ℕ} 0 1 = cc in absurd (omega arith)) in
+          wrong 15 f (rw (l, take-append-drop n s) at w)
 
       cut : (t : Bool) → ltb (length s) n ≡ t
-          → Q (afterName done fault after (n ∷ s) (cond t (Fault 3) (cond (names.named (take n s)) (Sized n) (Fault 15))))
-      cut true e = b 3 (nameCut n s (ltb-true (length s) n e))
-      cut false e = name (length-take-le n s (ltb-false (length s) n e)) (names.named (take n s)) refl
+          → afterName done fault after (n ∷ s) (cond t (Fault 3) (cond (names.named (take n s)) (Sized n) (Fault 15))) ≡ fault k
+          → WrongNamed After k (n ∷ s)
+      cut true e f = wrong 3 f (nameCut n s (ltb-true (length s) n e))
+      cut false e f = name (length-take-le n s (ltb-false (length s) n e)) (names.named (take n s)) refl f
 
   -- What is wrong is refused, where what is wrong after a name is.
   pub name-wrong : ((k n : ℕ) (s : List ℕ) → After k s → after n s ≡ fault k) → (k : ℕ) (s : List ℕ) → WrongNamed After k s

@@ -23,7 +23,8 @@ use Rattle.tib_field.proofs.Answers.{not-accepted}
 use Rattle.tib_msg_field.specs.Layout.{Parts, octets, Allowed, magic, Whole}
 use Rattle.tib_msg_field.specs.Reading.{nextField, total, partsAt, afterStep, fieldsFrom, reading}
 use Rattle.tib_msg_field.specs.internal.Sizes.{sizes}
-use Rattle.tib_msg_field.proofs.Steps.{Found, step-found, step-of-field, step-of-end, step-done, parts-of-field, rest-of-field, length-octets}
+use Rattle.tib_msg_field.proofs.Steps.{Found, step-found, step-of-field, step-of-end, parts-of-field, rest-of-field, length-octets}
+use Rattle.tib_msg_field.proofs.WrongFields.{step-done}
 
 -- Octets that are allowed fields joined.
 abbrev pub Fields : List ℕ → List Parts → Type 0

@@ -1,7 +1,7 @@
 pub mod Hints
 pub mod Steps
+pub mod WrongFields
 pub mod Accepted
 pub mod Fronts
-pub mod WrongFields
 pub mod FirstFault
 pub mod Refusals

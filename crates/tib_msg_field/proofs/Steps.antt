@@ -2,7 +2,6 @@
 use Prim.Native.Nat.{ℕ, suc, _+_, _-_}
 use native.Mathlib.Omega.{arith}
 use mathlib.Core.Path.{_≡_, refl, sym, ap, subst}
-use mathlib.Core.Bool.{cond}
 use mathlib.Core.List.{List, [], _∷_, _++_, append-assoc}
 use lib.ListN.{length, take, drop, length-append, take-append-drop}
 use lib.Seq.{take-at, drop-at, length-take-le}
@@ -10,10 +9,9 @@ use lib.Dec.{ltb}
 use borrow.Author.Tests.{ltb-false, le-ltb}
 use Rattle.octets.specs.Number.{number}
 use Rattle.tib_field.specs.Name.{Name, nameFront, afterName}
-use Rattle.tib_field.proofs.Choices.{either, passes, fails}
-use Rattle.tib_field.proofs.Fronts.{next-of-name, name-found, next-done}
+use Rattle.tib_field.proofs.Choices.{passes, fails}
+use Rattle.tib_field.proofs.Fronts.{next-of-name, name-found}
 use Rattle.tib_msg_field.specs.declared.Sizes.{Sizes}
-use Rattle.tib_msg_field.specs.declared.Step.{Step}
 use Rattle.tib_msg_field.specs.declared.Step.the-variants.{Done, Fault, Over}
 use Rattle.tib_msg_field.specs.declared.HintPart.{HintPart}
 use Rattle.tib_msg_field.specs.declared.HintPart.the-variants.{Fault as HintFault, Size}
@@ -113,40 +111,6 @@ step-of-field f rest a =
 pub step-of-end : nextField [] ≡ Done
 unfolding nextField afterName nameFront
 step-of-end = refl
-
-NotDone : Step → Type 0
-NotDone Done = ⊥
-NotDone (Fault k) = Unit {0}
-NotDone (Over z) = Unit {0}
-
-hint-not-done : (n c w l : ℕ) (p : HintPart) → NotDone (withHint n c w l p)
-unfolding withHint NotDone
-hint-not-done n c w l (HintFault k) = tt
-hint-not-done n c w l (Size h) = tt
-
-data-not-done : (n c w l : ℕ) (s : List ℕ) → NotDone (fromData n c w l s)
-unfolding fromData NotDone
-data-not-done n c w l s =
-    either NotDone (ltb (length s) l) (Fault 4) (withHint n c w l (hintAt c l (drop l s))) tt (hint-not-done n c w l (hintAt c l (drop l s)))
-
-size-not-done : (n c w : ℕ) (s : List ℕ) → NotDone (fromSize n c w s)
-unfolding fromSize NotDone
-size-not-done n c w s =
-    let l = number (take w s) in
-    let p = fromData n c w l (drop w s) in
-    let t = sizeAllowed (kind c) l in
-    either NotDone (ltb (length s) w) (Fault 3) (cond t p (Fault 16)) tt (either NotDone t p (Fault 16) (data-not-done n c w l (drop w s)) tt)
-
-type-not-done : (n : ℕ) (s : List ℕ) → NotDone (fromType n s)
-unfolding fromType NotDone
-type-not-done n [] = tt
-type-not-done n (c ∷ s) =
-    either NotDone (typeAllowed c) (fromSize n c (sizeWidth c) s) (Fault 16) (size-not-done n c (sizeWidth c) s) tt
-
-pub step-done : (s : List ℕ) → nextField s ≡ Done → s ≡ []
-unfolding nextField NotDone
-step-done s e =
-    next-done Done Fault fromType s (λ k f. subst NotDone f tt) (λ n r f. subst NotDone f (type-not-done n r)) e
 
 pub length-octets : (f : Parts) → length (octets f) ≡ total (sizes f)
 unfolding octets total sizes

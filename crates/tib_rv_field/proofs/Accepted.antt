@@ -21,7 +21,8 @@ use Rattle.tib_rv_field.specs.declared.Step.the-variants.{Done, Fault, O
 use Rattle.tib_rv_field.specs.Layout.{Parts, octets, holder, magic, Fields, end, leaf, nested, joined, message, depth, Header, Allowed, Whole}
 use Rattle.tib_rv_field.specs.Reading.{nextField, lead, total, partsAt, Inner, nestedOf, afterStep, fieldsFrom, headerFault, messageFrom, reading}
 use Rattle.tib_rv_field.specs.internal.Sizes.{sizes}
-use Rattle.tib_rv_field.proofs.Steps.{Found, Held, Counted, step-found, step-held, step-of-leaf, step-of-held, step-of-end, step-done, parts-of-field, rest-of-field}
+use Rattle.tib_rv_field.proofs.Steps.{Found, Held, Counted, step-found, step-held, step-of-leaf, step-of-held, step-of-end, parts-of-field, rest-of-field}
+use Rattle.tib_rv_field.proofs.WrongFields.{step-done}
 
 -- Octets that are allowed fields joined, in a message that may be `levels` messages deep.
 pub record Good (levels : ℕ) (s : List ℕ) (fs : Fields) : Type 0 where

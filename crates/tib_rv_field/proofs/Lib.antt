@@ -1,8 +1,8 @@
 pub mod Counts
 pub mod Steps
+pub mod WrongFields
 pub mod Accepted
 pub mod Fronts
 pub mod Announced
-pub mod WrongFields
 pub mod FirstFault
 pub mod Refusals

@@ -10,8 +10,8 @@ use lib.Dec.{eqb, ltb}
 use borrow.Author.Tests.{ltb-false, le-ltb, eqb-true, eqb-false, ne-eqb, le-leb}
 use Rattle.octets.specs.Number.{number}
 use Rattle.tib_field.specs.Name.{Name, nameFront, afterName}
-use Rattle.tib_field.proofs.Choices.{either, passes, fails}
-use Rattle.tib_field.proofs.Fronts.{next-of-name, AfterName, name-found, next-done}
+use Rattle.tib_field.proofs.Choices.{passes, fails}
+use Rattle.tib_field.proofs.Fronts.{next-of-name, AfterName, name-found}
 use Rattle.tib_rv_field.specs.declared.Sizes.{Sizes}
 use Rattle.tib_rv_field.specs.declared.Step.{Step}
 use Rattle.tib_rv_field.specs.declared.Step.the-variants.{Done, Fault, Over, Into}
@@ -240,39 +240,6 @@ step-of-held name m rest good e =
 pub step-of-end : nextField [] ≡ Done
 unfolding nextField afterName nameFront
 step-of-end = refl
-
--- Only where no octet is left does the reading end.
-unfoldable Goes : Step → Type 0
-Goes Done = ⊥
-Goes (Fault k) = Unit {0}
-Goes (Over z) = Unit {0}
-Goes (Into z) = Unit {0}
-
-found-goes : (n c m k : ℕ) → Goes (found n c m k)
-unfolding found Goes
-found-goes n c m k =
-    either Goes (eqb c 1) (Into (record { name = n; octet = c; width = 1; contents = k }))
-    (Over (record { name = n; octet = c; width = 1 + following m; contents = k - own m })) tt tt
-
-count-goes : (n c m k left : ℕ) → Goes (fromCount n c m k left)
-unfolding fromCount Goes
-count-goes n c m k left =
-    let p = cond (ltb left (k - own m)) (Fault 4) (found n c m k) in
-    either Goes (countAllowed c m k) p (Fault 16) (either Goes (ltb left (k - own m)) (Fault 4) (found n c m k) tt (found-goes n c m k)) tt
-
-type-goes : (n : ℕ) (s : List ℕ) → Goes (fromType n s)
-unfolding fromType fromSize Goes
-type-goes n [] = tt
-type-goes n (c ∷ []) = tt
-type-goes n (c ∷ m ∷ s) =
-    let k = fromCount n c m (counted m s) (length s - following m) in
-    let p = cond (ltb (length s) (following m)) (Fault 3) k in
-    either Goes (ltb 0x7a m) (Fault 16) p tt
-    (either Goes (ltb (length s) (following m)) (Fault 3) k tt (count-goes n c m (counted m s) (length s - following m)))
-
-pub step-done : (s : List ℕ) → nextField s ≡ Done → s ≡ []
-unfolding nextField Goes
-step-done s e = next-done Done Fault fromType s (λ k f. subst Goes f tt) (λ n r f. subst Goes f (type-goes n r)) e
 
 pub length-octets : (f : Parts) → length (octets f) ≡ total (sizes f)
 unfolding octets total lead sizes

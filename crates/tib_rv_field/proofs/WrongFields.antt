@@ -11,9 +11,9 @@ use borrow.Author.Tests.{le-leb, eqb-true, eqb-false, eq-eqb, ne-eqb, ltb-true, 
 use Rattle.octets.specs.Number.{number}
 use Rattle.octets.proofs.Slices.{length-zero}
 use Rattle.tib_field.specs.Mark.{begins}
-use Rattle.tib_field.specs.WrongName.{named}
 use Rattle.tib_field.proofs.Marks.{mark-begins, begins-mark}
 use Rattle.tib_field.proofs.Choices.{either}
+use Rattle.tib_field.proofs.Fronts.{next-done}
 use Rattle.tib_field.proofs.WrongNames.{name-told, name-wrong}
 use Rattle.tib_rv_field.specs.declared.Step.{Step}
 use Rattle.tib_rv_field.specs.declared.Step.the-variants.{Done, Fault, Over, Into}
@@ -78,16 +78,16 @@ module _ (c m : ℕ) (tail : List ℕ) (low : m ≤ 0x7a) (wide : length tail �
 
 -- ---- what a step refuses is wrong
 
--- The octets from a part on are wrong with the number that they are refused with.
+-- The octets from a part on are wrong with the number that they are refused with, and are not the end.
 StepTold : (ℕ → Type 0) → Step → Type 0
-StepTold P Done = Unit {0}
+StepTold P Done = ⊥
 StepTold P (Fault k) = P k
 StepTold P (Over z) = Unit {0}
 StepTold P (Into z) = Unit {0}
 
 told-map : (P Q : ℕ → Type 0) → ((k : ℕ) → P k → Q k) → (x : Step) → StepTold P x → StepTold Q x
 unfolding StepTold
-told-map P Q f Done h = tt
+told-map P Q f Done h = h
 told-map P Q f (Fault k) h = f k h
 told-map P Q f (Over z) h = tt
 told-map P Q f (Into z) h = tt
@@ -148,12 +148,16 @@ type-told n (c ∷ s) =
 
 pub field-told : (s : List ℕ) (k : ℕ) → nextField s ≡ Fault k → WrongField k s
 unfolding StepTold nextField
-field-told s k e =
-    subst (StepTold (λ (j : ℕ). WrongField j s)) e
-    (name-told Done Fault fromType WrongType (StepTold (λ (j : ℕ). WrongField j s)) s tt (λ j h. h)
-    (λ name rest d good.
-    told-map (λ (j : ℕ). WrongType j rest) (λ (j : ℕ). WrongField j s)
-    (λ j h. subst (WrongField j) (sym d) (named j name rest good h)) (fromType (length name) rest) (type-told (length name) rest)))
+field-told s k =
+    name-told Done Fault fromType WrongType (λ j f. let z : _≡_ {A = ℕ} 0 1 = cc in absurd (omega arith)) (λ i j f. cc)
+    (λ j n r f. subst (StepTold (λ (i : ℕ). WrongType i r)) f (type-told n r)) k s
+
+-- Only where no octet is left does a step find the end.
+pub step-done : (s : List ℕ) → nextField s ≡ Done → s ≡ []
+unfolding StepTold nextField
+step-done s =
+    next-done Done Fault fromType s (λ k f. let z : _≡_ {A = ℕ} 0 1 = cc in absurd (omega arith))
+    (λ n r f. subst (StepTold (λ (k : ℕ). WrongType k r)) f (type-told n r))
 
 -- ---- what is wrong is refused by a step
 
