@@ -19,12 +19,11 @@ use Rattle.hproto_table.specs.Repeat.{distinct}
 use Rattle.hproto_table.specs.Valid.{allInRange}
 use Rattle.hproto_table.specs.Records.{recordFor, recordsFor, IsTable}
 use Rattle.hproto_table.specs.FaultyTable.{FaultyTable}
-use Rattle.hproto_table.specs.internal.FirstRepeat.{firstRepeat}
 use Rattle.hproto_table.specs.declared.Loaded.{Loaded}
-use Rattle.hproto_table.proofs.Bools.{and-left, and-right, or-right, or-neither, eqb-swap}
-use Rattle.hproto_table.proofs.Repeat.{seen-append, seen-one, distinct-is}
+use Rattle.hproto_table.proofs.Bools.{and-left, and-right, or-right}
+use Rattle.hproto_table.proofs.Repeat.{distinct-snoc, distinct-last}
 use Rattle.hproto_table.proofs.Load.{length-words, wellFormed-range, load-fault}
-use Rattle.hproto_table.proofs.Valid.{range-snoc, distinct-snoc, wellFormed-of, unseen-of, for-wellFormed, word-small, records-length, records-wellFormed, records-words}
+use Rattle.hproto_table.proofs.Valid.{range-snoc, wellFormed-of, unseen-of, for-wellFormed, word-small, records-length, records-wellFormed, records-words}
 use Rattle.hproto_table.proofs.Records.{wellFormed-record, record-octets, wellFormed-front, WellFormedBefore, load-exactly}
 
 -- ---- the last word of a table
@@ -33,16 +32,6 @@ range-last : (ws : List ℕ) (w : ℕ) → allInRange (ws ++ (w ∷ [])) ≡ tru
 unfolding allInRange
 range-last [] w e = and-left (inRange (entry w)) true e
 range-last (x ∷ ws) w e = range-last ws w (and-right (inRange (entry x)) (allInRange (ws ++ (w ∷ []))) e)
-
-distinct-last : (ws : List ℕ) (w : ℕ) → distinct (ws ++ (w ∷ [])) ≡ true → seen (pair w) ws ≡ false
-unfolding distinct seen
-distinct-last [] w e = refl
-distinct-last (x ∷ ws) w e =
-    let more = ws ++ (w ∷ []) in
-    let u : seen (pair x) more ≡ false = not-true (seen (pair x) more) (and-left (not (seen (pair x) more)) (distinct more) e) in
-    let v = or-right (seen (pair x) ws) (seen (pair x) (w ∷ [])) (sym (seen-append (pair x) ws (w ∷ [])) ∙ u) in
-    or-neither (eqb (pair x) (pair w)) (seen (pair w) ws) (eqb-swap (pair x) (pair w) ∙ sym (seen-one (pair x) w) ∙ v)
-    (distinct-last ws w (and-right (not (seen (pair x) more)) (distinct more) e))
 
 -- ---- the records before the one at i, and this one
 
@@ -170,12 +159,9 @@ module _ (ws rest : List ℕ) (good : IsTable (recordsFor ws) ws) where
       → load whole ≡ refused (8 * length ws)
   unfolding wordsBefore
   refused-after o more bad =
-      load-fault whole (length ws) (good .few) (all-before .formed) (ap firstRepeat words-are ∙ none)
+      load-fault whole (length ws) (good .few) (all-before .formed) (ap distinct words-are ∙ good .apart)
       (rw (length-append (recordsFor ws) rest, records-length ws) (omega arith)) (go (faulty whole (length ws)) refl)
     where
-      none : firstRepeat ws ≡ length ws
-      none = eqb-true (firstRepeat ws) (length ws) (sym (distinct-is ws) ∙ good .apart)
-
       from-here : drop (8 * length ws) whole ≡ rest
       from-here = drop-at (recordsFor ws) rest (8 * length ws) (records-length ws)
 

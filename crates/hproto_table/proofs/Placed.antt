@@ -1,4 +1,4 @@
--- The loader's answer where it refuses nothing.
+-- The loader's answer where it refuses nothing, and where it refuses.
 use Prim.Native.Nat.{ℕ, zero, suc, _*_}
 use native.Mathlib.Omega.{arith}
 use mathlib.Core.Path.{_≡_, refl, sym, _∙_, subst}
@@ -12,13 +12,26 @@ use Rattle.hproto_table.specs.Valid.{valid}
 use Rattle.hproto_table.specs.declared.Loaded.{Loaded}
 use Rattle.hproto_table.proofs.Valid.{loadable-valid}
 
+-- What holds of each refusal and of each table that is accepted holds of the loader's answer.
+module _ (P : Loaded → Type 0) (refuses : (place : ℕ) → P (refused place)) (accepts : (ws : List ℕ) → P (accepted ws)) where
+  either : (b : Bool) (x y : Loaded) → P x → P y → P (cond b x y)
+  either true x y p q = p
+  either false x y p q = q
+
+  from-each : (left i : ℕ) (s : List ℕ) → P (loadFrom left i s)
+  unfolding loadFrom
+  from-each zero i s = refuses (8 * i)
+  from-each (suc left) i s =
+      either (leb (length s) (8 * i)) (accepted (wordsBefore s i)) (cond (faulty s i) (refused (8 * i)) (loadFrom left (suc i) s)) (accepts (wordsBefore s i))
+      (either (faulty s i) (refused (8 * i)) (loadFrom left (suc i) s) (refuses (8 * i)) (from-each left (suc i) s))
+
+  load-each : (s : List ℕ) → P (load s)
+  unfolding load
+  load-each s = from-each 65 0 s
+
 -- An answer that is no refusal has place 0.
 unfoldable Placed : Loaded → Type 0
 Placed l = l .refusal ≡ 0 → l ≡ record { refusal = 0; place = 0; table = l .table }
-
-either-placed : (b : Bool) (x y : Loaded) → Placed x → Placed y → Placed (cond b x y)
-either-placed true x y p q = p
-either-placed false x y p q = q
 
 refused-placed : (place : ℕ) → Placed (refused place)
 unfolding Placed refused
@@ -28,15 +41,24 @@ accepted-placed : (ws : List ℕ) → Placed (accepted ws)
 unfolding Placed accepted
 accepted-placed ws e = refl
 
-load-placed : (left i : ℕ) (s : List ℕ) → Placed (loadFrom left i s)
-unfolding loadFrom
-load-placed zero i s = refused-placed (8 * i)
-load-placed (suc left) i s =
-    either-placed (leb (length s) (8 * i)) (accepted (wordsBefore s i)) (cond (faulty s i) (refused (8 * i)) (loadFrom left (suc i) s)) (accepted-placed (wordsBefore s i))
-    (either-placed (faulty s i) (refused (8 * i)) (loadFrom left (suc i) s) (refused-placed (8 * i)) (load-placed left (suc i) s))
-
 pub loaded-valid : (octets : List ℕ) (l : Loaded) → Octets octets → l ≡ load octets → l .refusal ≡ 0 → valid (l .table) ≡ true
-unfolding Loadable load Placed
+unfolding Loadable Placed
 loaded-valid octets l o e z =
-    let f = subst Placed (sym e) (load-placed 65 0 octets) in
+    let f = subst Placed (sym e) (load-each Placed refused-placed accepted-placed octets) in
     loadable-valid (l .table) (octets, o, sym e ∙ f z)
+
+-- The loader refuses with 2 alone.
+unfoldable Two : Loaded → Type 0
+Two l = (l .refusal ≡ 0 → ⊥) → l .refusal ≡ 2
+
+refused-two : (place : ℕ) → Two (refused place)
+unfolding Two refused
+refused-two place ne = refl
+
+accepted-two : (ws : List ℕ) → Two (accepted ws)
+unfolding Two accepted
+accepted-two ws ne = absurd (ne refl)
+
+pub load-two : (table : List ℕ) → (load table .refusal ≡ 0 → ⊥) → load table .refusal ≡ 2
+unfolding Two
+load-two table ne = load-each Two refused-two accepted-two table ne

@@ -14,13 +14,12 @@ use Rattle.octets.proofs.Number.{octets-append, octets-octetsOf, number-octetsO
 use Rattle.hproto_table.specs.Entry.{Entry, entry}
 use Rattle.hproto_table.specs.Load.{inRange, recordAt, wordAt, wellFormed, wordsBefore, pair, seen, faulty, tableOf, accepted, refused, loadFrom, load, Loadable}
 use Rattle.hproto_table.specs.Repeat.{distinct}
-use Rattle.hproto_table.specs.internal.FirstRepeat.{firstRepeat}
 use Rattle.hproto_table.specs.Valid.{allInRange, allZero, valid}
 use Rattle.hproto_table.specs.Records.{recordFor, recordsFor}
 use Rattle.hproto_table.specs.declared.Table.{Table}
 use Rattle.hproto_table.specs.declared.Loaded.{Loaded}
-use Rattle.hproto_table.proofs.Bools.{and-left, and-right, and-four, and-both, or-left, or-right, or-neither, not-of-false, eqb-swap}
-use Rattle.hproto_table.proofs.Repeat.{seen-append, seen-one, distinct-is}
+use Rattle.hproto_table.proofs.Bools.{and-left, and-right, and-four, and-both, or-left, or-right}
+use Rattle.hproto_table.proofs.Repeat.{distinct-snoc}
 use Rattle.hproto_table.proofs.Load.{length-words, load-whole, wellFormed-range}
 
 -- ---- a table that is loaded is valid
@@ -32,19 +31,6 @@ range-snoc (x ∷ ws) w e h =
     let a = inRange (entry x) in
     let b = allInRange ws in
     and-both a (allInRange (ws ++ (w ∷ []))) (and-left a b e) (range-snoc ws w (and-right a b e) h)
-
-pub distinct-snoc : (ws : List ℕ) (w : ℕ) → distinct ws ≡ true → seen (pair w) ws ≡ false → distinct (ws ++ (w ∷ [])) ≡ true
-unfolding distinct seen
-distinct-snoc [] w e h = refl
-distinct-snoc (x ∷ ws) w e h =
-    let a = not (seen (pair x) ws) in
-    let b = distinct ws in
-    let u : seen (pair x) ws ≡ false = not-true (seen (pair x) ws) (and-left a b e) in
-    let v : eqb (pair w) (pair x) ≡ false = eqb-swap (pair w) (pair x) ∙ or-left (eqb (pair x) (pair w)) (seen (pair w) ws) h in
-    let z : seen (pair x) (ws ++ (w ∷ [])) ≡ false =
-    seen-append (pair x) ws (w ∷ []) ∙ or-neither (seen (pair x) ws) (seen (pair x) (w ∷ [])) u (seen-one (pair x) w ∙ v) in
-    and-both (not (seen (pair x) (ws ++ (w ∷ [])))) (distinct (ws ++ (w ∷ []))) (not-of-false (seen (pair x) (ws ++ (w ∷ []))) z)
-    (distinct-snoc ws w (and-right a b e) (or-right (eqb (pair x) (pair w)) (seen (pair w) ws) h))
 
 zeros : (n : ℕ) → allZero (replicate n 0) ≡ true
 unfolding allZero
@@ -166,8 +152,7 @@ module _ (ws : List ℕ) (range : allInRange ws ≡ true) where
   pub load-records : length ws ≤ 64 → distinct ws ≡ true → load (recordsFor ws) ≡ accepted ws
   load-records few d =
       let all : wordsBefore (recordsFor ws) (length ws) ≡ ws = records-words (length ws) (omega arith) ∙ take-length ws in
-      let none : firstRepeat ws ≡ length ws = eqb-true (firstRepeat ws) (length ws) (sym (distinct-is ws) ∙ d) in
-      load-whole (recordsFor ws) (length ws) few records-wellFormed (ap firstRepeat all ∙ none) (omega (arith, records-length ws)) ∙ ap accepted all
+      load-whole (recordsFor ws) (length ws) few records-wellFormed (ap distinct all ∙ d) (omega (arith, records-length ws)) ∙ ap accepted all
 
 zeros-are : (l : List ℕ) → allZero l ≡ true → l ≡ replicate (length l) 0
 unfolding allZero

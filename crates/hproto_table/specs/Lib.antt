@@ -5,4 +5,3 @@ pub mod Repeat
 pub mod Valid
 pub mod Records
 pub mod FaultyTable
-pub mod internal

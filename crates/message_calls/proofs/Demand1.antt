@@ -1,19 +1,16 @@
 -- Demand 1 of the order, its part about hproto messages, holds of the check that takes a field table as its octets. specs/Demand1.antt
 -- states it.
-use Prim.Native.Nat.{ℕ, zero, suc, _*_, _≤_, _<_}
-use native.Mathlib.Omega.{arith}
+use Prim.Native.Nat.{ℕ, _≤_, _<_}
 use mathlib.Core.Path.{_≡_, refl, sym, ap, _∙_, subst}
-use mathlib.Core.Bool.{Bool, true, false, cond}
+use mathlib.Core.Bool.{Bool, true, false}
 use mathlib.Core.List.{List}
 use lib.ListN.{length}
-use lib.Dec.{leb}
 use Rattle.octets.specs.Number.{Octets}
-use Rattle.hproto_table.specs.Load.{load, loadFrom, accepted, refused, faulty, wordsBefore}
+use Rattle.hproto_table.specs.Load.{load}
 use Rattle.hproto_table.specs.Schema.{schema}
 use Rattle.hproto_table.specs.Valid.{valid}
 use Rattle.hproto_table.specs.declared.Table.{Table}
-use Rattle.hproto_table.specs.declared.Loaded.{Loaded}
-use Rattle.hproto_table.proofs.Placed.{loaded-valid}
+use Rattle.hproto_table.proofs.Placed.{loaded-valid, load-two}
 use Rattle.reading.specs.Checks.{refusal, counts}
 use Rattle.hproto_message.proofs.Accepted.{accepted-exactly, good-cut-unique}
 use Rattle.hproto_message.proofs.FirstFault.{refused-exactly, first-fault-unique, cut-or-fault, cut-no-fault}
@@ -22,33 +19,6 @@ use Rattle.message_calls.proofs.Counts as checks
 use Rattle.message_calls.specs.Calls.{checkOctets}
 use Rattle.message_calls.specs.Demand1.{Demand1, Demand1Holds}
 use Rattle.message_calls.proofs.Loading.{message-too-long, table-refused, check-as-loaded}
-
--- The loader refuses with 2 alone.
-unfoldable Two : Loaded → Type 0
-Two l = (l .refusal ≡ 0 → ⊥) → l .refusal ≡ 2
-
-either-two : (b : Bool) (x y : Loaded) → Two x → Two y → Two (cond b x y)
-either-two true x y p q = p
-either-two false x y p q = q
-
-refused-two : (place : ℕ) → Two (refused place)
-unfolding Two refused
-refused-two place ne = refl
-
-accepted-two : (ws : List ℕ) → Two (accepted ws)
-unfolding Two accepted
-accepted-two ws ne = absurd (ne refl)
-
-from-two : (left i : ℕ) (s : List ℕ) → Two (loadFrom left i s)
-unfolding loadFrom
-from-two zero i s = refused-two (8 * i)
-from-two (suc left) i s =
-    either-two (leb (length s) (8 * i)) (accepted (wordsBefore s i)) (cond (faulty s i) (refused (8 * i)) (loadFrom left (suc i) s)) (accepted-two (wordsBefore s i))
-    (either-two (faulty s i) (refused (8 * i)) (loadFrom left (suc i) s) (refused-two (8 * i)) (from-two left (suc i) s))
-
-load-two : (table : List ℕ) → (load table .refusal ≡ 0 → ⊥) → load table .refusal ≡ 2
-unfolding Two load
-load-two table ne = from-two 65 0 table ne
 
 -- Demand 1 of the check that takes a table value, where the loader can give it.
 pub demand-1-under : (t : Table) (n : ℕ) (s : List ℕ) → valid t ≡ true → n ≤ 15 → Octets s → length s ≤ 65536
