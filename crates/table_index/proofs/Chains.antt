@@ -1,13 +1,13 @@
 -- Searching a chain, cell by cell.
-use Prim.Native.Nat.{ℕ, zero, suc, _+_, _*_, _/_, _%_, _≤_, _<_}
+use Prim.Native.Nat.{ℕ, zero, suc, _+_, _*_, _/_, _%_, _≤_, _<_, min}
 use native.Mathlib.Omega.{arith}
-use mathlib.Core.Path.{_≡_, refl}
+use mathlib.Core.Path.{_≡_, refl, sym, _∙_}
 use mathlib.Core.Bool.{Bool, true, false, cond}
 use mathlib.Core.List.{List}
 use lib.ListN.{getD}
 use lib.Dec.{eqb, ltb}
-use borrow.Author.Tests.{ltb-true, lt-ltb, le-ltb, eq-eqb, ne-eqb}
-use Rattle.table_index.specs.internal.Cells.{keysFrom, chase, search}
+use borrow.Author.Tests.{ltb-true, ltb-false, lt-ltb, le-ltb, eq-eqb, ne-eqb}
+use Rattle.table_index.specs.internal.Cells.{keysFrom, nextIn, chase, search}
 
 -- ---- the first key of a number
 
@@ -61,10 +61,35 @@ module _ (cells : List ℕ) (key : ℕ) where
       go false e more = refl
 
   -- From one cell to the next.
-  pub chase-next : (c : ℕ) → (c / 2048 ≡ key → ⊥) → next c % 64 < c % 64 → chase 64 cells key c ≡ chase 64 cells key (next c)
-  chase-next c d h = rw (chase-on 63 c d h) (chase-more 63 (next c) (omega arith))
+  pub chase-next : (c : ℕ) → (c / 2048 ≡ key → ⊥) → chase 64 cells key c ≡ chase 64 cells key (nextIn cells c)
+  unfolding nextIn
+  chase-next c d = go (ltb (next c % 64) (c % 64)) refl
+    where
+      go : (t : Bool) → ltb (next c % 64) (c % 64) ≡ t → chase 64 cells key c ≡ chase 64 cells key (cond t (next c) 0)
+      go true e = rw (chase-on 63 c d (ltb-true (next c % 64) (c % 64) e)) (chase-more 63 (next c) (omega (arith, ltb-true (next c % 64) (c % 64) e)))
+      go false e = chase-ends 63 c d (ltb-false (next c % 64) (c % 64) e) ∙ sym (chase-zero 64)
 
 -- An empty bucket has no key.
 pub search-empty : (cells : List ℕ) (key : ℕ) → getD cells (key % 64) 0 ≡ 0 → search cells key ≡ 0
 unfolding search
 search-empty cells key e = rw e (chase-zero cells key 64)
+
+-- ---- the next cell
+
+module _ (cells : List ℕ) (c n : ℕ) (e : n ≡ getD cells (64 + c % 64) 0) where
+  pub next-ends : c % 64 ≤ n % 64 → 0 ≡ nextIn cells c
+  unfolding nextIn
+  next-ends h = rw (← e, le-ltb (n % 64) (c % 64) h) refl
+
+  pub next-on : n % 64 < c % 64 → n ≡ nextIn cells c
+  unfolding nextIn
+  next-on h = rw (← e, lt-ltb (n % 64) (c % 64) h) refl
+
+-- A chain ends, or its order falls: twice the order, and one for a cell that is not 0, falls at each step.
+pub next-less : (cells : List ℕ) (c n : ℕ) → n ≡ nextIn cells c → (c ≡ 0 → ⊥) → n % 64 * 2 + min n 1 < c % 64 * 2 + min c 1
+unfolding nextIn
+next-less cells c n e d = go (ltb (getD cells (64 + c % 64) 0 % 64) (c % 64)) refl e
+  where
+    go : (t : Bool) → ltb (getD cells (64 + c % 64) 0 % 64) (c % 64) ≡ t → n ≡ cond t (getD cells (64 + c % 64) 0) 0 → n % 64 * 2 + min n 1 < c % 64 * 2 + min c 1
+    go true l q = let h = ltb-true (getD cells (64 + c % 64) 0 % 64) (c % 64) l in rw q (omega (arith, h, d))
+    go false l q = rw q (omega (arith, d))

@@ -8,7 +8,7 @@ use lib.ListN.{length, getD, set, replicate, length-set, length-replicate, getD-
 use lib.Seq.{getD-set-same, getD-set-other}
 use lib.Dec.{eqb, ltb}
 use borrow.Author.Tests.{eqb-true, eqb-false, ltb-true, ltb-false}
-use Rattle.table_index.specs.internal.Cells.{wordKey, cellOf, chase, search, fresh, noted, notedBefore}
+use Rattle.table_index.specs.internal.Cells.{wordKey, cellOf, chase, search, fresh, linked, noted, notedBefore}
 use Rattle.table_index.proofs.Chains.{chase-zero, chase-here, chase-ends, chase-on, chase-more, search-empty}
 use Rattle.table_index.proofs.Words.{Small, cell-key, cell-order}
 
@@ -148,7 +148,7 @@ module _ (word : ℕ → ℕ) where
       }
 
   stands-more : (k : ℕ) (cells : List ℕ) → k < 64 → Small (word k) → fresh (word k) cells ≡ true → Stands word k cells → Stands word (suc k) (noted (word k) k cells)
-  unfolding noted standing
+  unfolding noted linked standing
   stands-more k cells few s new st =
       subst (λ (t : Bool). Stands word (suc k) (cond t (With (word k) k s few cells (st .long) (st .low)) cells)) (sym new)
       record {

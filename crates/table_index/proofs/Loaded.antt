@@ -5,27 +5,25 @@ use native.Mathlib.Omega.{arith}
 use mathlib.Core.Path.{_≡_, refl, sym, ap, _∙_}
 use mathlib.Core.Bool.{Bool, true, false, not, _&&_, _||_, and-false, true≢false, false≢true}
 use mathlib.Core.List.{List, [], _∷_, map}
-use lib.ListN.{length, take, getD, replicate, length-take}
+use lib.ListN.{length, take, drop, getD, replicate, length-take}
 use lib.Seq.{take-length}
 use lib.Dec.{eqb, leb, ltb}
-use borrow.Author.Tests.{eqb-true, eqb-false, ltb-true, ltb-false}
+use borrow.Author.Tests.{eqb-true, eqb-false, eq-eqb, ne-eqb, leb-true, le-leb, ltb-true, ltb-false}
 use Rattle.hproto_table.specs.Entry.{entry, entries}
 use Rattle.hproto_table.specs.Load.{inRange, recordAt, wordAt, wellFormed, wordsBefore, pair, seen, faulty, accepted, refused, load}
 use Rattle.hproto_table.specs.Repeat.{distinct}
-use Rattle.hproto_table.specs.internal.FirstRepeat.{firstRepeat}
 use Rattle.hproto_table.specs.Schema.{schemaOf, schema}
-use Rattle.hproto_table.specs.Valid.{allInRange, valid}
+use Rattle.hproto_table.specs.Valid.{allInRange, allZero, valid}
 use Rattle.hproto_table.specs.declared.Table.{Table}
-use Rattle.hproto_table.proofs.Bools.{and-both, or-first, or-second}
+use Rattle.hproto_table.proofs.Bools.{and-both}
 use Rattle.hproto_table.proofs.Lists.{take-more}
-use Rattle.hproto_table.proofs.Load.{length-words, load-whole, load-fault, faulty-form, faulty-late, wellFormed-range}
-use Rattle.hproto_table.proofs.Repeat.{distinct-is, seen-at}
+use Rattle.hproto_table.proofs.Load.{load-whole, load-fault, faulty-form, faulty-seen, faulty-late, wellFormed-range}
+use Rattle.hproto_table.proofs.Repeat.{seen-at}
 use Rattle.hproto_table.proofs.Schemas.{words-schema}
 use Rattle.hproto_table.proofs.Valid.{range-at, parts}
-use Rattle.table_index.specs.internal.Cells.{notedBefore, takenFrom, indexed}
+use Rattle.table_index.specs.internal.Cells.{notedBefore, takenFrom, takenWords, notedWords, allTaken, indexed}
 use Rattle.table_index.proofs.Words.{Small, small}
-use Rattle.table_index.proofs.Found.{made}
-use Rattle.table_index.proofs.Taken.{wordsOf, within, each-good, apart, stopped, same-taken}
+use Rattle.table_index.proofs.Taken.{wordsOf, taken-few, within, each-good, apart, stopped, same-taken}
 
 -- ---- from octets
 
@@ -33,13 +31,6 @@ words-are : (s : List ℕ) (k : ℕ) → wordsOf (wordAt s) k ≡ wordsBefore s 
 unfolding wordsOf wordsBefore
 words-are s zero = refl
 words-are s (suc k) = rw (words-are s k) refl
-
--- A record whose pair was seen before is faulty.
-faulty-seen : (s : List ℕ) (i : ℕ) → seen (pair (wordAt s i)) (wordsBefore s i) ≡ true → faulty s i ≡ true
-unfolding faulty
-faulty-seen s i e =
-    let a = not (wellFormed (recordAt s i)) in
-    or-first (a || seen (pair (wordAt s i)) (wordsBefore s i)) (leb 64 i) (or-second a (seen (pair (wordAt s i)) (wordsBefore s i)) e)
 
 module _ (s : List ℕ) (n : ℕ) (count : n ≡ takenFrom (λ i. wellFormed (recordAt s i)) (wordAt s) (replicate 128 0) 0 64) where
   abbrev good : ℕ → Bool
@@ -54,10 +45,8 @@ module _ (s : List ℕ) (n : ℕ) (count : n ≡ takenFrom (λ i. wellFormed (re
   formed : (j : ℕ) → j < n → good j ≡ true
   formed = each-good good (wordAt s) range 64 (omega arith) n count
 
-  no-repeat : firstRepeat (wordsBefore s n) ≡ n
-  no-repeat =
-      let d : distinct (wordsBefore s n) ≡ true = rw (← words-are s n) (apart good (wordAt s) range 64 (omega arith) n count n (omega arith)) in
-      eqb-true (firstRepeat (wordsBefore s n)) (length (wordsBefore s n)) (sym (distinct-is (wordsBefore s n)) ∙ d) ∙ length-words s n
+  no-repeat : distinct (wordsBefore s n) ≡ true
+  no-repeat = rw (← words-are s n) (apart good (wordAt s) range 64 (omega arith) n count n (omega arith))
 
   -- The octets end after the records that were taken: the loader accepts them.
   pub octets-accepted : length s ≤ 8 * n → load s ≡ accepted (wordsBefore s n)
@@ -105,7 +94,7 @@ distinct-not (w ∷ ws) (suc k) h e = go (eqb (pair w) (pair (getD ws k 0))) ref
     go true q r rest = rw (seen-at (pair w) ws k (omega arith) (sym (eqb-true (pair w) (pair (getD ws k 0)) q))) refl
     go false q r rest = rw (rest r) (and-false (not (seen (pair w) ws)))
 
-module _ (ws : List ℕ) (size : length ws ≤ 64) (n : ℕ) (count : n ≡ takenFrom (λ i. inRange (entry (getD ws i 0))) (λ i. getD ws i 0) (replicate 128 0) 0 (min 64 (length ws))) where
+module _ (ws : List ℕ) (size : length ws ≤ 64) where
   abbrev good-word : ℕ → Bool
   good-word i = inRange (entry (getD ws i 0))
 
@@ -115,14 +104,25 @@ module _ (ws : List ℕ) (size : length ws ≤ 64) (n : ℕ) (count : n ≡ take
   most-is : min 64 (length ws) ≡ length ws
   most-is = omega arith
 
+  abbrev n : ℕ
+  n = takenWords ws (replicate 128 0)
+
   taken-is : n ≡ takenFrom good-word word (replicate 128 0) 0 (length ws)
-  taken-is = count ∙ ap (takenFrom good-word word (replicate 128 0) 0) most-is
+  unfolding takenWords
+  taken-is = ap (takenFrom good-word word (replicate 128 0) 0) most-is
 
   small-word : (j : ℕ) → good-word j ≡ true → Small (word j)
   small-word j g = small (word j) g
 
-  words-within : n ≤ length ws
+  pub words-within : n ≤ length ws
   words-within = within good-word word small-word (length ws) size n taken-is
+
+  -- The words that were taken have no pair twice; the first that was not, if it is in range, has a pair that stands before it.
+  pub words-apart : distinct (take n ws) ≡ true
+  words-apart = rw (← words-taken ws n words-within) (apart good-word word small-word (length ws) size n taken-is n (omega arith))
+
+  pub words-stopped : n < length ws → good-word n ≡ true → seen (pair (word n)) (take n ws) ≡ true
+  words-stopped l e = rw (← words-taken ws n words-within) (stopped good-word word small-word (length ws) size n taken-is l e)
 
   all-words : n ≡ length ws → wordsOf word n ≡ ws
   all-words e = words-taken ws n words-within ∙ rw e (take-length ws)
@@ -134,26 +134,64 @@ module _ (ws : List ℕ) (size : length ws ≤ 64) (n : ℕ) (count : n ≡ take
       some-bad : n < length ws → (a : Bool) → good-word n ≡ a → (b : Bool) → allInRange ws ≡ b → false ≡ b && distinct ws
       some-bad l a e false p = refl
       some-bad l false e true p = absurd (true≢false (sym (range-at ws n p l) ∙ e))
-      some-bad l true e true p = sym (distinct-not ws n l (rw (← words-taken ws n words-within) (stopped good-word word small-word (length ws) size n taken-is l e)))
+      some-bad l true e true p = sym (distinct-not ws n l (words-stopped l e))
 
       go : (a : Bool) → eqb n (length ws) ≡ a → a ≡ allInRange ws && distinct ws
       go true e =
           let q : n ≡ length ws = eqb-true n (length ws) e in
-          let d : distinct ws ≡ true = ap distinct (sym (all-words q)) ∙ apart good-word word small-word (length ws) size n taken-is n (omega arith) in
+          let d : distinct ws ≡ true = ap distinct (sym (take-length ws) ∙ ap (λ (k : ℕ). take k ws) (sym q)) ∙ words-apart in
           let r : allInRange ws ≡ true = all-range ws (λ j l. each-good good-word word small-word (length ws) size n taken-is j (omega arith)) in
           rw (r, d) refl
       go false e = some-bad (omega (arith, words-within, eqb-false n (length ws) e)) (good-word n) refl (allInRange ws) refl
 
-  words-schema-is : n ≡ length ws → indexed (made word n) ≡ schemaOf (map entry ws)
+  words-schema-is : n ≡ length ws → indexed (notedWords ws (replicate 128 0)) ≡ schemaOf (map entry ws)
+  unfolding notedWords
   words-schema-is e = same-taken good-word word small-word (length ws) size n taken-is ∙ ap (λ (l : List ℕ). schemaOf (map entry l)) (all-words e)
 
--- Of a table value that the loader can give, the index of its words has the schema.
-pub table-schema : (t : Table) (n : ℕ) (ws cells : List ℕ) → valid t ≡ true → ws ≡ take (t .count) (t .words)
-    → n ≡ takenFrom (λ i. inRange (entry (getD ws i 0))) (λ i. getD ws i 0) (replicate 128 0) 0 (min 64 (length ws))
-    → cells ≡ notedBefore (λ i. getD ws i 0) (replicate 128 0) n → indexed cells ≡ schema t
-unfolding schema entries
-table-schema t n ws cells v e count c =
-    let p = parts t v in
-    let size : length ws ≤ 64 = omega (arith, ap length e, length-take (t .count) (t .words), p .few) in
-    let all : n ≡ length ws = eqb-true n (length ws) (words-used ws size n count ∙ and-both (allInRange ws) (distinct ws) (rw e (p .range)) (rw e (p .apart))) in
-    ap indexed c ∙ words-schema-is ws size n count all ∙ ap (λ (l : List ℕ). schemaOf (map entry l)) e
+-- ---- from a table value
+
+-- Fewer words than the count are noted, or all of them and the unused ones decide.
+module _ (words : List ℕ) (count : ℕ) (cells : List ℕ) (size : length words ≡ 64) (n : ℕ) (e : n ≡ takenWords (take count words) cells) where
+  used-length : length (take count words) ≡ min count 64
+  used-length = length-take count words ∙ rw size refl
+
+  pub table-short : n < count → false ≡ allTaken words count cells
+  unfolding allTaken
+  table-short h = rw (← e) (go (leb count 64) refl)
+    where
+      go : (a : Bool) → leb count 64 ≡ a → false ≡ a && eqb n (length (take count words)) && allZero (drop count words)
+      go false q = refl
+      go true q = rw (ne-eqb n (length (take count words)) (λ z. omega (arith, z, used-length, leb-true count 64 q))) refl
+
+  pub table-rest : {r : Bool} → count ≤ n → r ≡ allZero (drop count words) → r ≡ allTaken words count cells
+  unfolding allTaken takenWords
+  table-rest h q =
+      let few : n ≤ min 64 (length (take count words)) = omega (arith, e, taken-few (λ i. inRange (entry (getD (take count words) i 0))) (λ i. getD (take count words) i 0) cells (min 64 (length (take count words))) 0) in
+      q ∙ rw (← e, le-leb count 64 (omega arith), eq-eqb n (length (take count words)) (omega (arith, used-length))) refl
+
+module _ (t : Table) where
+  abbrev used : List ℕ
+  used = take (t .count) (t .words)
+
+  used-few : t .count ≤ 64 → length used ≤ 64
+  used-few h = omega (arith, length-take (t .count) (t .words))
+
+  -- All words are taken exactly where the loader can give the table value.
+  pub table-valid : {r : Bool} → r ≡ allTaken (t .words) (t .count) (replicate 128 0) → r ≡ valid t
+  unfolding allTaken valid
+  table-valid e = e ∙ go (leb (t .count) 64) refl
+    where
+      go : (a : Bool) → leb (t .count) 64 ≡ a
+          → a && eqb (takenWords used (replicate 128 0)) (length used) && allZero (drop (t .count) (t .words))
+          ≡ a && allInRange used && distinct used && allZero (drop (t .count) (t .words))
+      go false q = refl
+      go true q = rw (words-used used (used-few (leb-true (t .count) 64 q))) refl
+
+  -- Then the index has its schema.
+  pub table-schema : {cells : List ℕ} → valid t ≡ true → cells ≡ notedWords used (replicate 128 0) → indexed cells ≡ schema t
+  unfolding schema entries
+  table-schema v e =
+      let p = parts t v in
+      let n = takenWords used (replicate 128 0) in
+      let all : n ≡ length used = eqb-true n (length used) (words-used used (used-few (p .few)) ∙ and-both (allInRange used) (distinct used) (p .range) (p .apart)) in
+      ap indexed e ∙ words-schema-is used (used-few (p .few)) all

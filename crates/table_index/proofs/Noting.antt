@@ -1,19 +1,21 @@
 -- Noting words, one by one.
-use Prim.Native.Nat.{ℕ, suc, _+_, _*_, _-_, _%_, _≤_, _<_}
+use Prim.Native.Nat.{ℕ, suc, _+_, _*_, _-_, _/_, _≤_, _<_, min}
 use native.Mathlib.Numerals.{add-one}
 use native.Mathlib.Omega.{arith}
-use mathlib.Core.Path.{_≡_, refl, sym, _∙_}
+use mathlib.Core.Path.{_≡_, refl, sym, ap, _∙_}
 use mathlib.Core.Bool.{Bool, true, false, and-false}
 use mathlib.Core.List.{List}
-use lib.ListN.{take, drop, getD, set}
+use lib.ListN.{length, take, drop, getD}
 use lib.Dec.{eqb}
+use borrow.Author.Tests.{eq-eqb, ne-eqb}
 use Rattle.hproto_table.specs.Entry.{entry}
 use Rattle.hproto_table.specs.Load.{inRange, recordAt, wordAt, wellFormed}
 use Rattle.hproto_table.proofs.Load.{wellFormed-range}
 use Rattle.hproto_record.specs.internal.Record.{recordOf}
 use Rattle.hproto_record.specs.declared.Record.the-variants.{Word, Wrong}
 use Rattle.hproto_record.proofs.RecordLaws.{place-is, recordOf-word, recordOf-wrong}
-use Rattle.table_index.specs.internal.Cells.{wordKey, cellOf, search, fresh, noted, notedBefore, taken, takenFrom}
+use Rattle.table_index.proofs.Chains.{chase-zero, chase-here}
+use Rattle.table_index.specs.internal.Cells.{wordKey, chase, search, fresh, linked, noted, notedBefore, taken, takenFrom, takenWords, notedWords}
 
 -- ---- one word
 
@@ -28,12 +30,20 @@ module _ (w i : ℕ) (cells : List ℕ) {key : ℕ} {lacked : Bool} (known : key
       let z : fresh w cells ≡ false = lacked-is ∙ e in
       (sym z, rw z refl)
 
-  pub note-fresh : {cell : ℕ} → lacked ≡ true → cell ≡ cellOf w i
-      → (true ≡ fresh w cells) × (set (set cells (64 + i) (getD cells (key % 64) 0)) (key % 64) cell ≡ noted w i cells)
+  pub note-fresh : {after : List ℕ} → lacked ≡ true → after ≡ linked w i cells → (true ≡ fresh w cells) × (after ≡ noted w i cells)
   unfolding noted
   note-fresh e f =
       let z : fresh w cells ≡ true = lacked-is ∙ e in
-      (sym z, rw (z, known, f) refl)
+      (sym z, rw z f)
+
+-- Whether a word is fresh, by the last cell of its chain that was looked at.
+module _ (w i : ℕ) (cells : List ℕ) {key : ℕ} (known : key ≡ wordKey w) (c : ℕ) (left : search cells key ≡ chase 64 cells key c) where
+  pub chain-seen : (c ≡ 0 → ⊥) → c / 2048 ≡ key → (false ≡ fresh w cells) × (cells ≡ noted w i cells)
+  chain-seen d h = note-seen w i cells known (sym (ne-eqb (search cells key) 0 (λ z. d (sym (left ∙ chase-here cells key 63 c h) ∙ z)))) refl
+
+  pub chain-fresh : {after : List ℕ} → c ≡ 0 → after ≡ linked w i cells → (true ≡ fresh w cells) × (after ≡ noted w i cells)
+  chain-fresh z f =
+      note-fresh w i cells known (sym (eq-eqb (search cells key) 0 (left ∙ rw z (chase-zero cells key 64)))) refl f
 
 -- ---- word after word
 
@@ -92,6 +102,51 @@ module _ (good : ℕ → Bool) (word : ℕ → ℕ) (cells₀ : List ℕ) (most 
               rest = k .rest ∙ rw (more, g, f, add-one n) refl;
               so-far = stored ∙ rw (add-one n, here, k .so-far) refl;
             }
+
+-- ---- the words of a list
+
+-- The same of the words of a list, of which at most 64 are taken.
+abbrev pub NotingWords : List ℕ → List ℕ → ℕ → List ℕ → Type 0
+NotingWords ws cells₀ n cells = Noting (λ i. inRange (entry (getD ws i 0))) (λ i. getD ws i 0) cells₀ (min 64 (length ws)) n cells
+
+module _ (ws cells₀ : List ℕ) where
+  abbrev good : ℕ → Bool
+  good i = inRange (entry (getD ws i 0))
+
+  abbrev word : ℕ → ℕ
+  word i = getD ws i 0
+
+  abbrev most : ℕ
+  most = min 64 (length ws)
+
+  pub words-start : NotingWords ws cells₀ 0 cells₀
+  words-start = noting-starts good word cells₀ most
+
+  module _ (n : ℕ) (cells : List ℕ) (k : NotingWords ws cells₀ n cells) where
+    abbrev Done : List ℕ → Type 0
+    Done after = (n ≡ takenWords ws cells₀) × (after ≡ notedWords ws cells₀)
+
+    done : {after : List ℕ} → (n ≡ takenFrom good word cells₀ 0 most) × (after ≡ notedBefore word cells₀ n) → Done after
+    unfolding takenWords notedWords
+    done e = (e .0, e .1 ∙ ap (notedBefore word cells₀) (e .0))
+
+    pub words-end : most ≤ n → Done cells
+    words-end h = done (noting-ends good word cells₀ most n cells k h)
+
+    module _ (before : n < most) where
+      pub words-bad : good n ≡ false → Done cells
+      words-bad e = done (noting-bad good word cells₀ most n cells k before e)
+
+      module _ {key : ℕ} (known : key ≡ wordKey (word n)) (c : ℕ) (left : search cells key ≡ chase 64 cells key c) where
+        pub words-seen : (c ≡ 0 → ⊥) → c / 2048 ≡ key → Done cells
+        words-seen d h =
+            let e = chain-seen (word n) n cells known c left d h in
+            done (noting-seen good word cells₀ most n cells k before (word n) cells false refl (e .0) (e .1) refl)
+
+        pub words-more : {after : List ℕ} → good n ≡ true → c ≡ 0 → after ≡ linked (word n) n cells → NotingWords ws cells₀ (n + 1) after
+        words-more {after} g z f =
+            let e = chain-fresh (word n) n cells known c left z f in
+            noting-more good word cells₀ most n cells k before (word n) after true refl (e .0) (e .1) g refl
 
 -- ---- a record as a word
 

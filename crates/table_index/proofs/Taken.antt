@@ -14,9 +14,8 @@ use Rattle.hproto_table.specs.Schema.{schemaOf}
 use Rattle.hproto_table.specs.Repeat.{distinct}
 use Rattle.hproto_table.specs.declared.Meaning.the-variants.{Raw}
 use Rattle.hproto_table.proofs.Bools.{and-left, and-right}
-use Rattle.hproto_table.proofs.Repeat.{seen-append, seen-one}
+use Rattle.hproto_table.proofs.Repeat.{seen-append, seen-one, distinct-snoc}
 use Rattle.hproto_table.proofs.Schemas.{same-schema}
-use Rattle.hproto_table.proofs.Valid.{distinct-snoc}
 use Rattle.table_index.specs.internal.Cells.{keyOf, wordKey, cellOf, meaningIn, orderIn, search, fresh, notedBefore, taken, takenFrom, cellFor, indexed}
 use Rattle.table_index.proofs.Meanings.{raw}
 use Rattle.table_index.proofs.Words.{Small, cell-some, cell-order, cell-means, key-fits, key-pair}
@@ -108,7 +107,7 @@ module _ (word : ℕ → ℕ) where
 
 -- ---- the words that were taken
 
-taken-few : (good : ℕ → Bool) (word : ℕ → ℕ) (cells : List ℕ) (left i : ℕ) → takenFrom good word cells i left ≤ i + left
+pub taken-few : (good : ℕ → Bool) (word : ℕ → ℕ) (cells : List ℕ) (left i : ℕ) → takenFrom good word cells i left ≤ i + left
 unfolding takenFrom
 taken-few good word cells zero i = omega arith
 taken-few good word cells (suc left) i = go (taken good word cells i) (taken-few good word cells left (suc i))

@@ -2,14 +2,16 @@
 // buckets by a hash of number and tag. A search compares the whole key, so that a bucket with several entries is slower and never wrong.
 use hproto_record::Record;
 use hproto_table::Meaning;
+use hproto_table::Table;
 ghost use mathlib.Core.Path.{_≡_};
 ghost use mathlib.Core.Bool.{true};
-ghost use Prim.Native.Nat.{_<_, min};
+ghost use Prim.Native.Nat.{_<_};
 ghost use lib.Dec.{eqb};
-ghost use lib.ListN.{length, getD};
-ghost use Rattle.hproto_table.specs.Entry.{entry};
+ghost use lib.ListN.{take, drop};
+ghost use Rattle.hproto_table.specs.Entry.{entry, kindNumber};
 ghost use Rattle.hproto_table.specs.Load.{inRange, recordAt, wordAt, wellFormed};
-ghost use Rattle.table_index.specs.internal.Cells.{keysFrom, wordKey, cellOf, meaningIn, orderIn, search as search-of, fresh, noted, notedBefore, takenFrom, cellFor, indexed};
+ghost use Rattle.hproto_table.specs.Valid.{allZero, valid as valid-of};
+ghost use Rattle.table_index.specs.internal.Cells.{keysFrom, wordKey, cellOf, meaningIn, orderIn, nextIn, search as search-of, fresh, linked, noted, notedBefore, takenFrom, takenWords, notedWords, allTaken, cellFor, indexed};
 
 // The first key of a message number. There is no test of the number in a search, so that a loop over fields computes this once.
 fn keys_from(number: u64) -> u64
@@ -24,7 +26,18 @@ fn wide(x: u32) -> u64
     x as u64
 }
 
-// The cell with a key, 0 where there is none. In cells that no table gave a chain ends where the order does not fall.
+// The cell after one in its chain, 0 at the end. In cells that no table gave a chain ends where the order does not fall.
+fn next(cells: &[u32; 128], c: u64) -> u64
+    ensures { λ r. ⌜ r ≡ nextIn (now (cells .entry)) c ⌝ }
+{
+    let n = wide(cells[(64 + c % 64) as usize]);
+    if c % 64 <= n % 64 {
+        return 0;
+    }
+    n
+}
+
+// The cell with a key, 0 where there is none.
 fn search(cells: &[u32; 128], key: u64) -> u64
     ensures { λ r. ⌜ r ≡ search-of (now (cells .entry)) key ⌝ }
 {
@@ -33,11 +46,7 @@ fn search(cells: &[u32; 128], key: u64) -> u64
         if c == 0 {
             return 0;
         }
-        let next = wide(cells[(64 + c % 64) as usize]);
-        if c % 64 <= next % 64 {
-            return 0;
-        }
-        c = next;
+        c = next(cells, c);
     }
     c
 }
@@ -70,6 +79,17 @@ fn lacks(cells: &[u32; 128], key: u64) -> bool
     search(cells, key) == 0
 }
 
+// Puts the cell of a word that is the i-th of its table before the cells of its bucket.
+fn link(w: u64, i: usize, cells: &mut [u32; 128])
+    requires { ⌜ inRange (entry w) ≡ true ⌝ }
+    requires { ⌜ i < 64 ⌝ }
+    ensures { λ _. ⌜ now (cells .exit) ≡ linked w i (now (cells .entry)) ⌝ }
+{
+    let bucket = (word_key(w) % 64) as usize;
+    cells[64 + i] = cells[bucket];
+    cells[bucket] = cell_of(w, i);
+}
+
 // Notes a word as the i-th of its table and answers true, where no cell has its key.
 fn note(w: u64, i: usize, cells: &mut [u32; 128]) -> bool
     requires { ⌜ inRange (entry w) ≡ true ⌝ }
@@ -77,13 +97,10 @@ fn note(w: u64, i: usize, cells: &mut [u32; 128]) -> bool
     ensures { λ r. ⌜ r ≡ fresh w (now (cells .entry)) ⌝ }
     ensures { λ r. ⌜ now (cells .exit) ≡ noted w i (now (cells .entry)) ⌝ }
 {
-    let key = word_key(w);
-    if !lacks(cells, key) {
+    if !lacks(cells, word_key(w)) {
         return false;
     }
-    let bucket = (key % 64) as usize;
-    cells[64 + i] = cells[bucket];
-    cells[bucket] = cell_of(w, i);
+    link(w, i, cells);
     true
 }
 
@@ -107,24 +124,76 @@ pub fn index(table: &[u8], cells: &mut [u32; 128]) -> usize
     n
 }
 
-// The same of words, of which at most 64 are noted. Those of a table that the loader can give are all noted.
-pub fn index_words(words: &[u64], cells: &mut [u32; 128]) -> usize
-    ensures { λ r. ⌜ r ≡ takenFrom (λ i. inRange (entry (getD (now (words .entry)) i 0))) (λ i. getD (now (words .entry)) i 0) (now (cells .entry)) 0 (min 64 (length (now (words .entry)))) ⌝ }
-    ensures { λ r. ⌜ now (cells .exit) ≡ notedBefore (λ i. getD (now (words .entry)) i 0) (now (cells .entry)) r ⌝ }
+// The same of words, of which at most 64 are noted. The inner loop runs over the entries before a word that lie in its bucket. The first
+// entry with the word's pair ends both loops.
+fn note_words(words: &[u64], cells: &mut [u32; 128]) -> usize
+    ensures { λ r. ⌜ r ≡ takenWords (now (words .entry)) (now (cells .entry)) ⌝ }
+    ensures { λ r. ⌜ now (cells .exit) ≡ notedWords (now (words .entry)) (now (cells .entry)) ⌝ }
 {
     let most = numbers::smaller(64, words.len());
     let mut n: usize = 0;
-    while n < most {
+    'words: loop {
+        if most <= n {
+            break n;
+        }
         let w = words[n];
         if !hproto_record::in_range(w) {
-            return n;
+            break n;
         }
-        if !note(w, n, cells) {
-            return n;
+        let key = word_key(w);
+        let mut c = wide(cells[(key % 64) as usize]);
+        while c != 0 {
+            if c >> 11 == key {
+                break 'words n;
+            }
+            c = next(cells, c);
         }
+        link(w, n, cells);
         n += 1;
     }
-    n
+}
+
+// The same of the first words of a table. Of words in range the first that is not noted has a pair that stands before it.
+pub fn index_words(words: &[u64], count: usize, cells: &mut [u32; 128]) -> usize
+    ensures { λ r. ⌜ r ≡ takenWords (take count (now (words .entry))) (now (cells .entry)) ⌝ }
+    ensures { λ r. ⌜ now (cells .exit) ≡ notedWords (take count (now (words .entry))) (now (cells .entry)) ⌝ }
+{
+    let n = numbers::smaller(count, words.len());
+    note_words(&words[0..n], cells)
+}
+
+// Whether the words from n on are all 0. There is no test in the loop, so that the compiler can make it one over several words at once.
+fn unused(words: &[u64], n: usize) -> bool
+    ensures { λ r. ⌜ r ≡ allZero (drop n (now (words .entry))) ⌝ }
+{
+    let mut bits: u64 = 0;
+    let mut i = n;
+    while i < words.len() {
+        bits = bits | words[i];
+        i += 1;
+    }
+    bits == 0
+}
+
+// Notes the words of a table value, and answers whether they are all noted and nothing stands in the unused words. In cells that were
+// cleared this is whether the loader can give the table value.
+pub fn index_table(words: &[u64; 64], count: usize, cells: &mut [u32; 128]) -> bool
+    ensures { λ r. ⌜ r ≡ allTaken (now (words .entry)) count (now (cells .entry)) ⌝ }
+    ensures { λ r. ⌜ now (cells .exit) ≡ notedWords (take count (now (words .entry))) (now (cells .entry)) ⌝ }
+{
+    let n = index_words(words, count, cells);
+    if n < count {
+        return false;
+    }
+    unused(words, count)
+}
+
+// Whether the loader can give a table value.
+pub fn valid(t: Table) -> bool
+    ensures { λ r. ⌜ r ≡ valid-of t ⌝ }
+{
+    let mut cells = [0u32; 128];
+    index_table(&t.words, t.count, &mut cells)
 }
 
 // The cell of a message number and a tag, 0 where there is none.
@@ -164,4 +233,18 @@ pub fn find(cells: &[u32; 128], number: u64, tag: u64) -> Meaning
     ensures { λ r. ⌜ r ≡ indexed (now (cells .entry)) .means number tag ⌝ }
 {
     meaning(cell(cells, number, tag))
+}
+
+// The number of a kind, 0 for raw.
+pub fn kind_number(kind: Meaning) -> u64
+    ensures { λ r. ⌜ r ≡ kindNumber kind ⌝ }
+{
+    match kind {
+        Meaning::Raw => 0,
+        Meaning::Uint => 1,
+        Meaning::Int => 2,
+        Meaning::String => 3,
+        Meaning::Text => 4,
+        Meaning::Message(_) => 5,
+    }
 }

@@ -1,99 +1,45 @@
--- `index_words` notes the words one by one, up to the first that is not taken.
-use Prim.Native.Nat.{_-_, min}
+-- `index_words` counts no more words than there are.
 use native.Mathlib.Omega.{arith}
-use mathlib.Core.Path.{refl, sym, _∙_}
-use lib.ListN.{length, getD}
-use borrow.Author.Tests.{not-true, not-false}
-use Rattle.hproto_table.specs.Entry.{entry}
-use Rattle.hproto_table.specs.Load.{inRange}
-use Rattle.table_index.proofs.Noting.{Noting, noting-starts, noting-ends, noting-bad, noting-seen, noting-more}
+use Prim.Native.Nat.{ℕ, _-_, min}
+use mathlib.Core.Path.{_≡_, ap, _∙_}
+use mathlib.Core.List.{List}
+use lib.ListN.{length, take}
+use Rattle.hproto_table.proofs.Lists.{take-min}
+use Rattle.table_index.specs.internal.Cells.{takenWords, notedWords}
+use borrow.Author.Needs.{needs}
 use Rattle.table_index.proofs.index_words.Statement.{statement}
 use Rattle.table_index.proofs.index_words.Tie as tie
 
-abbrev Inv-loop : tie.InvT-loop
-Inv-loop words cells₀ most n₀ cells n = Noting (λ i. inRange (entry (getD words i 0))) (λ i. getD words i 0) cells₀ (min 64 (length words)) n cells
+smaller-requires : tie.Need-smaller-requires
+smaller-requires c κs = search needs
 
-abbrev μ-loop : tie.MeasureT-loop
-μ-loop words cells₀ most n₀ cells n = most - n
+sub-note-words : tie.Need-sub-note-words
+sub-note-words c = search needs
 
-smaller-requires : tie.Need-smaller-requires Inv-loop μ-loop
-smaller-requires c κs = tt
+part-note-words-start : tie.Need-part-note-words-start
+part-note-words-start c = search needs
 
-loop-holds : tie.Need-loop-holds Inv-loop μ-loop
-loop-holds c =
-    let ws = c .before .before .args .words .now in
-    noting-starts (λ i. inRange (entry (getD ws i 0))) (λ i. getD ws i 0) (c .before .before .args .cells .now) (min 64 (length ws))
+part-note-words-end : tie.Need-part-note-words-end
+part-note-words-end c = search needs
 
-mul-w : tie.Need-mul-w Inv-loop μ-loop
-mul-w c = omega (arith, c .before .before .smaller .ensures)
+note-words-requires : tie.Need-note-words-requires
+note-words-requires c κs = search needs
 
-shared-slice-read-w : tie.Need-shared-slice-read-w Inv-loop μ-loop
-shared-slice-read-w c = omega (arith, c .before .before .before .smaller .ensures)
-
-in-range-requires : tie.Need-in-range-requires Inv-loop μ-loop
-in-range-requires c κs = tt
-
-returns : tie.Need-returns Inv-loop μ-loop
+returns : tie.Need-returns
 returns c =
-    let a = c .before .before .before .before .before .before .before .args in
-    let ws = a .words .now in
-    let l = c .before .before .before .before .loop in
-    noting-bad (λ i. inRange (entry (getD ws i 0))) (λ i. getD ws i 0) (a .cells .now) (min 64 (length ws)) (l .n) (l .cells) (l .inv) (omega (arith, c .before .before .before .before .before .smaller .ensures))
-    (sym (c .before .in-range .ensures) ∙ not-true (c .before .in-range .result) (c .if1 .taken))
-
-note-requires : tie.Need-note-requires Inv-loop μ-loop
-note-requires c κs =
-    let r = c .before .before .in-range in
-    (sym (r .ensures) ∙ not-false (r .result) (c .before .if1 .left), omega (arith, c .before .before .before .before .before .before .smaller .ensures))
-
-returns-2 : tie.Need-returns-2 Inv-loop μ-loop
-returns-2 c =
-    let a = c .before .before .before .before .before .before .before .before .before .before .args in
-    let ws = a .words .now in
-    let l = c .before .before .before .before .before .before .before .loop in
-    let k = c .before .note in
-    noting-seen (λ i. inRange (entry (getD ws i 0))) (λ i. getD ws i 0) (a .cells .now) (min 64 (length ws)) (l .n) (l .cells) (l .inv) (omega (arith, c .before .before .before .before .before .before .before .before .smaller .ensures))
-    (getD ws (l .n) 0) (k .last .1 .1 .0) (k .result) refl (k .ensures .0) (k .ensures .1) (not-true (k .result) (c .if2 .taken))
-
-add-n : tie.Need-add-n Inv-loop μ-loop
-add-n c = omega arith
-
-loop-less : tie.Need-loop-less Inv-loop μ-loop
-loop-less c = omega arith
-
-loop-again : tie.Need-loop-again Inv-loop μ-loop
-loop-again c =
-    let a = c .before .before .before .before .before .before .before .before .before .before .args in
-    let ws = a .words .now in
-    let l = c .before .before .before .before .before .before .before .loop in
-    let k = c .before .note in
-    let r = c .before .before .before .before .in-range in
-    noting-more (λ i. inRange (entry (getD ws i 0))) (λ i. getD ws i 0) (a .cells .now) (min 64 (length ws)) (l .n) (l .cells) (l .inv) (omega (arith, c .before .before .before .before .before .before .before .before .smaller .ensures))
-    (getD ws (l .n) 0) (k .last .1 .1 .0) (k .result) refl (k .ensures .0) (k .ensures .1) (sym (r .ensures) ∙ not-false (r .result) (c .before .before .before .if1 .left))
-    (not-false (k .result) (c .if2 .left))
-
-returns-3 : tie.Need-returns-3 Inv-loop μ-loop
-returns-3 c =
-    let a = c .before .before .before .before .args in
-    let ws = a .words .now in
-    let l = c .before .loop in
-    noting-ends (λ i. inRange (entry (getD ws i 0))) (λ i. getD ws i 0) (a .cells .now) (min 64 (length ws)) (l .n) (l .cells) (l .inv) (omega (arith, c .before .before .smaller .ensures))
+    let a = c .before .before .before .before .before .args in
+    let e : c .before .before .before .smaller .result - 0 ≡ min (a .count) (length (a .words .now)) = omega (arith, c .before .before .before .smaller .ensures) in
+    let same : take (c .before .before .before .smaller .result - 0) (a .words .now) ≡ take (a .count) (a .words .now) = rw e (take-min (a .count) (a .words .now)) in
+    let k = c .note-words in
+    (k .ensures .0 ∙ ap (λ (l : List ℕ). takenWords l (a .cells .now)) same, k .ensures .1 ∙ ap (λ (l : List ℕ). notedWords l (a .cells .now)) same)
 
 pub index-words-spec : {M : Type 1} → statement M
 index-words-spec =
     tie.close
     (tie.spec
-    Inv-loop
-    μ-loop
     smaller-requires
-    loop-holds
-    mul-w
-    shared-slice-read-w
-    in-range-requires
-    returns
-    note-requires
-    returns-2
-    add-n
-    loop-less
-    loop-again
-    returns-3)
+    sub-note-words
+    part-note-words-start
+    part-note-words-end
+    note-words-requires
+    returns)

@@ -1,9 +1,9 @@
 -- `search` gives what the definition says: at each turn the chain from the present cell decides.
 use native.Mathlib.Omega.{arith}
-use Prim.Native.Nat.{_%_}
+use Prim.Native.Nat.{_+_, _*_, _%_, min}
 use mathlib.Core.Path.{_≡_, sym, ap, _∙_}
 use Rattle.table_index.specs.internal.Cells.{chase, search}
-use Rattle.table_index.proofs.Chains.{chase-zero, chase-here, chase-ends, chase-next}
+use Rattle.table_index.proofs.Chains.{chase-zero, chase-here, chase-next, next-less}
 use Rattle.table_index.proofs.search.Statement.{statement}
 use Rattle.table_index.proofs.search.Tie as tie
 
@@ -11,7 +11,7 @@ abbrev Inv-loop : tie.InvT-loop
 Inv-loop cells key c₀ c = search cells key ≡ chase 64 cells key c
 
 abbrev μ-loop : tie.MeasureT-loop
-μ-loop cells key c₀ c = c % 64
+μ-loop cells key c₀ c = c % 64 * 2 + min c 1
 
 mul-wide : tie.Need-mul-wide Inv-loop μ-loop
 mul-wide c = omega arith
@@ -32,37 +32,22 @@ returns c =
     let l = c .before .before .loop in
     sym (l .inv ∙ rw (c .if1 .taken) (chase-zero (a .cells .now) (a .key) 64))
 
-add-wide : tie.Need-add-wide Inv-loop μ-loop
-add-wide c = omega arith
-
-mul-wide-2 : tie.Need-mul-wide-2 Inv-loop μ-loop
-mul-wide-2 c = omega arith
-
-element-copy-out-wide-2 : tie.Need-element-copy-out-wide-2 Inv-loop μ-loop
-element-copy-out-wide-2 c = omega arith
-
-wide-requires-2 : tie.Need-wide-requires-2 Inv-loop μ-loop
-wide-requires-2 c κs = tt
-
-returns-2 : tie.Need-returns-2 Inv-loop μ-loop
-returns-2 c =
-    let a = c .before .before .before .before .before .before .before .before .args in
-    let l = c .before .before .before .before .before .loop in
-    let e = c .before .wide2 .ensures in
-    sym (l .inv ∙ chase-ends (a .cells .now) (a .key) 63 (l .c) (c .before .before .before .before .loop-test .taken) (omega (arith, c .if2 .taken, e)))
+next-requires : tie.Need-next-requires Inv-loop μ-loop
+next-requires c κs = tt
 
 loop-less : tie.Need-loop-less Inv-loop μ-loop
-loop-less c = omega (arith, c .if2 .left)
+loop-less c =
+    let a = c .before .before .before .before .before .before .args in
+    next-less (a .cells .now) (c .before .before .before .loop .c) (c .next .result) (c .next .ensures) (c .before .if1 .left)
 
 loop-again : tie.Need-loop-again Inv-loop μ-loop
 loop-again c =
-    let a = c .before .before .before .before .before .before .before .before .args in
-    let l = c .before .before .before .before .before .loop in
-    let e = c .before .wide2 .ensures in
-    l .inv ∙ chase-next (a .cells .now) (a .key) (l .c) (c .before .before .before .before .loop-test .taken) (omega (arith, c .if2 .left, e)) ∙ ap (chase 64 (a .cells .now) (a .key)) (sym e)
+    let a = c .before .before .before .before .before .before .args in
+    let l = c .before .before .before .loop in
+    l .inv ∙ chase-next (a .cells .now) (a .key) (l .c) (c .before .before .loop-test .taken) ∙ ap (chase 64 (a .cells .now) (a .key)) (sym (c .next .ensures))
 
-returns-3 : tie.Need-returns-3 Inv-loop μ-loop
-returns-3 c =
+returns-2 : tie.Need-returns-2 Inv-loop μ-loop
+returns-2 c =
     let a = c .before .before .before .before .args in
     let l = c .before .loop in
     sym (l .inv ∙ chase-here (a .cells .now) (a .key) 63 (l .c) (omega arith))
@@ -78,11 +63,7 @@ search-spec =
     wide-requires
     loop-holds
     returns
-    add-wide
-    mul-wide-2
-    element-copy-out-wide-2
-    wide-requires-2
-    returns-2
+    next-requires
     loop-less
     loop-again
-    returns-3)
+    returns-2)

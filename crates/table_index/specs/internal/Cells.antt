@@ -2,13 +2,15 @@
 -- and its order in the table (6 bits). The first 64 cells are the heads of as many buckets; the cell 64 + i holds what was the head of its
 -- bucket before the entry i. It serves the code: what the calls answer is said of the schema of a table, and proofs/Loaded.antt shows that
 -- an index has the same one.
-use Prim.Native.Nat.{ℕ, zero, suc, _+_, _*_, _-_, _/_, _%_, _^_}
+use Prim.Native.Nat.{ℕ, zero, suc, _+_, _*_, _-_, _/_, _%_, _^_, min}
 use mathlib.Core.Bool.{Bool, cond, _&&_}
 use mathlib.Core.List.{List}
-use lib.ListN.{getD, set}
-use lib.Dec.{eqb, ltb}
+use lib.ListN.{length, take, drop, getD, set}
+use lib.Dec.{eqb, leb, ltb}
 use Rattle.hproto_table.specs.Entry.{entry}
+use Rattle.hproto_table.specs.Load.{inRange}
 use Rattle.hproto_table.specs.Schema.{Schema}
+use Rattle.hproto_table.specs.Valid.{allZero}
 use Rattle.hproto_table.specs.declared.Meaning.{Meaning}
 use Rattle.hproto_table.specs.declared.Meaning.the-variants.{Raw, Uint, Int, String, Text, Message}
 
@@ -42,6 +44,12 @@ meaningIn c =
 unfoldable pub orderIn : ℕ → ℕ
 orderIn c = c % 64
 
+-- The cell after one in its chain; 0 at the end, which is where the order does not fall.
+unfoldable pub nextIn : List ℕ → ℕ → ℕ
+nextIn cells c =
+    let next = getD cells (64 + c % 64) 0 in
+    cond (ltb (next % 64) (c % 64)) next 0
+
 -- The cell with a key in the chain that begins with a cell; 0 where there is none. Along a chain the order falls, so 64 cells are enough.
 unfoldable pub chase : ℕ → List ℕ → ℕ → ℕ → ℕ
 chase zero cells key c = 0
@@ -56,11 +64,15 @@ search cells key = chase 64 cells key (getD cells (key % 64) 0)
 unfoldable pub fresh : ℕ → List ℕ → Bool
 fresh w cells = eqb (search cells (wordKey w)) 0
 
--- The cells with a word noted as the i-th, where it is fresh: it is the head of its bucket, before the head that was there.
-unfoldable pub noted : ℕ → ℕ → List ℕ → List ℕ
-noted w i cells =
+-- The cells with a word as the i-th: it is the head of its bucket, before the head that was there.
+unfoldable pub linked : ℕ → ℕ → List ℕ → List ℕ
+linked w i cells =
     let bucket = wordKey w % 64 in
-    cond (fresh w cells) (set (set cells (64 + i) (getD cells bucket 0)) bucket (cellOf w i)) cells
+    set (set cells (64 + i) (getD cells bucket 0)) bucket (cellOf w i)
+
+-- The same where the word is fresh.
+unfoldable pub noted : ℕ → ℕ → List ℕ → List ℕ
+noted w i cells = cond (fresh w cells) (linked w i cells) cells
 
 -- The same with the first n words noted, each given by its place.
 unfoldable pub notedBefore : (ℕ → ℕ) → List ℕ → ℕ → List ℕ
@@ -75,6 +87,19 @@ taken good word cells i = good i && fresh (word i) (notedBefore word cells i)
 unfoldable pub takenFrom : (ℕ → Bool) → (ℕ → ℕ) → List ℕ → ℕ → ℕ → ℕ
 takenFrom good word cells i zero = i
 takenFrom good word cells i (suc left) = cond (taken good word cells i) (takenFrom good word cells (suc i) left) i
+
+-- How many words at the front are in range and fresh, 64 at most, and the cells with these noted.
+unfoldable pub takenWords : List ℕ → List ℕ → ℕ
+takenWords ws cells = takenFrom (λ i. inRange (entry (getD ws i 0))) (λ i. getD ws i 0) cells 0 (min 64 (length ws))
+
+unfoldable pub notedWords : List ℕ → List ℕ → List ℕ
+notedWords ws cells = notedBefore (λ i. getD ws i 0) cells (takenWords ws cells)
+
+-- Whether the words of a table value are at most 64 and all taken, and nothing stands in the unused words.
+unfoldable pub allTaken : List ℕ → ℕ → List ℕ → Bool
+allTaken words count cells =
+    let used = take count words in
+    leb count 64 && eqb (takenWords used cells) (length used) && allZero (drop count words)
 
 -- The cell of a message number and a tag; 0 where there is none. A tag over 65,535 is in no table.
 unfoldable pub cellFor : List ℕ → ℕ → ℕ → ℕ
