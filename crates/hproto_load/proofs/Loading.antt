@@ -6,18 +6,20 @@ use native.Mathlib.Omega.{arith}
 use mathlib.Core.Path.{_≡_, refl, sym, ap, _∙_}
 use mathlib.Core.Bool.{true}
 use mathlib.Core.List.{List, _++_}
-use lib.ListN.{length, take, drop, set, replicate}
+use lib.ListN.{length, take, drop, getD, set, replicate}
 use lib.Seq.{set-at, take-at, append-snoc}
 use borrow.Author.Count.{below-more}
 use Rattle.octets.specs.Number.{number}
-use Rattle.hproto_table.specs.Load.{wellFormed, recordAt, wordAt, wordsBefore, refused, accepted, tableOf, load}
-use Rattle.hproto_table.specs.internal.FirstRepeat.{firstRepeat}
+use Rattle.hproto_table.specs.Entry.{entry}
+use Rattle.hproto_table.specs.Load.{inRange, wellFormed, recordAt, wordAt, wordsBefore, pair, seen, refused, accepted, tableOf, load}
+use Rattle.hproto_table.specs.Repeat.{distinct}
 use Rattle.hproto_table.specs.declared.Loaded.{Loaded}
-use Rattle.hproto_table.proofs.Load.{length-words, faulty-form, faulty-late, load-repeat, load-whole, load-fault}
-use Rattle.hproto_table.proofs.Repeat.{repeat-least}
+use Rattle.hproto_table.proofs.Load.{length-words, words-take, words-at, wellFormed-whole, wellFormed-range, faulty-form, faulty-seen, faulty-late, load-whole, load-fault}
 use Rattle.hproto_record.specs.internal.Record.{recordOf}
 use Rattle.hproto_record.specs.declared.Record.the-variants.{Word, Wrong}
 use Rattle.hproto_record.proofs.RecordLaws.{place-is, recordOf-word, recordOf-wrong}
+use Rattle.table_index.specs.internal.Cells.{takenWords}
+use Rattle.table_index.proofs.Loaded.{words-within, words-apart, words-stopped}
 use Rattle.hproto_load.specs.internal.Pass.{Passed}
 
 -- ---- the words that are read
@@ -62,26 +64,49 @@ taken-all s n words k l = record { few = k .few; formed = k .formed; filled = k 
 
 -- ---- the whole
 
-module _ (s words : List ℕ) (n first : ℕ) (passed : Passed s n words) (repeat : first ≡ firstRepeat (take n words)) where
+module _ (s words : List ℕ) (n first : ℕ) (passed : Passed s n words) (taken : first ≡ takenWords (take n words) (replicate 128 0)) where
   words-read : take n words ≡ wordsBefore s n
   words-read = rw (passed .filled) (take-at (wordsBefore s n) (replicate (64 - n) 0) n (length-words s n))
 
-  repeat-read : firstRepeat (wordsBefore s n) ≡ first
-  repeat-read = ap firstRepeat (sym words-read) ∙ sym repeat
+  size : length (wordsBefore s n) ≤ 64
+  size = omega (arith, length-words s n, passed .few)
 
-  at-end : n ≤ first → firstRepeat (wordsBefore s n) ≡ n
-  at-end h = repeat-read ∙ omega (arith, repeat-least (wordsBefore s n), repeat-read, length-words s n)
+  first-is : first ≡ takenWords (wordsBefore s n) (replicate 128 0)
+  first-is = taken ∙ rw words-read refl
+
+  within : first ≤ n
+  within = omega (arith, first-is, words-within (wordsBefore s n) size, length-words s n)
+
+  -- The words before the first that is not taken have no pair twice.
+  apart : distinct (wordsBefore s first) ≡ true
+  apart = rw (← words-take s first n within, first-is) (words-apart (wordsBefore s n) size)
+
+  all-apart : n ≤ first → distinct (wordsBefore s n) ≡ true
+  all-apart h =
+      let e : n ≡ first = omega (arith, within) in
+      rw e apart
+
+  seen-before : first < n → seen (pair (wordAt s first)) (wordsBefore s first) ≡ true
+  seen-before h =
+      let w = words-at s first n h in
+      let range : inRange (entry (getD (wordsBefore s n) first 0)) ≡ true = rw w (wellFormed-range s first (passed .formed first h)) in
+      let stop = words-stopped (wordsBefore s n) size (omega (arith, first-is, length-words s n)) (rw (← first-is) range) in
+      rw (← w, ← words-take s first n within) (rw (← first-is) at stop)
 
   pub repeated : {r : Loaded} → first < n → r ≡ refused (first * 8) → r ≡ load s
-  repeated h e = e ∙ ap refused (mul-comm first 8) ∙ sym (load-repeat s n (passed .few) (passed .formed) first repeat-read h)
+  repeated h e =
+      e
+      ∙ ap refused (mul-comm first 8)
+      ∙ sym (load-fault s first (omega (arith, passed .few)) (λ j l. passed .formed j (omega arith)) apart
+      (omega (arith, wellFormed-whole s first (passed .formed first h))) (faulty-seen s first (seen-before h)))
 
   pub faulted : {r : Loaded} → n ≤ first → n * 8 < length s → r ≡ refused (n * 8) → r ≡ load s
   faulted h l e =
       e
       ∙ ap refused (mul-comm n 8)
-      ∙ sym (load-fault s n (passed .few) (passed .formed) (at-end h) (omega arith) (passed .stopped (omega arith)))
+      ∙ sym (load-fault s n (passed .few) (passed .formed) (all-apart h) (omega arith) (passed .stopped (omega arith)))
 
   pub loaded : n ≤ first → length s ≤ n * 8 → record { refusal = 0; place = 0; table = record { count = n; words = words } } ≡ load s
   unfolding accepted tableOf
   loaded h l =
-      rw (load-whole s n (passed .few) (passed .formed) (at-end h) (omega arith), length-words s n, passed .filled) refl
+      rw (load-whole s n (passed .few) (passed .formed) (all-apart h) (omega arith), length-words s n, passed .filled) refl

@@ -42,7 +42,8 @@ pub fn load(s: &[u8]) -> Loaded
 {
     let table = records(s);
     let n = table.count;
-    let first = hproto_repeat::first_repeat(&table.words, n);
+    let mut cells = [0u32; 128];
+    let first = table_index::index_words(&table.words, n, &mut cells);
     if first < n {
         return refused((first * 8) as u64);
     }

@@ -4,10 +4,11 @@ use native.Mathlib.Nat.{zero-add}
 use native.Mathlib.Omega.{arith}
 use mathlib.Core.Path.{_≡_, refl, ap, _∙_}
 use mathlib.Core.Bool.{Bool, true, false, cond, not, _||_, or-false}
-use mathlib.Core.List.{List}
-use lib.ListN.{length, take, drop, getD, length-append, length-take, length-drop}
-use lib.Dec.{eqb, leb}
-use borrow.Author.Tests.{eqb-true, le-leb, lt-leb}
+use mathlib.Core.List.{List, [], _∷_, _++_}
+use lib.ListN.{length, take, drop, getD, length-append, length-take, length-drop, List·getD-append}
+use lib.Seq.{take-append-le, take-all, getD-at}
+use lib.Dec.{eqb, leb, ltb}
+use borrow.Author.Tests.{eqb-true, le-leb, lt-leb, leb-true, leb-false, ltb-true, ltb-false}
 use Rattle.octets.specs.Number.{number}
 use Rattle.hproto_table.specs.Entry.{entry}
 use Rattle.hproto_table.specs.Load.{inRange, recordAt, wordAt, wellFormed, wordsBefore, pair, seen, faulty, accepted, refused, loadFrom, load}
@@ -19,6 +20,34 @@ pub length-words : (s : List ℕ) (n : ℕ) → length (wordsBefore s n) ≡ n
 unfolding wordsBefore
 length-words s zero = refl
 length-words s (suc n) = simp length-append (omega (arith, length-words s n))
+
+-- The first k of them, and the one at j.
+pub words-take : (s : List ℕ) (k n : ℕ) → k ≤ n → take k (wordsBefore s n) ≡ wordsBefore s k
+unfolding wordsBefore
+words-take s zero zero h = refl
+words-take s (suc k) zero h = absurd (omega arith)
+words-take s k (suc n) h = go (leb k n) refl (words-take s k n)
+  where
+    go : (t : Bool) → leb k n ≡ t → (k ≤ n → take k (wordsBefore s n) ≡ wordsBefore s k) → take k (wordsBefore s n ++ (wordAt s n ∷ [])) ≡ wordsBefore s k
+    go true e rest =
+        let l = leb-true k n e in
+        take-append-le k (wordsBefore s n) (wordAt s n ∷ []) (omega (arith, length-words s n)) ∙ rest l
+    go false e rest =
+        let q : k ≡ suc n = omega (arith, leb-false k n e) in
+        rw q (take-all (suc n) (wordsBefore s n ++ (wordAt s n ∷ [])) (simp length-append (omega (arith, length-words s n))))
+
+pub words-at : (s : List ℕ) (j n : ℕ) → j < n → getD (wordsBefore s n) j 0 ≡ wordAt s j
+unfolding wordsBefore
+words-at s j zero h = absurd (omega arith)
+words-at s j (suc n) h = go (ltb j n) refl (words-at s j n)
+  where
+    go : (t : Bool) → ltb j n ≡ t → (j < n → getD (wordsBefore s n) j 0 ≡ wordAt s j) → getD (wordsBefore s n ++ (wordAt s n ∷ [])) j 0 ≡ wordAt s j
+    go true e rest =
+        let l = ltb-true j n e in
+        List·getD-append (wordsBefore s n) (wordAt s n ∷ []) 0 j (omega (arith, length-words s n)) ∙ rest l
+    go false e rest =
+        let q : j ≡ n = omega (arith, ltb-false j n e) in
+        rw q (getD-at (wordsBefore s n) (wordAt s n) [] 0 n (length-words s n))
 
 -- What a well-formed record is, part by part.
 pub record Form (r : List ℕ) : Type 0 where

@@ -1,4 +1,4 @@
--- `load` gives what the definition says: the first repeat among the records of the right form decides, or what stands after them.
+-- `load` gives what the definition says: the first repeated pair among the records of the right form decides, or what stands after them.
 use native.Mathlib.Omega.{arith}
 use Rattle.hproto_load.proofs.Loading.{repeated, faulted, loaded}
 use borrow.Author.Needs.{needs}
@@ -8,8 +8,8 @@ use Rattle.hproto_load.proofs.load.Tie as tie
 records-requires : tie.Need-records-requires
 records-requires c κs = search needs
 
-first-repeat-requires : tie.Need-first-repeat-requires
-first-repeat-requires c κs = search needs
+index-words-requires : tie.Need-index-words-requires
+index-words-requires c κs = search needs
 
 mul-refused : tie.Need-mul-refused
 mul-refused c = search needs
@@ -19,10 +19,10 @@ refused-requires c κs = search needs
 
 returns : tie.Need-returns
 returns c =
-    let s = c .before .before .before .before .before .before .before .before .args .s .now in
-    let t = c .before .before .before .before .before .before .records in
-    let f = c .before .before .first-repeat in
-    repeated s (t .result .words) (t .result .count) (f .result) (t .ensures) (f .ensures) (omega (arith, c .before .if1 .taken)) (c .refused .ensures)
+    let s = c .before .before .before .before .before .before .before .before .before .args .s .now in
+    let t = c .before .before .before .before .before .before .before .records in
+    let f = c .before .before .index-words in
+    repeated s (t .result .words) (t .result .count) (f .result) (t .ensures) (f .ensures .0) (omega (arith, c .before .if1 .taken)) (c .refused .ensures)
 
 mul-if2 : tie.Need-mul-if2
 mul-if2 c = search needs
@@ -35,24 +35,24 @@ refused-requires-2 c κs = search needs
 
 returns-2 : tie.Need-returns-2
 returns-2 c =
-    let s = c .before .before .before .before .before .before .before .before .before .args .s .now in
-    let t = c .before .before .before .before .before .before .before .records in
-    let f = c .before .before .before .first-repeat in
-    faulted s (t .result .words) (t .result .count) (f .result) (t .ensures) (f .ensures) (omega (arith, c .before .before .if1 .left)) (omega (arith, c .before .if2 .taken)) (c .refused2 .ensures)
+    let s = c .before .before .before .before .before .before .before .before .before .before .args .s .now in
+    let t = c .before .before .before .before .before .before .before .before .records in
+    let f = c .before .before .before .index-words in
+    faulted s (t .result .words) (t .result .count) (f .result) (t .ensures) (f .ensures .0) (omega (arith, c .before .before .if1 .left)) (omega (arith, c .before .if2 .taken)) (c .refused2 .ensures)
 
 returns-3 : tie.Need-returns-3
 returns-3 c =
-    let s = c .before .before .before .before .before .before .before .before .args .s .now in
-    let t = c .before .before .before .before .before .before .records in
-    let f = c .before .before .first-repeat in
-    loaded s (t .result .words) (t .result .count) (f .result) (t .ensures) (f .ensures) (omega (arith, c .before .if1 .left)) (omega (arith, c .if2 .left))
+    let s = c .before .before .before .before .before .before .before .before .before .args .s .now in
+    let t = c .before .before .before .before .before .before .before .records in
+    let f = c .before .before .index-words in
+    loaded s (t .result .words) (t .result .count) (f .result) (t .ensures) (f .ensures .0) (omega (arith, c .before .if1 .left)) (omega (arith, c .if2 .left))
 
 pub load-spec : {M : Type 1} → statement M
 load-spec =
     tie.close
     (tie.spec
     records-requires
-    first-repeat-requires
+    index-words-requires
     mul-refused
     refused-requires
     returns
