@@ -1,20 +1,11 @@
--- The kinds whose values are octets.
+-- Which octets may be a value of a kind.
 use Prim.Native.Nat.{ℕ}
 use mathlib.Core.Path.{_≡_, refl}
 use mathlib.Core.Bool.{Bool, true}
 use mathlib.Core.List.{List}
-use lib.Dec.{eqb}
 use borrow.Author.Tests.{eq-eqb, ne-eqb}
 use Rattle.octets.specs.Text.{text}
-use Rattle.hproto_state.specs.Calls.{ofOctets, readable}
-
-pub octets-string : (k : ℕ) → k ≡ 3 → true ≡ ofOctets k
-unfolding ofOctets
-octets-string k e = rw (eq-eqb k 3 e) refl
-
-pub octets-other : (k : ℕ) → (k ≡ 3 → ⊥) → eqb k 4 ≡ ofOctets k
-unfolding ofOctets
-octets-other k ne = rw (ne-eqb k 3 ne) refl
+use Rattle.hproto_state.specs.Calls.{readable}
 
 pub reads-text : (k : ℕ) (xs : List ℕ) (r : Bool) → k ≡ 4 → r ≡ text xs → r ≡ readable k xs
 unfolding readable

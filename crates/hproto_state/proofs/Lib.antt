@@ -5,3 +5,4 @@ pub mod Refusals
 pub mod Conditions
 pub mod Answers
 pub mod Added
+pub mod TagKinds

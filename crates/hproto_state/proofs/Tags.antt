@@ -3,13 +3,13 @@ use Prim.Native.Nat.{ℕ, _≤_, _<_}
 use native.Mathlib.Omega.{arith}
 use mathlib.Core.Path.{_≡_, refl, _∙_}
 use mathlib.Core.Bool.{Bool, true, false, false≢true}
-use lib.ListN.{getD}
+use lib.ListN.{take, getD}
 use lib.Dec.{leb, eqb}
 use borrow.Author.Tests.{le-leb, lt-leb, leb-true, leb-false, eqb-true}
 use Rattle.hproto_table.specs.Entry.{entries, kindNumber}
 use Rattle.hproto_table.specs.Schema.{schemaOf, schema}
 use Rattle.hproto_table.specs.declared.Table.{Table}
-use Rattle.hproto_find.proofs.Finding.{large-tag}
+use Rattle.hproto_table.proofs.Schemas.{find-large}
 use Rattle.hproto_state.specs.Calls.{level, meant, ofOctets}
 use Rattle.hproto_state.specs.declared.State.{State}
 
@@ -24,7 +24,7 @@ level-out s h = rw (lt-leb (s .opened) 7 (omega arith)) refl
 -- A tag that the table does not have, as one that is out of range, has no kind.
 pub absent : (t : Table) (s : State) (tag : ℕ) → 65535 < tag → kindNumber (meant t s tag) ≡ 0
 unfolding meant kindNumber schema schemaOf entries
-absent t s tag h = rw (← large-tag (t .words) (t .count) (level s) tag h) refl
+absent t s tag h = rw (find-large (take (t .count) (t .words)) (level s) tag (omega arith)) refl
 
 -- A tag that has a kind is in range.
 pub narrow : (t : Table) (s : State) (tag : ℕ) → (kindNumber (meant t s tag) ≡ 0 → ⊥) → tag < 65536

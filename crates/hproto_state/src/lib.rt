@@ -5,8 +5,10 @@ use hproto_table::Table;
 ghost use mathlib.Core.Path.{_≡_};
 ghost use Prim.Native.Nat.{_≤_};
 ghost use lib.ListN.{length as length-of, take};
+ghost use Rattle.hproto_table.specs.Entry.{innerOf};
 ghost use Rattle.hproto_state.specs.Sound.{falling, small, sound as sound-of};
-ghost use Rattle.hproto_state.specs.Calls.{level as level-of, meant, started, startRefusal, begun, finishRefusal, finished};
+ghost use Rattle.hproto_state.specs.Calls.{level as level-of, ofOctets, started, startRefusal, begun, finishRefusal, finished};
+ghost use Rattle.hproto_state.specs.internal.Tags.{fits as fits-of, tagKind};
 
 // What is written so far: the buffer's length, where the octets stored so far start, and how many message fields are open. For each
 // level a message number; for each open field the place where its contents end, and its tag.
@@ -34,6 +36,14 @@ pub struct Finished {
     pub place: u64,
     pub start: usize,
     pub state: State,
+}
+
+// What a tag is in the innermost message that is open: a refusal number (0 where there is none), and in no refusal the number of its kind
+// and the number of the message that it holds.
+pub struct Tagged {
+    pub refusal: u64,
+    pub kind: u64,
+    pub inner: u64,
 }
 
 // Whether the first n marks lie between two places and none is above the one before it.
@@ -103,12 +113,73 @@ fn level(s: State) -> u64
     0
 }
 
-// What a tag means in the innermost message that is open.
-pub fn meaning(t: Table, s: State, tag: u64) -> Meaning
-    ensures { λ r. ⌜ r ≡ meant t s tag ⌝ }
+fn of_octets(kind: u64) -> bool
+    ensures { λ r. ⌜ r ≡ ofOctets kind ⌝ }
 {
-    let count = t.count;
-    hproto_find::find(&t.words, count, level(s), tag)
+    if kind == 3 {
+        return true;
+    }
+    kind == 4
+}
+
+// Whether a kind is the one that a call wants, by the kinds' numbers. A call that wants 3 takes a string or a text.
+fn fits(wanted: u64, kind: u64) -> bool
+    ensures { λ r. ⌜ r ≡ fits-of wanted kind ⌝ }
+{
+    if wanted == 3 {
+        return of_octets(kind);
+    }
+    kind == wanted
+}
+
+fn inner(kind: Meaning) -> u64
+    ensures { λ r. ⌜ r ≡ innerOf kind ⌝ }
+{
+    match kind {
+        Meaning::Raw => 0,
+        Meaning::Uint => 0,
+        Meaning::Int => 0,
+        Meaning::String => 0,
+        Meaning::Text => 0,
+        Meaning::Message(m) => m,
+    }
+}
+
+fn not_tagged(refusal: u64) -> Tagged
+    ensures { λ r. ⌜ r ≡ record { refusal = refusal; kind = 0; inner = 0 } ⌝ }
+{
+    Tagged {
+        refusal,
+        kind: 0,
+        inner: 0,
+    }
+}
+
+// What a tag is in the innermost message that is open, for a call that wants a kind. One pass over the table's words tests the table and
+// indexes it. Refusals: 10, 2, 8.
+pub fn tag_kind(t: Table, s: State, len: usize, tag: u64, wanted: u64) -> Tagged
+    ensures { λ r. ⌜ r ≡ tagKind t s len tag wanted ⌝ }
+{
+    if len != s.length {
+        return not_tagged(10);
+    }
+    if !sound(s) {
+        return not_tagged(10);
+    }
+    let mut cells = [0u32; 128];
+    if !table_index::index_table(&t.words, t.count, &mut cells) {
+        return not_tagged(2);
+    }
+    let means = table_index::find(&cells, level(s), tag);
+    let kind = table_index::kind_number(means);
+    if !fits(wanted, kind) {
+        return not_tagged(8);
+    }
+    Tagged {
+        refusal: 0,
+        kind,
+        inner: inner(means),
+    }
 }
 
 fn start_refusal(t: Table, number: u64, len: usize) -> u64
@@ -117,7 +188,7 @@ fn start_refusal(t: Table, number: u64, len: usize) -> u64
     if 65536 < len {
         return 1;
     }
-    if !hproto_valid::valid(t) {
+    if !table_index::valid(t) {
         return 2;
     }
     if 15 < number {

@@ -2,7 +2,7 @@
 use Prim.Native.Nat.{ℕ, zero, suc, _+_, _/_, _%_, _≤_, _<_}
 use native.Mathlib.Omega.{arith}
 use mathlib.Core.Path.{_≡_, refl, sym, ap, _∙_}
-use mathlib.Core.Bool.{Bool, true, false, cond, not, _&&_, _||_, or-true, or-false, and-false}
+use mathlib.Core.Bool.{Bool, true, false, cond, not, _&&_, _||_, or-true, or-false}
 use mathlib.Core.List.{List, [], _∷_, _++_, map}
 use lib.ListN.{replicate}
 use lib.Seq.{append-snoc}
@@ -15,7 +15,7 @@ use Rattle.hproto_table.specs.Repeat.{distinct}
 use Rattle.hproto_table.specs.declared.Meaning.the-variants.{Raw}
 use Rattle.hproto_table.proofs.Bools.{and-left, and-right}
 use Rattle.hproto_table.proofs.Repeat.{seen-append, seen-one, distinct-snoc}
-use Rattle.hproto_table.proofs.Schemas.{same-schema}
+use Rattle.hproto_table.proofs.Schemas.{same-schema, find-large}
 use Rattle.table_index.specs.internal.Cells.{keyOf, wordKey, cellOf, meaningIn, orderIn, search, fresh, notedBefore, taken, takenFrom, cellFor, indexed}
 use Rattle.table_index.proofs.Meanings.{raw}
 use Rattle.table_index.proofs.Words.{Small, cell-some, cell-order, cell-means, key-fits, key-pair}
@@ -138,14 +138,6 @@ taken-stops good word cells (suc left) i l = go (taken good word cells i) refl l
         → taken good word cells (cond a (takenFrom good word cells (suc i) left) i) ≡ false
     go true e m rest = rest (omega arith)
     go false e m rest = e
-
--- A tag over 65,535 is in no word.
-find-large : (ws : List ℕ) (n t : ℕ) → 65536 ≤ t → find (map entry ws) n t ≡ Raw
-unfolding find entry
-find-large [] n t h = refl
-find-large (w ∷ ws) n t h =
-    let e : eqb (w / 65536 % 65536) t ≡ false = ne-eqb (w / 65536 % 65536) t (λ q. omega arith) in
-    rw (e, and-false (eqb (w / 4294967296) n)) (find-large ws n t h)
 
 module _ (good : ℕ → Bool) (word : ℕ → ℕ) (range : (j : ℕ) → good j ≡ true → Small (word j)) (most : ℕ) (few : most ≤ 64)
     (k : ℕ) (count : k ≡ takenFrom good word (replicate 128 0) 0 most) where

@@ -1,7 +1,7 @@
 -- `of_octets` meets its contract: a string or a text.
-use Rattle.hproto_puts.proofs.OctetKinds.{octets-string, octets-other}
-use Rattle.hproto_puts.proofs.of_octets.Statement.{statement}
-use Rattle.hproto_puts.proofs.of_octets.Tie as tie
+use Rattle.hproto_state.proofs.TagKinds.{octets-string, octets-other}
+use Rattle.hproto_state.proofs.of_octets.Statement.{statement}
+use Rattle.hproto_state.proofs.of_octets.Tie as tie
 
 returns : tie.Need-returns
 returns c = octets-string (c .before .args .kind) (c .if1 .taken)

@@ -1,8 +1,8 @@
 -- `inner` meets its contract: each kind in turn.
 use Rattle.hproto_table.specs.Entry.{innerOf}
 use borrow.Author.Needs.{needs}
-use Rattle.hproto_nesting.proofs.inner.Statement.{statement}
-use Rattle.hproto_nesting.proofs.inner.Tie as tie
+use Rattle.hproto_state.proofs.inner.Statement.{statement}
+use Rattle.hproto_state.proofs.inner.Tie as tie
 
 enum-told : tie.Need-enum-told
 enum-told c = search needs

@@ -1,0 +1,20 @@
+-- What `tag_kind` answers, which put and open share.
+use Prim.Native.Nat.{ℕ}
+use mathlib.Core.Bool.{Bool, true, cond}
+use lib.Dec.{eqb}
+use Rattle.hproto_table.specs.Entry.{kindNumber, innerOf}
+use Rattle.hproto_table.specs.declared.Table.{Table}
+use Rattle.hproto_state.specs.Calls.{meant, ofOctets, putRefusal}
+use Rattle.hproto_state.specs.declared.State.{State}
+use Rattle.hproto_state.specs.declared.Tagged.{Tagged}
+
+-- Whether a kind is the one that a call wants, by the kinds' numbers; 3 stands for a string or a text.
+unfoldable pub fits : ℕ → ℕ → Bool
+fits wanted kind = cond (eqb wanted 3) (ofOctets kind) (eqb kind wanted)
+
+-- The refusal of a put of no octets, which needs no room; in no refusal the tag's kind and the inner number.
+unfoldable pub tagKind : Table → State → ℕ → ℕ → ℕ → Tagged
+tagKind t s len tag wanted =
+    let m = meant t s tag in
+    let no = putRefusal t s len (fits wanted (kindNumber m)) true 0 in
+    cond (eqb no 0) (record { refusal = 0; kind = kindNumber m; inner = innerOf m }) (record { refusal = no; kind = 0; inner = 0 })
