@@ -5,15 +5,17 @@ use hproto_table::Table;
 use octets::Least;
 ghost use mathlib.Core.Path.{_≡_};
 ghost use mathlib.Core.Bool.{true};
-ghost use Prim.Native.Nat.{_+_, _≤_, _<_};
+ghost use Prim.Native.Nat.{_+_, _≤_};
 ghost use lib.Dec.{leb};
 ghost use lib.ListN.{length as length-of};
 ghost use Rattle.octets.specs.Number.{octetsOf};
 ghost use Rattle.octets.specs.Control.{leastControl};
+ghost use Rattle.hproto_table.specs.Entry.{kindNumber};
 ghost use Rattle.hproto_message.specs.Shortest.{field};
 ghost use Rattle.hproto_state.specs.Call.{putUint, putInt, putOctets};
 ghost use Rattle.hproto_state.specs.Answer.{answer, buffer};
-ghost use Rattle.hproto_state.specs.Calls.{ofOctets, readable as readable-of, put, putBuffer, putRefusal};
+ghost use Rattle.hproto_state.specs.Calls.{meant, readable as readable-of, put, putBuffer};
+ghost use Rattle.hproto_state.specs.internal.Tags.{fits};
 ghost use Rattle.hproto_puts.specs.internal.Stores.{Before};
 
 // Whether a field of n octets of contents fits into the free octets. Their sum could be out of range, so n is compared first.
@@ -26,15 +28,6 @@ fn has_room(free: usize, tag: u16, n: usize) -> bool
     hproto_put::control_size(tag, n as u64) <= free - n
 }
 
-fn of_octets(kind: u64) -> bool
-    ensures { λ r. ⌜ r ≡ ofOctets kind ⌝ }
-{
-    if kind == 3 {
-        return true;
-    }
-    kind == 4
-}
-
 fn readable(kind: u64, xs: &[u8]) -> bool
     ensures { λ r. ⌜ r ≡ readable-of kind (now (xs .entry)) ⌝ }
 {
@@ -42,32 +35,6 @@ fn readable(kind: u64, xs: &[u8]) -> bool
         return octets_text::text(xs);
     }
     true
-}
-
-// The first refusal of a put, 0 where there is none.
-fn put_refusal(t: Table, s: State, len: usize, agrees: bool, reads: bool, tag: u64, n: usize) -> u64
-    requires { ⌜ (agrees ≡ true → tag < 65536) ⌝ }
-    ensures { λ r. ⌜ r ≡ putRefusal t s len agrees reads (length-of (leastControl tag n) + n) ⌝ }
-{
-    if len != s.length {
-        return 10;
-    }
-    if !hproto_state::sound(s) {
-        return 10;
-    }
-    if !hproto_valid::valid(t) {
-        return 2;
-    }
-    if !agrees {
-        return 8;
-    }
-    if !reads {
-        return 7;
-    }
-    if !has_room(s.start, tag as u16, n) {
-        return 9;
-    }
-    0
 }
 
 // Stores a field whose contents are the octets of a number just before `start`, and answers its place.
@@ -101,17 +68,23 @@ fn store_plain(out: &mut [u8], start: usize, tag: u16, xs: &[u8]) -> usize
     at
 }
 
-// A put of a number in its least octets.
-fn put_least(t: Table, s: State, tag: u64, agrees: bool, least: Least, out: &mut [u8]) -> Written
-    requires { ⌜ (agrees ≡ true → tag < 65536) ⌝ }
-    ensures { λ r. ⌜ r ≡ put t s tag agrees true (octetsOf (least .width) (least .bits)) (length-of (now (out .entry))) ⌝ }
-    ensures { λ r. ⌜ now (out .exit) ≡ putBuffer t s tag agrees true (octetsOf (least .width) (least .bits)) (now (out .entry)) ⌝ }
+// A put of a number in its least octets, for a tag of a wanted kind.
+fn put_least(t: Table, s: State, tag: u64, wanted: u64, least: Least, out: &mut [u8]) -> Written
+    requires { ⌜ 1 ≤ wanted ⌝ }
+    ensures { λ r. ⌜ r ≡ put t s tag (fits wanted (kindNumber (meant t s tag))) true (octetsOf (least .width) (least .bits)) (length-of (now (out .entry))) ⌝ }
+    ensures { λ r. ⌜ now (out .exit) ≡ putBuffer t s tag (fits wanted (kindNumber (meant t s tag))) true (octetsOf (least .width) (least .bits)) (now (out .entry)) ⌝ }
 {
-    let n = least.width as usize;
-    let no = put_refusal(t, s, out.len(), agrees, true, tag, n);
-    if no != 0 {
+    let k = hproto_state::tag_kind(t, s, out.len(), tag, wanted);
+    if k.refusal != 0 {
         return Written {
-            refusal: no,
+            refusal: k.refusal,
+            place: 0,
+            state: s,
+        };
+    }
+    if !has_room(s.start, tag as u16, least.width as usize) {
+        return Written {
+            refusal: 9,
             place: 0,
             state: s,
         };
@@ -130,8 +103,7 @@ pub fn put_uint(t: Table, s: State, tag: u64, v: u64, out: &mut [u8]) -> Written
     ensures { λ r. ⌜ r ≡ answer t s (now (out .entry)) (putUint tag v) ⌝ }
     ensures { λ r. ⌜ now (out .exit) ≡ buffer t s (now (out .entry)) (putUint tag v) ⌝ }
 {
-    let k = hproto_find::kind_number(hproto_state::meaning(t, s, tag));
-    put_least(t, s, tag, k == 1, octets_least::uint_least(v), out)
+    put_least(t, s, tag, 1, octets_least::uint_least(v), out)
 }
 
 // Puts an int field. Refusals as for a uint.
@@ -139,8 +111,7 @@ pub fn put_int(t: Table, s: State, tag: u64, v: i64, out: &mut [u8]) -> Written
     ensures { λ r. ⌜ r ≡ answer t s (now (out .entry)) (putInt tag v) ⌝ }
     ensures { λ r. ⌜ now (out .exit) ≡ buffer t s (now (out .entry)) (putInt tag v) ⌝ }
 {
-    let k = hproto_find::kind_number(hproto_state::meaning(t, s, tag));
-    put_least(t, s, tag, k == 2, octets_least::int_least(v), out)
+    put_least(t, s, tag, 2, octets_least::int_least(v), out)
 }
 
 // Puts a string or a text field. Refusals, all at 0: 10, 2, 8, 7 for octets that are no text but have to be, 9.
@@ -148,19 +119,24 @@ pub fn put_octets(t: Table, s: State, tag: u64, xs: &[u8], out: &mut [u8]) -> Wr
     ensures { λ r. ⌜ r ≡ answer t s (now (out .entry)) (putOctets tag (now (xs .entry))) ⌝ }
     ensures { λ r. ⌜ now (out .exit) ≡ buffer t s (now (out .entry)) (putOctets tag (now (xs .entry))) ⌝ }
 {
-    let k = hproto_find::kind_number(hproto_state::meaning(t, s, tag));
-    let no = put_refusal(
-        t,
-        s,
-        out.len(),
-        of_octets(k),
-        readable(k, xs),
-        tag,
-        xs.len(),
-    );
-    if no != 0 {
+    let k = hproto_state::tag_kind(t, s, out.len(), tag, 3);
+    if k.refusal != 0 {
         return Written {
-            refusal: no,
+            refusal: k.refusal,
+            place: 0,
+            state: s,
+        };
+    }
+    if !readable(k.kind, xs) {
+        return Written {
+            refusal: 7,
+            place: 0,
+            state: s,
+        };
+    }
+    if !has_room(s.start, tag as u16, xs.len()) {
+        return Written {
+            refusal: 9,
             place: 0,
             state: s,
         };

@@ -2,101 +2,120 @@
 use native.Mathlib.Omega.{arith}
 use mathlib.Core.Path.{_≡_, refl, sym, ap, _∙_}
 use Prim.Native.Nat.{ℕ, _+_}
+use mathlib.Core.Bool.{true}
 use denote.Ref.{now}
 use lib.ListN.{length}
+use borrow.Author.Tests.{leb-true, not-true, not-false}
 use Rattle.octets.specs.Control.{leastControl}
-use Rattle.hproto_puts.proofs.Answers.{put-refused, put-accepted}
-use Rattle.hproto_state.proofs.Tags.{narrow-octets}
+use Rattle.hproto_table.specs.Entry.{kindNumber}
+use Rattle.hproto_state.specs.Answer.{answer, buffer}
+use Rattle.hproto_state.specs.Calls.{meant, ofOctets, readable}
+use Rattle.hproto_state.specs.internal.Tags.{fits}
 use Rattle.hproto_state.proofs.Conditions.{put-met}
 use Rattle.hproto_state.proofs.SoundStates.{sound-within}
-use Rattle.hproto_state.specs.Calls.{meant, ofOctets, readable}
+use Rattle.hproto_state.proofs.TagKinds.{put-kept, tag-read, tag-narrow}
+use Rattle.hproto_puts.proofs.Answers.{put-refused, put-accepted}
+use Rattle.hproto_puts.proofs.Refusals.{put-text, put-long, put-taken}
 use borrow.Author.Needs.{needs}
 use Rattle.hproto_puts.proofs.put_octets.Statement.{statement}
 use Rattle.hproto_puts.proofs.put_octets.Tie as tie
-use Rattle.hproto_table.specs.Entry.{kindNumber}
-use Rattle.hproto_state.specs.Answer.{answer, buffer}
 
-meaning-requires : tie.Need-meaning-requires
-meaning-requires c κs = search needs
+tag-kind-requires : tie.Need-tag-kind-requires
+tag-kind-requires c κs = search needs
 
-kind-number-requires : tie.Need-kind-number-requires
-kind-number-requires c κs = search needs
-
-of-octets-requires : tie.Need-of-octets-requires
-of-octets-requires c κs = search needs
+returns : tie.Need-returns
+unfolding answer buffer fits
+returns c =
+    let a = c .before .before .before .before .before .args in
+    let k = c .before .before .tag-kind in
+    let r = tag-read (a .t) (a .s) (length (now (a .out))) (a .tag) 3 (k .ensures) in
+    let p = put-refused (a .t) (a .s) (a .tag) (ofOctets (kindNumber (meant (a .t) (a .s) (a .tag)))) (readable (kindNumber (meant (a .t) (a .s) (a .tag))) (now (a .xs))) (now (a .xs)) (now (a .out)) (length (now (a .xs))) (k .result .refusal) refl (put-kept (a .t) (a .s) (length (now (a .out))) (ofOctets (kindNumber (meant (a .t) (a .s) (a .tag)))) (k .result .refusal) (r .refused) (readable (kindNumber (meant (a .t) (a .s) (a .tag))) (now (a .xs))) (length (leastControl (a .tag) (length (now (a .xs)))) + length (now (a .xs))) (c .if1 .taken)) (c .if1 .taken) in
+    (p .answer, p .buffer)
 
 readable-requires : tie.Need-readable-requires
 readable-requires c κs = search needs
 
-put-refusal-requires : tie.Need-put-refusal-requires
-put-refusal-requires c κs =
-    let a = c .before .before .before .before .before .before .args in
-    let k = c .before .before .kind-number in
-    let e : k .result ≡ kindNumber (meant (a .t) (a .s) (a .tag)) = k .ensures ∙ ap kindNumber (c .before .before .before .meaning .ensures) in
-    λ h. narrow-octets (a .t) (a .s) (a .tag) (k .result) e (sym (c .before .of-octets .ensures) ∙ h)
+returns-2 : tie.Need-returns-2
+unfolding answer buffer fits
+returns-2 c =
+    let a = c .before .before .before .before .before .before .before .args in
+    let k = c .before .before .before .before .tag-kind in
+    let r = tag-read (a .t) (a .s) (length (now (a .out))) (a .tag) 3 (k .ensures) in
+    let x = c .before .readable in
+    let y : x .result ≡ readable (kindNumber (meant (a .t) (a .s) (a .tag))) (now (a .xs)) = x .ensures ∙ ap (λ (n : ℕ). readable n (now (a .xs))) (r .kind (c .before .before .if1 .left)) in
+    let p = put-refused (a .t) (a .s) (a .tag) (ofOctets (kindNumber (meant (a .t) (a .s) (a .tag)))) (readable (kindNumber (meant (a .t) (a .s) (a .tag))) (now (a .xs))) (now (a .xs)) (now (a .out)) (length (now (a .xs))) 7 refl (put-text (a .t) (a .s) (length (now (a .out))) (ofOctets (kindNumber (meant (a .t) (a .s) (a .tag)))) (readable (kindNumber (meant (a .t) (a .s) (a .tag))) (now (a .xs))) (length (leastControl (a .tag) (length (now (a .xs)))) + length (now (a .xs))) (k .result .refusal) (r .refused) (c .before .before .if1 .left) (sym y ∙ not-true (x .result) (c .if2 .taken))) (λ n. omega arith) in
+    (p .answer, p .buffer)
 
-returns : tie.Need-returns
-unfolding answer buffer
-returns c =
-    let a = c .before .before .before .before .before .before .before .before .args in
-    let k = c .before .before .before .before .kind-number in
-    let e : k .result ≡ kindNumber (meant (a .t) (a .s) (a .tag)) = k .ensures ∙ ap kindNumber (c .before .before .before .before .before .meaning .ensures) in
-    let o = c .before .before .before .of-octets in
-    let d = c .before .before .readable in
-    let oe : o .result ≡ ofOctets (kindNumber (meant (a .t) (a .s) (a .tag))) = o .ensures ∙ ap ofOctets e in
-    let de : d .result ≡ readable (kindNumber (meant (a .t) (a .s) (a .tag))) (now (a .xs)) = d .ensures ∙ ap (λ (n : ℕ). readable n (now (a .xs))) e in
-    let p = c .before .put-refusal in
-    let r = put-refused (a .t) (a .s) (a .tag) (o .result) (d .result) (now (a .xs)) (now (a .out)) (length (now (a .xs))) (p .result) refl (p .ensures) (c .if1 .taken) in
-    (r .answer ∙ rw (oe, de) refl, r .buffer ∙ rw (oe, de) refl)
+cast-has-room : tie.Need-cast-has-room
+cast-has-room c =
+    let a = c .before .before .before .before .before .before .before .args in
+    let k = c .before .before .before .before .tag-kind in
+    let h = tag-narrow (a .t) (a .s) (length (now (a .out))) (a .tag) 3 (omega arith) (k .ensures) (c .before .before .if1 .left) in
+    omega arith
+
+has-room-requires : tie.Need-has-room-requires
+has-room-requires c κs = search needs
+
+returns-3 : tie.Need-returns-3
+unfolding answer buffer fits
+returns-3 c =
+    let a = c .before .before .before .before .before .before .before .before .before .args in
+    let k = c .before .before .before .before .before .before .tag-kind in
+    let r = tag-read (a .t) (a .s) (length (now (a .out))) (a .tag) 3 (k .ensures) in
+    let x = c .before .before .before .readable in
+    let y : x .result ≡ readable (kindNumber (meant (a .t) (a .s) (a .tag))) (now (a .xs)) = x .ensures ∙ ap (λ (n : ℕ). readable n (now (a .xs))) (r .kind (c .before .before .before .before .if1 .left)) in
+    let h = c .before .has-room in
+    let p = put-refused (a .t) (a .s) (a .tag) (ofOctets (kindNumber (meant (a .t) (a .s) (a .tag)))) (readable (kindNumber (meant (a .t) (a .s) (a .tag))) (now (a .xs))) (now (a .xs)) (now (a .out)) (length (now (a .xs))) 9 refl (put-long (a .t) (a .s) (length (now (a .out))) (ofOctets (kindNumber (meant (a .t) (a .s) (a .tag)))) (readable (kindNumber (meant (a .t) (a .s) (a .tag))) (now (a .xs))) (length (leastControl (a .tag) (length (now (a .xs)))) + length (now (a .xs))) (k .result .refusal) (r .refused) (c .before .before .before .before .if1 .left) (sym y ∙ not-false (x .result) (c .before .before .if2 .left)) (sym (not-true (h .result) (c .if3 .taken)) ∙ h .ensures)) (λ n. omega arith) in
+    (p .answer, p .buffer)
 
 cast-store-plain : tie.Need-cast-store-plain
 cast-store-plain c =
-    let a = c .before .before .before .before .before .before .before .before .before .args in
-    let p = c .before .before .put-refusal in
-    let m = put-met (a .t) (a .s) (length (now (a .out))) (c .before .before .before .before .of-octets .result) (c .before .before .before .readable .result) (length (leastControl (a .tag) (length (now (a .xs)))) + length (now (a .xs))) (sym (p .ensures) ∙ c .before .if1 .left) in
-    let k = c .before .before .before .before .before .kind-number in
-    let e : k .result ≡ kindNumber (meant (a .t) (a .s) (a .tag)) = k .ensures ∙ ap kindNumber (c .before .before .before .before .before .before .meaning .ensures) in
-    let h = narrow-octets (a .t) (a .s) (a .tag) (k .result) e (sym (c .before .before .before .before .of-octets .ensures) ∙ m .agreed) in
+    let a = c .before .before .before .before .before .before .before .before .before .before .args in
+    let k = c .before .before .before .before .before .before .before .tag-kind in
+    let h = tag-narrow (a .t) (a .s) (length (now (a .out))) (a .tag) 3 (omega arith) (k .ensures) (c .before .before .before .before .before .if1 .left) in
     omega arith
 
 store-plain-requires : tie.Need-store-plain-requires
+unfolding fits
 store-plain-requires c κs =
-    let a = c .before .before .before .before .before .before .before .before .before .args in
-    let p = c .before .before .put-refusal in
-    let m = put-met (a .t) (a .s) (length (now (a .out))) (c .before .before .before .before .of-octets .result) (c .before .before .before .readable .result) (length (leastControl (a .tag) (length (now (a .xs)))) + length (now (a .xs))) (sym (p .ensures) ∙ c .before .if1 .left) in
+    let a = c .before .before .before .before .before .before .before .before .before .before .args in
+    let k = c .before .before .before .before .before .before .before .tag-kind in
+    let r = tag-read (a .t) (a .s) (length (now (a .out))) (a .tag) 3 (k .ensures) in
+    let h = c .before .before .has-room in
+    let m = put-met (a .t) (a .s) (length (now (a .out))) (ofOctets (kindNumber (meant (a .t) (a .s) (a .tag)))) true 0 (sym (r .refused) ∙ c .before .before .before .before .before .if1 .left) in
     let e = m .same in
-    let h = sound-within (a .s) (m .good) in
-    (m .room, omega arith)
+    let w = sound-within (a .s) (m .good) in
+    (leb-true (length (leastControl (a .tag) (length (now (a .xs)))) + length (now (a .xs))) (a .s .start) (sym (h .ensures) ∙ not-false (h .result) (c .before .if3 .left)), omega arith)
 
 same-length : tie.Need-same-length
 same-length c = search needs
 
-returns-2 : tie.Need-returns-2
-unfolding answer buffer
-returns-2 c =
-    let a = c .before .before .before .before .before .before .before .before .before .before .before .before .args in
-    let k = c .before .before .before .before .before .before .before .before .kind-number in
-    let e : k .result ≡ kindNumber (meant (a .t) (a .s) (a .tag)) = k .ensures ∙ ap kindNumber (c .before .before .before .before .before .before .before .before .before .meaning .ensures) in
-    let o = c .before .before .before .before .before .before .before .of-octets in
-    let d = c .before .before .before .before .before .before .readable in
-    let oe : o .result ≡ ofOctets (kindNumber (meant (a .t) (a .s) (a .tag))) = o .ensures ∙ ap ofOctets e in
-    let de : d .result ≡ readable (kindNumber (meant (a .t) (a .s) (a .tag))) (now (a .xs)) = d .ensures ∙ ap (λ (n : ℕ). readable n (now (a .xs))) e in
-    let p = c .before .before .before .before .before .put-refusal in
+returns-4 : tie.Need-returns-4
+unfolding answer buffer fits
+returns-4 c =
+    let a = c .before .before .before .before .before .before .before .before .before .before .before .before .before .args in
+    let k = c .before .before .before .before .before .before .before .before .before .before .tag-kind in
+    let r = tag-read (a .t) (a .s) (length (now (a .out))) (a .tag) 3 (k .ensures) in
+    let x = c .before .before .before .before .before .before .before .readable in
+    let y : x .result ≡ readable (kindNumber (meant (a .t) (a .s) (a .tag))) (now (a .xs)) = x .ensures ∙ ap (λ (n : ℕ). readable n (now (a .xs))) (r .kind (c .before .before .before .before .before .before .before .before .if1 .left)) in
+    let h = c .before .before .before .before .before .has-room in
     let n = c .before .before .store-plain in
-    let r = put-accepted (a .t) (a .s) (a .tag) (o .result) (d .result) (now (a .xs)) (now (a .out)) (length (now (a .xs))) (p .result) (n .result) (n .last .0) refl (p .ensures) (c .before .before .before .before .if1 .left) (n .ensures) in
-    (r .answer ∙ rw (oe, de) refl, r .buffer ∙ rw (oe, de) refl)
+    let p = put-accepted (a .t) (a .s) (a .tag) (ofOctets (kindNumber (meant (a .t) (a .s) (a .tag)))) (readable (kindNumber (meant (a .t) (a .s) (a .tag))) (now (a .xs))) (now (a .xs)) (now (a .out)) (length (now (a .xs))) 0 (n .result) (n .last .0) refl
+    (put-taken (a .t) (a .s) (length (now (a .out))) (ofOctets (kindNumber (meant (a .t) (a .s) (a .tag)))) (readable (kindNumber (meant (a .t) (a .s) (a .tag))) (now (a .xs))) (length (leastControl (a .tag) (length (now (a .xs)))) + length (now (a .xs))) (k .result .refusal) (r .refused) (c .before .before .before .before .before .before .before .before .if1 .left) (sym y ∙ not-false (x .result) (c .before .before .before .before .before .before .if2 .left)) (sym (not-false (h .result) (c .before .before .before .before .if3 .left)) ∙ h .ensures)) refl (n .ensures) in
+    (p .answer, p .buffer)
 
 pub put-octets-spec : {M : Type 1} → statement M
 put-octets-spec =
     tie.close
     (tie.spec
-    meaning-requires
-    kind-number-requires
-    of-octets-requires
-    readable-requires
-    put-refusal-requires
+    tag-kind-requires
     returns
+    readable-requires
+    returns-2
+    cast-has-room
+    has-room-requires
+    returns-3
     cast-store-plain
     store-plain-requires
     same-length
-    returns-2)
+    returns-4)

@@ -1,51 +1,29 @@
 -- `put_uint` meets its contract: a put of the least octets of a number.
-use native.Mathlib.Omega.{arith}
-use mathlib.Core.Path.{_≡_, refl, ap, _∙_}
+use mathlib.Core.Path.{refl, _∙_}
 use Rattle.octets.proofs.Number.{uint-octets}
-use Rattle.hproto_state.proofs.Tags.{narrow-kind}
-use Rattle.hproto_state.specs.Calls.{meant}
+use Rattle.hproto_state.specs.Answer.{answer, buffer}
+use Rattle.hproto_state.specs.internal.Tags.{fits}
 use borrow.Author.Needs.{needs}
 use Rattle.hproto_puts.proofs.put_uint.Statement.{statement}
 use Rattle.hproto_puts.proofs.put_uint.Tie as tie
-use Rattle.hproto_table.specs.Entry.{kindNumber}
-use Rattle.hproto_state.specs.Answer.{answer, buffer}
-
-meaning-requires : tie.Need-meaning-requires
-meaning-requires c κs = search needs
-
-kind-number-requires : tie.Need-kind-number-requires
-kind-number-requires c κs = search needs
 
 uint-least-requires : tie.Need-uint-least-requires
 uint-least-requires c κs = search needs
 
 put-least-requires : tie.Need-put-least-requires
-put-least-requires c κs =
-    let a = c .before .before .before .before .before .args in
-    let k = c .before .before .kind-number in
-    narrow-kind (a .t) (a .s) (a .tag) 1 (λ z. omega arith) (k .result) (k .ensures ∙ ap kindNumber (c .before .before .before .meaning .ensures))
+put-least-requires c κs = search needs
 
 same-length : tie.Need-same-length
 same-length c = search needs
 
 returns : tie.Need-returns
-unfolding answer buffer
+unfolding answer buffer fits
 returns c =
-    let a = c .before .before .before .before .before .before .before .before .args in
-    let k = c .before .before .before .before .before .kind-number in
+    let a = c .before .before .before .before .before .before .args in
     let l = c .before .before .before .before .uint-least in
     let p = c .before .before .put-least in
-    let e : k .result ≡ kindNumber (meant (a .t) (a .s) (a .tag)) = k .ensures ∙ ap kindNumber (c .before .before .before .before .before .before .meaning .ensures) in
     let u = uint-octets (l .result) (a .v) (l .ensures) in
-    (p .ensures .0 ∙ rw (e, u) refl, p .ensures .1 ∙ rw (e, u) refl)
+    (p .ensures .0 ∙ rw u refl, p .ensures .1 ∙ rw u refl)
 
 pub put-uint-spec : {M : Type 1} → statement M
-put-uint-spec =
-    tie.close
-    (tie.spec
-    meaning-requires
-    kind-number-requires
-    uint-least-requires
-    put-least-requires
-    same-length
-    returns)
+put-uint-spec = tie.close (tie.spec uint-least-requires put-least-requires same-length returns)
