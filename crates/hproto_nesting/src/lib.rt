@@ -1,57 +1,30 @@
 // The message fields of the backward writer, opened and closed around what is put between.
 use hproto_state::State;
 use hproto_state::Written;
-use hproto_table::Meaning;
 use hproto_table::Table;
 ghost use mathlib.Core.Path.{_≡_};
 ghost use Prim.Native.Nat.{_-_};
 ghost use mathlib.Core.List.{[]};
-ghost use Rattle.hproto_table.specs.Entry.{innerOf};
 ghost use Rattle.hproto_state.specs.Call.{openField, closeField};
 ghost use Rattle.hproto_state.specs.Answer.{answer, buffer};
-ghost use Rattle.hproto_state.specs.Calls.{openRefusal, closeEarly};
-
-fn inner(kind: Meaning) -> u64
-    ensures { λ r. ⌜ r ≡ innerOf kind ⌝ }
-{
-    match kind {
-        Meaning::Raw => 0,
-        Meaning::Uint => 0,
-        Meaning::Int => 0,
-        Meaning::String => 0,
-        Meaning::Text => 0,
-        Meaning::Message(m) => m,
-    }
-}
-
-fn open_refusal(t: Table, s: State, agrees: bool) -> u64
-    ensures { λ r. ⌜ r ≡ openRefusal t s agrees ⌝ }
-{
-    if !hproto_state::sound(s) {
-        return 10;
-    }
-    if !hproto_valid::valid(t) {
-        return 2;
-    }
-    if !agrees {
-        return 8;
-    }
-    if 6 < s.opened {
-        return 5;
-    }
-    0
-}
+ghost use Rattle.hproto_state.specs.Calls.{closeEarly};
 
 // Opens a message field. The mark is the place where the contents of the field will end: all that is put until its close lies before
 // it. Refusals, all at 0: 10, 2, 8, 5 at the eighth level.
 pub fn open_field(t: Table, s: State, tag: u64) -> Written
     ensures { λ r. ⌜ r ≡ answer t s [] (openField tag) ⌝ }
 {
-    let kind = hproto_state::meaning(t, s, tag);
-    let no = open_refusal(t, s, hproto_find::kind_number(kind) == 5);
-    if no != 0 {
+    let told = hproto_state::tag_kind(t, s, s.length, tag, 5);
+    if told.refusal != 0 {
         return Written {
-            refusal: no,
+            refusal: told.refusal,
+            place: 0,
+            state: s,
+        };
+    }
+    if 6 < s.opened {
+        return Written {
+            refusal: 5,
             place: 0,
             state: s,
         };
@@ -59,7 +32,7 @@ pub fn open_field(t: Table, s: State, tag: u64) -> Written
     let k = s.opened;
     let mut after = s;
     after.opened = k + 1;
-    after.numbers[k + 1] = inner(kind);
+    after.numbers[k + 1] = told.inner;
     after.marks[k] = s.start;
     after.tags[k] = tag as u16;
     Written {
@@ -79,7 +52,7 @@ fn close_early(t: Table, s: State, len: usize) -> u64
     if !hproto_state::sound(s) {
         return 10;
     }
-    if !hproto_valid::valid(t) {
+    if !table_index::valid(t) {
         return 2;
     }
     if s.opened < 1 {
