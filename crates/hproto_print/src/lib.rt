@@ -53,7 +53,6 @@ pub fn message(t: Table, s: &[u8], from: u64, out: &mut [u8]) -> u64
         return refusal(c.refusal, c.place, from, out);
     }
     let mut cells = [0u32; 128];
-    let words = hproto_find::first(&t.words, t.count);
-    table_index::index_words(words, &mut cells);
+    table_index::index_table(&t.words, t.count, &mut cells);
     page(&cells, c.fields, s, from, out)
 }

@@ -103,12 +103,10 @@ pub fn check_loaded(t: Table, number: u64, message: &[u8]) -> Checked
     if 65536 < n {
         return reading::refused(1, 0);
     }
-    if !hproto_valid::valid(t) {
+    let mut index = [0u32; 128];
+    if !table_index::index_table(&t.words, t.count, &mut index) {
         return reading::refused(2, 0);
     }
-    let mut index = [0u32; 128];
-    let words = hproto_find::first(&t.words, t.count);
-    table_index::index_words(words, &mut index);
     traversal::check_under(&index, number, message)
 }
 
@@ -120,12 +118,10 @@ pub fn shorten_loaded(t: Table, number: u64, message: &[u8], out: &mut [u8]) -> 
     if 65536 < message.len() {
         return shortest::refused(1, 0);
     }
-    if !hproto_valid::valid(t) {
+    let mut index = [0u32; 128];
+    if !table_index::index_table(&t.words, t.count, &mut index) {
         return shortest::refused(2, 0);
     }
-    let mut index = [0u32; 128];
-    let words = hproto_find::first(&t.words, t.count);
-    table_index::index_words(words, &mut index);
     shortest::shorten_under(&index, number, message, out)
 }
 

@@ -169,7 +169,7 @@ fn look_under(cells: &[u32; 128], number: u64, message: &[u8], tag: u64, which: 
         Spot::At { start, end } => {
             let kind = table_index::find(cells, number, tag);
             contents(
-                hproto_find::kind_number(kind),
+                table_index::kind_number(kind),
                 start as u64,
                 &message[start..end],
             )
@@ -204,11 +204,9 @@ pub(crate) fn look(t: Table, number: u64, message: &[u8], tag: u64, which: Occur
     if 65536 < message.len() {
         return refused(1, 0);
     }
-    if !hproto_valid::valid(t) {
+    let mut cells = [0u32; 128];
+    if !table_index::index_table(&t.words, t.count, &mut cells) {
         return refused(2, 0);
     }
-    let mut cells = [0u32; 128];
-    let words = hproto_find::first(&t.words, t.count);
-    table_index::index_words(words, &mut cells);
     look_under(&cells, number, message, tag, which)
 }

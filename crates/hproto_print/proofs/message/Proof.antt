@@ -23,34 +23,29 @@ returns c =
     let k = c .before .before .before .before .before .before .check-loaded in
     same-window (now (a .out)) (a .from) (message-refused (a .t1) (now (a .s)) (k .result) (k .ensures) (c .before .before .before .before .if1 .taken)) (c .before .before .refusal .ensures)
 
-first-requires : tie.Need-first-requires
-first-requires c κs = search needs
-
-index-words-requires : tie.Need-index-words-requires
-index-words-requires c κs = search needs
+index-table-requires : tie.Need-index-table-requires
+index-table-requires c κs = search needs
 
 page-requires : tie.Need-page-requires
 page-requires c κs =
-    let a = c .before .before .before .before .before .before .before .before .before .before .before .before .before .args in
-    let k = c .before .before .before .before .before .before .before .before .before .before .check-loaded in
-    let z = c .before .before .before .before .before .before .before .before .if1 .left in
-    let x = c .before .before .index-words in
-    let f = c .before .before .before .before .first in
-    let e = table-schema (a .t1) (x .result) (f .result .now) (x .last .1 .0) (message-valid (a .t1) (now (a .s)) (k .result) (k .ensures) z) (f .ensures) (x .ensures .0) (x .ensures .1) in
-    message-accepts (a .t1) (now (a .s)) (k .result) (k .ensures) z (indexed (x .last .1 .0)) e
+    let a = c .before .before .before .before .before .before .before .before .before .before .before .args in
+    let k = c .before .before .before .before .before .before .before .before .check-loaded in
+    let z = c .before .before .before .before .before .before .if1 .left in
+    let x = c .before .before .index-table in
+    let e = table-schema (a .t1) (message-valid (a .t1) (now (a .s)) (k .result) (k .ensures) z) (x .ensures .1) in
+    message-accepts (a .t1) (now (a .s)) (k .result) (k .ensures) z (indexed (x .last .1 .1 .0)) e
 
 same-length-2 : tie.Need-same-length-2
 same-length-2 c = search needs
 
 returns-2 : tie.Need-returns-2
 returns-2 c =
-    let a = c .before .before .before .before .before .before .before .before .before .before .before .before .before .before .before .before .args in
-    let k = c .before .before .before .before .before .before .before .before .before .before .before .before .before .check-loaded in
-    let z = c .before .before .before .before .before .before .before .before .before .before .before .if1 .left in
-    let x = c .before .before .before .before .before .index-words in
-    let f = c .before .before .before .before .before .before .before .first in
-    let e = table-schema (a .t1) (x .result) (f .result .now) (x .last .1 .0) (message-valid (a .t1) (now (a .s)) (k .result) (k .ensures) z) (f .ensures) (x .ensures .0) (x .ensures .1) in
-    same-window (now (a .out)) (a .from) (message-shown (a .t1) (now (a .s)) (k .result) (k .ensures) z (indexed (x .last .1 .0)) e) (whole-printed (c .before .before .page .ensures))
+    let a = c .before .before .before .before .before .before .before .before .before .before .before .before .before .before .args in
+    let k = c .before .before .before .before .before .before .before .before .before .before .before .check-loaded in
+    let z = c .before .before .before .before .before .before .before .before .before .if1 .left in
+    let x = c .before .before .before .before .before .index-table in
+    let e = table-schema (a .t1) (message-valid (a .t1) (now (a .s)) (k .result) (k .ensures) z) (x .ensures .1) in
+    same-window (now (a .out)) (a .from) (message-shown (a .t1) (now (a .s)) (k .result) (k .ensures) z (indexed (x .last .1 .1 .0)) e) (whole-printed (c .before .before .page .ensures))
 
 pub message-spec : {M : Type 1} → statement M
 message-spec =
@@ -60,8 +55,7 @@ message-spec =
     refusal-requires
     same-length
     returns
-    first-requires
-    index-words-requires
+    index-table-requires
     page-requires
     same-length-2
     returns-2)

@@ -1,7 +1,7 @@
 -- `check_loaded` refuses a table that no loader gives, and reads under the index of any other.
 use mathlib.Core.Path.{sym, _∙_}
 use borrow.Author.Tests.{not-true, not-false}
-use Rattle.table_index.proofs.Loaded.{table-schema}
+use Rattle.table_index.proofs.Loaded.{table-valid, table-schema}
 use Rattle.table_index.specs.internal.Cells.{indexed}
 use Rattle.message_calls.proofs.Counts.{too-long, bad-table, under-valid}
 use borrow.Author.Needs.{needs}
@@ -16,38 +16,29 @@ returns c =
     let a = c .before .before .before .args in
     c .refused .ensures ∙ too-long (a .t1) (a .number) (a .message .now) (c .before .if1 .taken)
 
-valid-requires : tie.Need-valid-requires
-valid-requires c κs = search needs
+index-table-requires : tie.Need-index-table-requires
+index-table-requires c κs = search needs
 
 refused-requires-2 : tie.Need-refused-requires-2
 refused-requires-2 c κs = search needs
 
 returns-2 : tie.Need-returns-2
 returns-2 c =
-    let a = c .before .before .before .before .before .args in
-    let v = c .before .before .valid in
+    let a = c .before .before .before .before .before .before .before .before .args in
+    let x = c .before .before .index-table in
     c .refused2 .ensures
-    ∙ bad-table (a .t1) (a .number) (a .message .now) (c .before .before .before .if1 .left) (sym (v .ensures) ∙ not-true (v .result) (c .before .if2 .taken))
-
-first-requires : tie.Need-first-requires
-first-requires c κs = search needs
-
-index-words-requires : tie.Need-index-words-requires
-index-words-requires c κs = search needs
+    ∙ bad-table (a .t1) (a .number) (a .message .now) (c .before .before .before .before .before .before .if1 .left) (sym (table-valid (a .t1) (x .ensures .0)) ∙ not-true (x .result) (c .before .if2 .taken))
 
 check-under-requires : tie.Need-check-under-requires
 check-under-requires c κs = search needs
 
 returns-3 : tie.Need-returns-3
 returns-3 c =
-    let a = c .before .before .before .before .before .before .before .before .before .before .before .before .args in
-    let v = c .before .before .before .before .before .before .before .before .before .valid in
-    let x = c .before .before .index-words in
-    let f = c .before .before .before .before .first in
-    let g = sym (v .ensures) ∙ not-false (v .result) (c .before .before .before .before .before .before .before .before .if2 .left) in
+    let a = c .before .before .before .before .before .before .before .before .before .args in
+    let x = c .before .before .before .index-table in
+    let g = sym (table-valid (a .t1) (x .ensures .0)) ∙ not-false (x .result) (c .before .before .if2 .left) in
     c .check-under .ensures
-    ∙ under-valid (a .t1) (a .number) (a .message .now) (c .before .before .before .before .before .before .before .before .before .before .if1 .left) g
-    (indexed (x .last .1 .0)) (table-schema (a .t1) (x .result) (f .result .now) (x .last .1 .0) g (f .ensures) (x .ensures .0) (x .ensures .1))
+    ∙ under-valid (a .t1) (a .number) (a .message .now) (c .before .before .before .before .before .before .before .if1 .left) g (indexed (x .last .1 .1 .0)) (table-schema (a .t1) g (x .ensures .1))
 
 pub check-loaded-spec : {M : Type 1} → statement M
 check-loaded-spec =
@@ -55,10 +46,8 @@ check-loaded-spec =
     (tie.spec
     refused-requires
     returns
-    valid-requires
+    index-table-requires
     refused-requires-2
     returns-2
-    first-requires
-    index-words-requires
     check-under-requires
     returns-3)

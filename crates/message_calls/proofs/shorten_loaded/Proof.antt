@@ -4,7 +4,7 @@ use mathlib.Core.Path.{sym, _∙_}
 use denote.Ref.{now}
 use borrow.Author.Tests.{not-true, not-false}
 use Rattle.table_index.specs.internal.Cells.{indexed}
-use Rattle.table_index.proofs.Loaded.{table-schema}
+use Rattle.table_index.proofs.Loaded.{table-valid, table-schema}
 use Rattle.reading.specs.Checks as answers
 use Rattle.message_calls.specs.Check.{check}
 use Rattle.message_calls.proofs.Counts.{too-long, bad-table}
@@ -25,8 +25,8 @@ returns c =
     let r = refused-first (check (a .t1) (a .number) m) (shortForm (a .t1) (a .number) m) (now (a .out)) (answers.refusal 1 0) (too-long (a .t1) (a .number) m (c .before .if1 .taken)) (λ z. omega arith) in
     (c .refused .ensures ∙ r .answered, r .left)
 
-valid-requires : tie.Need-valid-requires
-valid-requires c κs = search needs
+index-table-requires : tie.Need-index-table-requires
+index-table-requires c κs = search needs
 
 refused-requires-2 : tie.Need-refused-requires-2
 refused-requires-2 c κs = search needs
@@ -34,18 +34,12 @@ refused-requires-2 c κs = search needs
 returns-2 : tie.Need-returns-2
 unfolding refusal answers.refusal answer buffer
 returns-2 c =
-    let a = c .before .before .before .before .before .before .args in
+    let a = c .before .before .before .before .before .before .before .before .before .args in
     let m = now (a .message) in
-    let v = c .before .before .valid in
-    let b = bad-table (a .t1) (a .number) m (c .before .before .before .if1 .left) (sym (v .ensures) ∙ not-true (v .result) (c .before .if2 .taken)) in
+    let x = c .before .before .index-table in
+    let b = bad-table (a .t1) (a .number) m (c .before .before .before .before .before .before .if1 .left) (sym (table-valid (a .t1) (x .ensures .0)) ∙ not-true (x .result) (c .before .if2 .taken)) in
     let r = refused-first (check (a .t1) (a .number) m) (shortForm (a .t1) (a .number) m) (now (a .out)) (answers.refusal 2 0) b (λ z. omega arith) in
     (c .refused2 .ensures ∙ r .answered, r .left)
-
-first-requires : tie.Need-first-requires
-first-requires c κs = search needs
-
-index-words-requires : tie.Need-index-words-requires
-index-words-requires c κs = search needs
 
 shorten-under-requires : tie.Need-shorten-under-requires
 shorten-under-requires c κs = search needs
@@ -55,15 +49,13 @@ same-length c = search needs
 
 returns-3 : tie.Need-returns-3
 returns-3 c =
-    let a = c .before .before .before .before .before .before .before .before .before .before .before .before .before .before .before .before .args in
+    let a = c .before .before .before .before .before .before .before .before .before .before .before .before .before .args in
     let m = now (a .message) in
-    let v = c .before .before .before .before .before .before .before .before .before .before .before .before .valid in
-    let g = sym (v .ensures) ∙ not-false (v .result) (c .before .before .before .before .before .before .before .before .before .before .before .if2 .left) in
-    let h = c .before .before .before .before .before .before .before .before .before .before .before .before .before .if1 .left in
-    let x = c .before .before .before .before .before .index-words in
-    let f = c .before .before .before .before .before .before .before .first in
-    let sc = indexed (x .last .1 .0) in
-    let e = table-schema (a .t1) (x .result) (f .result .now) (x .last .1 .0) g (f .ensures) (x .ensures .0) (x .ensures .1) in
+    let x = c .before .before .before .before .before .before .index-table in
+    let g = sym (table-valid (a .t1) (x .ensures .0)) ∙ not-false (x .result) (c .before .before .before .before .before .if2 .left) in
+    let h = c .before .before .before .before .before .before .before .before .before .before .if1 .left in
+    let sc = indexed (x .last .1 .1 .0) in
+    let e = table-schema (a .t1) g (x .ensures .1) in
     let s = c .before .before .shorten-under .ensures in
     (s .0 ∙ answer-under (a .t1) sc e (a .number) m (now (a .out)) h g, s .1 ∙ buffer-under (a .t1) sc e (a .number) m (now (a .out)) h g)
 
@@ -73,11 +65,9 @@ shorten-loaded-spec =
     (tie.spec
     refused-requires
     returns
-    valid-requires
+    index-table-requires
     refused-requires-2
     returns-2
-    first-requires
-    index-words-requires
     shorten-under-requires
     same-length
     returns-3)

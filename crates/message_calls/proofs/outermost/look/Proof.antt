@@ -3,7 +3,7 @@ use native.Mathlib.Omega.{arith}
 use mathlib.Core.Path.{sym, _∙_}
 use borrow.Author.Tests.{not-true, not-false}
 use Rattle.table_index.specs.internal.Cells.{indexed}
-use Rattle.table_index.proofs.Loaded.{table-schema}
+use Rattle.table_index.proofs.Loaded.{table-valid, table-schema}
 use Rattle.reading.specs.Checks as answers
 use Rattle.message_calls.proofs.Counts.{too-long, bad-table}
 use Rattle.message_calls.specs.Lookup.{refusal}
@@ -22,8 +22,8 @@ returns c =
     c .refused .ensures
     ∙ refused-first (a .t1) (a .number) (a .message .now) (a .tag) (a .which) (answers.refusal 1 0) (too-long (a .t1) (a .number) (a .message .now) (c .before .if1 .taken)) (λ z. omega arith)
 
-valid-requires : tie.Need-valid-requires
-valid-requires c κs = search needs
+index-table-requires : tie.Need-index-table-requires
+index-table-requires c κs = search needs
 
 refused-requires-2 : tie.Need-refused-requires-2
 refused-requires-2 c κs = search needs
@@ -31,30 +31,21 @@ refused-requires-2 c κs = search needs
 returns-2 : tie.Need-returns-2
 unfolding answers.refusal
 returns-2 c =
-    let a = c .before .before .before .before .before .args in
-    let v = c .before .before .valid in
-    let b = bad-table (a .t1) (a .number) (a .message .now) (c .before .before .before .if1 .left) (sym (v .ensures) ∙ not-true (v .result) (c .before .if2 .taken)) in
+    let a = c .before .before .before .before .before .before .before .before .args in
+    let x = c .before .before .index-table in
+    let b = bad-table (a .t1) (a .number) (a .message .now) (c .before .before .before .before .before .before .if1 .left) (sym (table-valid (a .t1) (x .ensures .0)) ∙ not-true (x .result) (c .before .if2 .taken)) in
     c .refused2 .ensures ∙ refused-first (a .t1) (a .number) (a .message .now) (a .tag) (a .which) (answers.refusal 2 0) b (λ z. omega arith)
-
-first-requires : tie.Need-first-requires
-first-requires c κs = search needs
-
-index-words-requires : tie.Need-index-words-requires
-index-words-requires c κs = search needs
 
 look-under-requires : tie.Need-look-under-requires
 look-under-requires c κs = search needs
 
 returns-3 : tie.Need-returns-3
 returns-3 c =
-    let a = c .before .before .before .before .before .before .before .before .before .before .before .before .args in
-    let v = c .before .before .before .before .before .before .before .before .before .valid in
-    let x = c .before .before .index-words in
-    let f = c .before .before .before .before .first in
-    let g = sym (v .ensures) ∙ not-false (v .result) (c .before .before .before .before .before .before .before .before .if2 .left) in
-    let e = table-schema (a .t1) (x .result) (f .result .now) (x .last .1 .0) g (f .ensures) (x .ensures .0) (x .ensures .1) in
+    let a = c .before .before .before .before .before .before .before .before .before .args in
+    let x = c .before .before .before .index-table in
+    let g = sym (table-valid (a .t1) (x .ensures .0)) ∙ not-false (x .result) (c .before .before .if2 .left) in
     c .look-under .ensures
-    ∙ answer-under (a .t1) (indexed (x .last .1 .0)) e (a .number) (a .message .now) (c .before .before .before .before .before .before .before .before .before .before .if1 .left) g (a .tag) (a .which)
+    ∙ answer-under (a .t1) (indexed (x .last .1 .1 .0)) (table-schema (a .t1) g (x .ensures .1)) (a .number) (a .message .now) (c .before .before .before .before .before .before .before .if1 .left) g (a .tag) (a .which)
 
 pub look-spec : {M : Type 1} → statement M
 look-spec =
@@ -62,10 +53,8 @@ look-spec =
     (tie.spec
     refused-requires
     returns
-    valid-requires
+    index-table-requires
     refused-requires-2
     returns-2
-    first-requires
-    index-words-requires
     look-under-requires
     returns-3)
