@@ -52,7 +52,6 @@ use Rattle.wrong_programs.specs.Shorten as shorten
 use Rattle.wrong_programs.specs.FrameRead as frameRead
 use Rattle.wrong_programs.specs.FrameWrite as frameWrite
 use Rattle.wrong_programs.specs.Show as show
-use Rattle.wrong_programs.specs.Find as find
 use Rattle.wrong_programs.specs.Valid as valid
 use Rattle.wrong_programs.specs.Writer as writing
 use Rattle.wrong_programs.specs.Tib as tibs
@@ -61,7 +60,7 @@ use Rattle.wrong_programs.specs.Reals as reals
 unfoldable pub hproto : Type 0
 unfolding kinds.always kinds.below kinds.array kinds.octets kinds.word kinds.words kinds.table load.load check.fits check.check lookup.fits
     lookup.lookup lookup.lookupLast shorten.fits shorten.shorten frameRead.frameRead frameWrite.fits frameWrite.frameWrite show.fits show.show
-    find.fits find.find valid.valid loads.load loads.loadFrom loads.accepted loads.refused loads.tableOf loads.wordsBefore loads.faulty
+    valid.valid loads.load loads.loadFrom loads.accepted loads.refused loads.tableOf loads.wordsBefore loads.faulty
     loads.wellFormed loads.recordAt loads.wordAt loads.inRange loads.seen loads.pair schemas.schema schemas.schemaOf entries.entry entries.entries
     entries.find entries.meaning entries.innerOf entries.kindNumber valids.valid valids.allInRange valids.allZero repeats.distinct octets.number
     octets.octetsOf octets.width octets.widthWithin octets.leastUint signs.integer signs.withSign signs.lowest controls.control controls.controlOf

@@ -11,7 +11,6 @@ pub mod Shorten
 pub mod FrameRead
 pub mod FrameWrite
 pub mod Show
-pub mod Find
 pub mod Valid
 pub mod TableValues
 pub mod TibMessages

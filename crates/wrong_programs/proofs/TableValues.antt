@@ -1,5 +1,5 @@
 -- Programs in the place of the calls under a loaded table, `check_loaded` and its like of message_calls, that leave out the test of the
--- table value, and in the place of hproto_valid::valid, which is that test, that leave out a part of it.
+-- table value, and in the place of table_index::valid, which is that test, that leave out a part of it.
 use Prim.Native.Nat.{ℕ}
 use native.Mathlib.Omega.{arith}
 use mathlib.Core.Path.{_≡_, refl, sym, _∙_, ap, fun-ext}

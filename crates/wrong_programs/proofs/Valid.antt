@@ -1,4 +1,4 @@
--- Wrong programs in the place of hproto_valid::valid.
+-- Wrong programs in the place of table_index::valid.
 use Prim.Native.Nat.{ℕ}
 use mathlib.Core.Path.{refl}
 use mathlib.Core.Bool.{true, false}

@@ -6,6 +6,6 @@ use Rattle.wrong_programs.specs.Kinds.{Given, table}
 abbrev pub ValidCall : Type 0
 ValidCall = Given table
 
--- The contract of hproto_valid::valid.
+-- The contract of table_index::valid.
 unfoldable pub valid : ValidCall → Bool
 valid x = valids.valid (x .value)
