@@ -6,17 +6,18 @@ use mathlib.Core.List.{List}
 use lib.ListN.{length, take, drop, length-drop}
 use lib.Seq.{take-all}
 use Rattle.hproto_field.specs.internal.Held.{heldIn}
+use Rattle.hproto_message.specs.Items.{items}
 use Rattle.hproto_message.specs.internal.Accepts.{Accepts}
 use Rattle.hproto_message.proofs.Accepted.{accepts-good, good-accepted}
 use Rattle.hproto_field.proofs.HeldKinds.{message-of, plain-of}
 use Rattle.hproto_table.specs.Schema.{Schema}
 use Rattle.hproto_message.specs.Cut.{Cut, Good}
-use Rattle.hproto_message.specs.Tree.{tree}
-use Rattle.hproto_message.specs.Items.{items}
+use Rattle.hproto_message.specs.Tree.{Tree, tree}
+use Rattle.hproto_message.specs.Reading.{messageFrom}
 use Rattle.hproto_field.specs.internal.Fronts.{front}
 use Rattle.hproto_field.specs.declared.Field.{Field}
 use Rattle.hproto_print.specs.Text.{direct}
-use Rattle.hproto_print.specs.internal.Walk.{directRead, directOf}
+use Rattle.hproto_print.specs.internal.Walk.{ofTree, directOf}
 use Rattle.hproto_field.specs.declared.Holds.{Holds}
 use Rattle.hproto_field.specs.declared.Holds.the-variants.{None, Number}
 use Rattle.hproto_field.proofs.Passing.{Left, all-left, none-left, ends, leaf-next, nested-next}
@@ -25,9 +26,15 @@ use Rattle.hproto_field.proofs.Passing.{Left, all-left, none-left, ends, leaf-n
 pub left-octets : (i : ℕ) (s : List ℕ) → take (length s - i) (drop i s) ≡ drop i s
 left-octets i s = take-all (length s - i) (drop i s) (simp length-drop (omega arith))
 
+-- What is made of an accepted message is made of the tree of its cut.
+pub tree-is : {A : Type 0} (f : Tree → A) (other : A) (sc : Schema) (levels n : ℕ) (s : List ℕ) (cut : Cut) → Good sc levels n s cut
+    → ofTree f other sc n (messageFrom sc levels n 0 0 s) ≡ f (tree sc n cut)
+unfolding ofTree
+tree-is f other sc levels n s cut g = rw (good-accepted sc levels n 0 0 s cut g)
+
 pub direct-is : (sc : Schema) (n : ℕ) (s : List ℕ) (cut : Cut) → Good sc 8 n s cut → directOf sc n s ≡ direct (tree sc n cut)
-unfolding directOf directRead
-direct-is sc n s cut g = rw (good-accepted sc 8 n 0 0 s cut g)
+unfolding directOf
+direct-is sc n s cut g = tree-is direct 0 sc 8 n s cut g
 
 module _ (sc : Schema) (n : ℕ) (s : List ℕ) where
   -- After i octets, k fields are counted.

@@ -1,5 +1,5 @@
 -- The output is no longer than a number of 64 bits can say.
-use Prim.Native.Nat.{ℕ, suc, _+_, _*_, _≤_}
+use Prim.Native.Nat.{ℕ, suc, _+_, _*_, _^_, _≤_, _<_}
 use native.Mathlib.Omega.{arith}
 use mathlib.Core.Path.{_≡_, refl, ap}
 use mathlib.Core.List.{List, [], _∷_}
@@ -11,17 +11,15 @@ use Rattle.octets.specs.Signed.{integer}
 use Rattle.hproto_table.specs.Entry.{innerOf}
 use Rattle.hproto_table.specs.Schema.{Schema}
 use Rattle.hproto_message.specs.Cut.{Cut, end, leaf, nested, joined, Allowed}
-use Rattle.hproto_message.specs.Tree.{tree, value}
-use Rattle.hproto_message.specs.Items.{kindOf}
+use Rattle.hproto_message.specs.Tree.{Value, raw, uint, int, string, text, tree, value}
 use Rattle.hproto_table.specs.declared.Meaning.{Meaning}
 use Rattle.hproto_table.specs.declared.Meaning.the-variants.{Raw, Uint, Int, String, Text, Message}
 use Rattle.octets.proofs.ControlPart.{part-size}
-use Rattle.hproto_print.specs.Ascii.{ascii}
-use Rattle.hproto_print.specs.Digits.{decimal, fourDigits, hex, hexOrDash}
-use Rattle.hproto_print.specs.internal.Pieces.{FitsU64}
-use Rattle.hproto_print.specs.Text.{meaningName, valueText, front, line, direct, lines, page, refusal}
+use Rattle.text_window.specs.Ascii.{ascii}
+use Rattle.text_window.specs.Digits.{decimal, fourDigits, hex, hexOrDash}
+use Rattle.hproto_print.specs.Text.{kindName, valueText, front, line, direct, lines, page, refusal}
 use Rattle.hproto_print.specs.internal.Walk.{linesOf}
-use Rattle.hproto_print.proofs.Numbers.{decimal-length, signed-length}
+use Rattle.text_window.proofs.Numbers.{decimal-length, signed-length}
 use Rattle.hproto_print.proofs.Writing.{lines-is}
 
 hex-length : (s : List ℕ) → length (hex s) ≡ 2 * length s
@@ -43,14 +41,17 @@ value-length String s = let h = dash-length s in omega arith
 value-length Text s = let h = dash-length s in omega arith
 value-length (Message m) s = let h = dash-length s in omega arith
 
-name-length : (k : Meaning) → length (meaningName k) ≤ 7
-unfolding meaningName ascii
-name-length Raw = omega arith
-name-length Uint = omega arith
-name-length Int = omega arith
-name-length String = omega arith
-name-length Text = omega arith
-name-length (Message m) = omega arith
+name-length : (v : Value) → length (kindName v) ≤ 7
+unfolding kindName ascii
+name-length (raw s) = omega arith
+name-length (uint n) = omega arith
+name-length (int z) = omega arith
+name-length (string s) = omega arith
+name-length (text s) = omega arith
+
+message-length : length (ascii "message") ≤ 7
+unfolding ascii
+message-length = omega arith
 
 line-length : (depth tag : ℕ) (kind v : List ℕ) → length kind ≤ 7 → length (line depth tag kind v) ≤ 35 + length v
 unfolding line front ascii fourDigits
@@ -58,26 +59,26 @@ line-length depth tag kind v h = let d = decimal-length depth in simp length-app
 
 -- A field takes an octet or more, and its line not many more than its octets. The tree may be that under any number.
 lines-length : (sc : Schema) (cut : Cut) (n k depth : ℕ) → Allowed sc k cut → length (lines depth (tree sc n cut)) ≤ 60 * length (joined cut)
-unfolding lines tree joined Allowed meaningName
+unfolding lines tree joined Allowed
 lines-length sc end n k depth a = omega arith
 lines-length sc (leaf tag c b rest) n k depth a =
     let z = part-size tag (length b) c (a .0 .whole) in
     let m = sc .means n tag in
     let v = value-length m b in
-    let l = line-length depth tag (meaningName (kindOf (value m b))) (valueText (value m b)) (name-length (kindOf (value m b))) in
+    let l = line-length depth tag (kindName (value m b)) (valueText (value m b)) (name-length (value m b)) in
     let h = lines-length sc rest n k depth (a .1) in
     simp length-append (omega arith)
 lines-length sc (nested tag c inside rest) n k depth a =
     let z = part-size tag (length (joined inside)) c (a .0 .1 .whole) in
     let m = innerOf (sc .means n tag) in
     let v = decimal-length (direct (tree sc m inside)) in
-    let l = line-length depth tag (ascii "message") (decimal (direct (tree sc m inside))) (name-length (Message m)) in
+    let l = line-length depth tag (ascii "message") (decimal (direct (tree sc m inside))) message-length in
     let g = lines-length sc inside m (a .0 .0) (suc depth) (a .0 .2) in
     let h = lines-length sc rest n k depth (a .1) in
     simp length-append (omega arith)
 
--- What is printed for a message within the limit, and for a refusal, has room from the start.
-pub page-fits : (sc : Schema) (n : ℕ) (s : List ℕ) (count : ℕ) → length s ≤ 65536 → Accepts sc 8 n s → FitsU64 0 (page (linesOf sc 8 n s) count (length s))
+-- What is printed for a message within the limit, and for a refusal, has a place for each octet.
+pub page-fits : (sc : Schema) (n : ℕ) (s : List ℕ) (count : ℕ) → length s ≤ 65536 → Accepts sc 8 n s → length (page (linesOf sc 8 n s) count (length s)) < 2 ^ 64
 unfolding page ascii
 page-fits sc n s count h a =
     let g = accepts-good sc 8 n s a in
@@ -86,11 +87,11 @@ page-fits sc n s count h a =
     let d = ap length (g .1 .divides) in
     let x = decimal-length count in
     let y = decimal-length (length s) in
-    record { below = simp length-append (omega arith) }
+    simp length-append (omega arith)
 
-pub refusal-fits : (number place : ℕ) → FitsU64 0 (refusal number place)
+pub refusal-fits : (number place : ℕ) → length (refusal number place) < 2 ^ 64
 unfolding refusal ascii
 refusal-fits number place =
     let x = decimal-length number in
     let y = decimal-length place in
-    record { below = simp length-append (omega arith) }
+    simp length-append (omega arith)

@@ -1,7 +1,4 @@
-pub mod Windows
-pub mod Pieces
-pub mod Numbers
-pub mod Decimals
+pub mod Values
 pub mod Counting
 pub mod Writing
 pub mod Lengths

@@ -22,12 +22,12 @@ use Rattle.message_calls.specs.Check.{check, checkUnder, treeCounts}
 use Rattle.message_calls.proofs.Passed.{check-passed}
 use Rattle.reading.specs.declared.Checked.{Checked}
 use Rattle.hproto_print.specs.Text.{page, shown, refusal, readText, messageText}
-use Rattle.hproto_print.specs.internal.Walk.{linesRead, linesOf}
+use Rattle.hproto_print.specs.internal.Walk.{ofTree, linesOf}
 
 -- What is printed for a message that was read.
 shown-is : (t : Table) (s : List ℕ) (c : Checked) → c ≡ check t 0 s → c .refusal ≡ 0 → (cut : Cut) → reading (schema t) 0 s ≡ accepted cut
     → c .fields ≡ trees.fields (tree (schema t) 0 cut) → page (linesOf (schema t) 8 0 s) (c .fields) (length s) ≡ messageText t s
-unfolding messageText readText shown linesOf linesRead reading
+unfolding messageText readText shown linesOf ofTree reading
 shown-is t s c e z cut r f = rw (← e, eq-eqb (c .refusal) 0 z, r, f)
 
 -- A message that the check does not refuse is short enough, and its reading is a cut.

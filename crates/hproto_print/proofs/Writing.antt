@@ -3,29 +3,28 @@ use Prim.Native.Nat.{ℕ, suc, _+_, _-_, _≤_, _<_}
 use native.Mathlib.Omega.{arith}
 use mathlib.Core.Path.{_≡_, sym, ap, _∙_, subst}
 use mathlib.Core.List.{List, [], _++_, append-assoc, append-nil}
-use lib.ListN.{length, drop, length-append}
+use lib.ListN.{length, drop}
 use Rattle.hproto_message.specs.internal.Accepts.{Accepts}
-use Rattle.hproto_message.proofs.Accepted.{accepts-good, accepts-levels, good-accepts, good-accepted}
+use Rattle.hproto_message.proofs.Accepted.{accepts-good, accepts-levels, good-accepts}
 use Rattle.hproto_table.specs.Schema.{Schema}
 use Rattle.hproto_table.specs.declared.Meaning.the-variants.{Message}
 use Rattle.hproto_message.specs.Cut.{Cut, Contents, Good}
 use Rattle.hproto_message.specs.Tree.{Tree, value, tree}
-use Rattle.hproto_message.proofs.Fields.{kind-is}
 use Rattle.hproto_message.proofs.Next.{Plain}
 use Rattle.hproto_field.specs.internal.Fronts.{front}
 use Rattle.hproto_field.specs.declared.Field.{Field}
-use Rattle.hproto_print.specs.Ascii.{ascii}
-use Rattle.hproto_print.specs.Digits.{decimal}
-use Rattle.hproto_print.specs.internal.Pieces.{Printed, FitsU64}
-use Rattle.hproto_print.specs.Text.{meaningName, valueText, line, lines}
-use Rattle.hproto_print.specs.internal.Walk.{linesRead, linesOf, directOf}
-use Rattle.hproto_print.proofs.Windows.{then, printed-nothing, printed-length, same-place, fits-after}
+use Rattle.text_window.specs.Ascii.{ascii}
+use Rattle.text_window.specs.Digits.{decimal}
+use Rattle.text_window.specs.Window.{Printed}
+use Rattle.hproto_print.specs.Text.{kindName, valueText, line, lines}
+use Rattle.hproto_print.specs.internal.Walk.{linesOf, directOf}
+use Rattle.text_window.proofs.Windows.{then, printed-nothing, printed-length, same-place}
 use Rattle.hproto_field.proofs.Passing.{Left, all-left, none-left, part, ends, leaf-next, nested-next, good-deeper}
-use Rattle.hproto_print.proofs.Counting.{direct-is}
+use Rattle.hproto_print.proofs.Counting.{tree-is, direct-is}
 
 pub lines-is : (sc : Schema) (levels n : ℕ) (s : List ℕ) (cut : Cut) → Good sc levels n s cut → linesOf sc levels n s ≡ lines (9 - levels) (tree sc n cut)
-unfolding linesOf linesRead
-lines-is sc levels n s cut g = rw (good-accepted sc levels n 0 0 s cut g)
+unfolding linesOf
+lines-is sc levels n s cut g = tree-is (lines (9 - levels)) [] sc levels n s cut g
 
 module _ (sc : Schema) (levels n : ℕ) (s before : List ℕ) (from at : ℕ) where
   abbrev pub whole : List ℕ
@@ -62,33 +61,26 @@ module _ (sc : Schema) (levels n : ℕ) (s before : List ℕ) (from at : ℕ) wh
   pub same-length : (i end : ℕ) (out : List ℕ) → Progress i end out → length out ≡ length before
   same-length i end out p = printed-length before from at (p .written) end out (p .printed)
 
-  module _ (fits : FitsU64 at whole) (i end : ℕ) (out : List ℕ) (p : Progress i end out) (more : i < length s) (f : Field) (found : f ≡ front sc n (drop i s)) where
+  module _ (i end : ℕ) (out : List ℕ) (p : Progress i end out) (more : i < length s) (f : Field) (found : f ≡ front sc n (drop i s)) where
     abbrev pub contents : List ℕ
     contents = part sc (levels - 1) n s i (p .left) more f found
 
     pub next-ends : (i < i + f .control + f .contents) × (i + f .control + f .contents ≤ length s)
     next-ends = ends sc (levels - 1) n s i (p .left) more f found
 
-    -- A piece that is the next part of the whole has room.
-    next-fits : (piece rest : List ℕ) → whole ≡ p .written ++ piece ++ rest → FitsU64 end piece
-    next-fits piece rest e = fits-after piece (p .printed) fits (rw e (simp length-append (omega arith)))
-
     module _ (q : Plain (f .kind)) where
       abbrev leaf-text : List ℕ
-      leaf-text = line depth (f .tag) (meaningName (f .kind)) (valueText (value (f .kind) contents))
+      leaf-text = line depth (f .tag) (kindName (value (f .kind) contents)) (valueText (value (f .kind) contents))
 
       leaf-whole : whole ≡ p .written ++ leaf-text ++ lines depth (tree sc n (leaf-next sc (levels - 1) n s i (p .left) more f found q .left .rest))
       unfolding lines
       leaf-whole =
           let x = leaf-next sc (levels - 1) n s i (p .left) more f found q in
           p .whole-is ∙ ap (λ (t : Tree). p .written ++ lines depth t) (x .tree-is)
-          ∙ rw (kind-is (f .kind) contents (x .contents)) (sym (append-assoc (p .written) leaf-text (lines depth (tree sc n (x .left .rest)))))
+          ∙ sym (append-assoc (p .written) leaf-text (lines depth (tree sc n (x .left .rest))))
 
       pub leaf-contents : Contents (f .kind) contents
       leaf-contents = leaf-next sc (levels - 1) n s i (p .left) more f found q .contents
-
-      pub leaf-fits : FitsU64 end leaf-text
-      leaf-fits = next-fits leaf-text (lines depth (tree sc n (leaf-next sc (levels - 1) n s i (p .left) more f found q .left .rest))) leaf-whole
 
       pub leaf-written : (r : ℕ) (after : List ℕ) → Printed out from end leaf-text r after → Progress (i + f .control + f .contents) r after
       leaf-written r after put =
@@ -125,19 +117,12 @@ module _ (sc : Schema) (levels n : ℕ) (s before : List ℕ) (from at : ℕ) wh
           p .whole-is ∙ ap (λ (t : Tree). p .written ++ lines depth t) (x .tree-is)
           ∙ rw (← a, ← b) (sym (ap (λ (l : List ℕ). l ++ rest) (append-assoc (p .written) message-text inner-text) ∙ append-assoc (p .written) (message-text ++ inner-text) rest))
 
-      pub message-fits : FitsU64 end message-text
-      message-fits =
-          fits-after message-text (p .printed) fits (rw nested-whole (simp length-append (omega arith)))
-
-      module _ (b : ℕ) (between : List ℕ) (put : Printed out from end message-text b between) where
-        pub inner-fits : FitsU64 b inner-text
-        inner-fits = fits-after inner-text (then (p .printed) put) fits (rw nested-whole (simp length-append (omega arith)))
-
-        pub nested-written : (r : ℕ) (after : List ℕ) → Printed between from b inner-text r after → Progress (i + f .control + f .contents) r after
-        nested-written r after more-put =
-            record {
-              left = nested-next sc (levels - 1) n s i (p .left) more f found m q .left;
-              written = p .written ++ message-text ++ inner-text;
-              printed = then (then (p .printed) put) more-put;
-              whole-is = nested-whole;
-            }
+      pub nested-written : (b : ℕ) (between : List ℕ) → Printed out from end message-text b between
+          → (r : ℕ) (after : List ℕ) → Printed between from b inner-text r after → Progress (i + f .control + f .contents) r after
+      nested-written b between put r after more-put =
+          record {
+            left = nested-next sc (levels - 1) n s i (p .left) more f found m q .left;
+            written = p .written ++ message-text ++ inner-text;
+            printed = then (then (p .printed) put) more-put;
+            whole-is = nested-whole;
+          }

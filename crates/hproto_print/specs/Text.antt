@@ -5,26 +5,23 @@ use mathlib.Core.List.{List, [], _++_}
 use lib.ListN.{length}
 use lib.Dec.{eqb}
 use Rattle.hproto_table.specs.Schema.{schema}
-use Rattle.hproto_table.specs.declared.Meaning.{Meaning}
-use Rattle.hproto_table.specs.declared.Meaning.the-variants.{Raw, Uint, Int, String, Text, Message}
 use Rattle.hproto_table.specs.declared.Table.{Table}
 use Rattle.hproto_message.specs.Cut.{Cut}
 use Rattle.hproto_message.specs.Tree.{Value, raw, uint, int, string, text, Tree, end, leaf, nested, tree, fields}
-use Rattle.hproto_message.specs.Items.{items, kindOf}
+use Rattle.hproto_message.specs.Items.{items}
 use Rattle.reading.specs.Reading.{Reading, accepted, refused}
 use Rattle.hproto_message.specs.Reading.{reading}
 use Rattle.message_calls.specs.Check.{check}
-use Rattle.hproto_print.specs.Ascii.{ascii}
-use Rattle.hproto_print.specs.Digits.{decimal, signedDecimal, fourDigits, hexOrDash}
+use Rattle.text_window.specs.Ascii.{ascii}
+use Rattle.text_window.specs.Digits.{decimal, signedDecimal, fourDigits, hexOrDash}
 
--- The name of a kind.
-unfoldable pub meaningName : Meaning → List ℕ
-meaningName Raw = ascii "raw"
-meaningName Uint = ascii "uint"
-meaningName Int = ascii "int"
-meaningName String = ascii "string"
-meaningName Text = ascii "text"
-meaningName (Message m) = ascii "message"
+-- The name of a value's kind.
+unfoldable pub kindName : Value → List ℕ
+kindName (raw s) = ascii "raw"
+kindName (uint v) = ascii "uint"
+kindName (int z) = ascii "int"
+kindName (string s) = ascii "string"
+kindName (text s) = ascii "text"
 
 -- A value: numbers are decimal, octets hex.
 unfoldable pub valueText : Value → List ℕ
@@ -49,7 +46,7 @@ direct t = length (items t)
 -- The lines of a message at a depth. A nested message's own lines follow its line.
 unfoldable pub lines : ℕ → Tree → List ℕ
 lines depth end = []
-lines depth (leaf tag v rest) = line depth tag (meaningName (kindOf v)) (valueText v) ++ lines depth rest
+lines depth (leaf tag v rest) = line depth tag (kindName v) (valueText v) ++ lines depth rest
 lines depth (nested tag inside rest) =
     line depth tag (ascii "message") (decimal (direct inside)) ++ lines (suc depth) inside ++ lines depth rest
 

@@ -1,33 +1,28 @@
 // A message as text, field by field, and a refusal as text. The text of a message may be longer than any buffer at hand, so a call gives
 // the part of it that starts at a place.
 mod lines;
-mod print;
 
 use hproto_table::Table;
 ghost use mathlib.Core.Path.{_≡_};
-ghost use Prim.Native.Nat.{_≤_};
 ghost use lib.ListN.{length};
-ghost use Rattle.reading.specs.Reading.{messageLimit};
 ghost use Rattle.table_index.specs.internal.Cells.{indexed};
-ghost use Rattle.hproto_print.specs.Window.{window};
-ghost use Rattle.hproto_print.specs.internal.Pieces.{Printed};
+ghost use Rattle.text_window.specs.Window.{window, Printed};
 ghost use Rattle.hproto_print.specs.Text.{page as page-of, refusal as refusal-of, messageText};
 ghost use Rattle.hproto_message.specs.internal.Accepts.{Accepts};
 ghost use Rattle.hproto_print.specs.internal.Walk.{linesOf};
 
 // The text of a message with number 0 that was checked before, its count of fields given.
 fn page(cells: &[u32; 128], fields: u64, s: &[u8], from: u64, out: &mut [u8]) -> u64
-    requires { ⌜ length (now s) ≤ messageLimit ⌝ }
     requires { ⌜ Accepts (indexed (now cells)) 8 0 (now s) ⌝ }
     ensures { λ r. ⌜ Printed (now (out .entry)) from 0 (page-of (linesOf (indexed (now (cells .entry))) 8 0 (now (s .entry))) fields (length (now (s .entry)))) r (now (out .exit)) ⌝ }
 {
-    let a = print::octets(out, from, 0, b"depth tag kind value\n");
+    let a = text_window::octets(out, from, 0, b"depth tag kind value\n");
     let b = lines::write(cells, 0, 8, s, out, from, a);
-    let c = print::octets(out, from, b, b"fields ");
-    let d = print::decimal(out, from, c, fields);
-    let e = print::octets(out, from, d, b" octets ");
-    let f = print::decimal(out, from, e, s.len() as u64);
-    print::put(out, from, f, b'\n')
+    let c = text_window::octets(out, from, b, b"fields ");
+    let d = text_window::decimal(out, from, c, fields);
+    let e = text_window::octets(out, from, d, b" octets ");
+    let f = text_window::decimal(out, from, e, s.len() as u64);
+    text_window::put(out, from, f, b'\n')
 }
 
 // The text of a refusal. Like `message`, it puts the part of the text that starts at `from` into `out`, as much of it as there is room
@@ -36,11 +31,11 @@ pub fn refusal(number: u64, place: u64, from: u64, out: &mut [u8]) -> u64
     ensures { λ r. ⌜ r ≡ length (refusal-of number place) ⌝ }
     ensures { λ _. ⌜ now (out .exit) ≡ window (now (out .entry)) from (refusal-of number place) ⌝ }
 {
-    let a = print::octets(out, from, 0, b"refused ");
-    let b = print::decimal(out, from, a, number);
-    let c = print::octets(out, from, b, b" at ");
-    let d = print::decimal(out, from, c, place);
-    print::put(out, from, d, b'\n')
+    let a = text_window::octets(out, from, 0, b"refused ");
+    let b = text_window::decimal(out, from, a, number);
+    let c = text_window::octets(out, from, b, b" at ");
+    let d = text_window::decimal(out, from, c, place);
+    text_window::put(out, from, d, b'\n')
 }
 
 // The text of a message with number 0 under a table, or of the refusal of its check.

@@ -11,14 +11,14 @@ use Rattle.hproto_table.specs.Load as loads
 use Rattle.hproto_table.specs.Repeat as repeats
 use Rattle.hproto_table.specs.Valid as valids
 use Rattle.hproto_message.specs.Tree as trees
-use Rattle.hproto_message.specs.Items.{items, kindOf}
+use Rattle.hproto_message.specs.Items.{items}
 use Rattle.reading.specs.Reading.{onAccepted, inOrder}
 use Rattle.hproto_message.specs.Reading as readings
 use Rattle.reading.specs.Checks as answers
 use Rattle.message_calls.specs.Check as checks
 use Rattle.hproto_frame.specs.Frame as frames
-use Rattle.hproto_print.specs.Ascii.{ascii}
-use Rattle.hproto_print.specs.Digits as digits
+use Rattle.text_window.specs.Ascii.{ascii}
+use Rattle.text_window.specs.Digits as digits
 use Rattle.hproto_print.specs.Text as prints
 use Rattle.hproto_show.specs.Output as shows
 use Rattle.hproto_show.specs.Output.{output}
@@ -42,10 +42,10 @@ pub samples-hold :
     × (output (0x00 ∷ 0x02 ∷ 0xc3 ∷ []) ≡ ascii "refused 4 at 0\n")
     × (output (0x00 ∷ 0x02 ∷ 0xc0 ∷ 0xf1 ∷ []) ≡ ascii "refused 3 at 1\n")
 unfolding input output shows.firstText shows.tableText shows.secondText prints.messageText prints.readText prints.refusal prints.shown prints.page prints.lines prints.direct items
-    prints.line prints.front prints.valueText prints.meaningName digits.glyph digits.decimalWithin digits.decimal digits.signedDecimal digits.fourDigits digits.hex
+    prints.line prints.front prints.valueText prints.kindName digits.glyph digits.decimalWithin digits.decimal digits.signedDecimal digits.fourDigits digits.hex
     digits.hexOrDash ascii frames.frameRead frames.frontRead frames.prefixed frames.announced frames.messagePart
     checks.check checks.checkUnder checks.treeCounts answers.counts answers.refusal readings.reading readings.messageFrom readings.fieldsFrom readings.afterStep onAccepted inOrder
-    readings.step readings.stepFrom readings.stepByKind trees.tree readings.tagAt readings.tagOf entries.innerOf trees.value kindOf trees.fields trees.depth
+    readings.step readings.stepFrom readings.stepByKind trees.tree readings.tagAt readings.tagOf entries.innerOf trees.value trees.fields trees.depth
     schemas.schema schemas.schemaOf entries.find entries.meaning entries.entries entries.entry loads.load loads.loadFrom loads.accepted loads.refused loads.tableOf loads.faulty
     loads.seen loads.pair loads.wordsBefore loads.wellFormed loads.wordAt loads.recordAt loads.inRange valids.valid valids.allInRange valids.allZero
     repeats.distinct texts.text texts.textAfter texts.follower texts.followers octets.number signs.integer signs.withSign signs.lowest

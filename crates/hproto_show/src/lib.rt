@@ -5,7 +5,7 @@ use hproto_table::Table;
 ghost use mathlib.Core.Path.{_≡_};
 ghost use lib.ListN.{length};
 ghost use Rattle.hproto_frame.specs.Frame.{frameRead};
-ghost use Rattle.hproto_print.specs.Window.{window};
+ghost use Rattle.text_window.specs.Window.{window};
 ghost use Rattle.hproto_show.specs.Output.{secondText, firstText, output};
 
 // The second frame, which has to end where the octets do.

@@ -22,10 +22,10 @@ use Rattle.message_calls.specs.Shorten as shortens
 use Rattle.hproto_store.specs.Store.{stored}
 use Rattle.hproto_frame.specs.Frame as frames
 use Rattle.message_calls.specs.Calls.{checkOctets, shortenOctets, shortenBuffer, lookupOctets, lookupLastOctets, withTable}
-use Rattle.hproto_print.specs.Ascii.{ascii}
-use Rattle.hproto_print.specs.Digits as digits
+use Rattle.text_window.specs.Ascii.{ascii}
+use Rattle.text_window.specs.Digits as digits
 use Rattle.hproto_print.specs.Text as prints
-use Rattle.hproto_print.specs.Window.{window}
+use Rattle.text_window.specs.Window.{window}
 use Rattle.hproto_show.specs.Output as shows
 use Rattle.hproto_state.specs.Sound as sounds
 use Rattle.hproto_state.specs.Calls as calls
@@ -72,7 +72,7 @@ unfolding kinds.always kinds.below kinds.array kinds.octets kinds.word kinds.wor
     shortestOf shortens.refusal shortens.shortUnder shortens.shortForm shortens.roomy shortens.answerTo shortens.bufferTo shortens.answer
     shortens.buffer withTable checkOctets lookupOctets lookupLastOctets shortenOctets shortenBuffer stored frames.announced frames.prefixed
     frames.frontRead frames.frameRead frames.messagePart frames.shortestPrefix frames.framed frames.frameWritten frames.frameStored ascii
-    digits.glyph digits.decimalWithin digits.decimal digits.fourDigits prints.meaningName prints.valueText prints.front prints.line prints.lines
+    digits.glyph digits.decimalWithin digits.decimal digits.fourDigits prints.kindName prints.valueText prints.front prints.line prints.lines
     prints.page prints.shown prints.refusal prints.readText prints.messageText window shows.secondText shows.tableText shows.firstText shows.output
 hproto = Unit {0}
 

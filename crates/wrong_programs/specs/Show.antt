@@ -3,7 +3,7 @@ use Prim.Native.Nat.{ℕ}
 use mathlib.Core.Bool.{Bool, _&&_}
 use mathlib.Core.List.{List}
 use lib.ListN.{length}
-use Rattle.hproto_print.specs.Window.{window}
+use Rattle.text_window.specs.Window.{window}
 use Rattle.hproto_show.specs.Output.{output}
 use Rattle.wrong_programs.specs.Kinds.{Given, octets, word}
 

@@ -1,9 +1,13 @@
 -- `hproto_print::message` meets its contract.
 use borrow.Author.Needs.{needs}
 use denote.Ref.{now}
+use lib.ListN.{length}
 use Rattle.table_index.specs.internal.Cells.{indexed}
 use Rattle.table_index.proofs.Loaded.{table-schema}
-use Rattle.hproto_print.proofs.Windows.{same-window, whole-printed}
+use Rattle.text_window.proofs.Windows.{same-window, whole-printed}
+use Rattle.hproto_print.specs.Text.{page}
+use Rattle.hproto_print.specs.internal.Walk.{linesOf}
+use Rattle.hproto_print.proofs.Lengths.{page-fits}
 use Rattle.hproto_print.proofs.Messages.{message-refused, message-valid, message-accepts, message-shown}
 use Rattle.hproto_print.proofs.message.Statement.{statement}
 use Rattle.hproto_print.proofs.message.Tie as tie
@@ -33,7 +37,7 @@ page-requires c κs =
     let z = c .before .before .before .before .before .before .if1 .left in
     let x = c .before .before .index-table in
     let e = table-schema (a .t1) (message-valid (a .t1) (now (a .s)) (k .result) (k .ensures) z) (x .ensures .1) in
-    message-accepts (a .t1) (now (a .s)) (k .result) (k .ensures) z (indexed (x .last .1 .1 .0)) e
+    message-accepts (a .t1) (now (a .s)) (k .result) (k .ensures) z (indexed (x .last .1 .1 .0)) e .1
 
 same-length-2 : tie.Need-same-length-2
 same-length-2 c = search needs
@@ -45,7 +49,10 @@ returns-2 c =
     let z = c .before .before .before .before .before .before .before .before .before .if1 .left in
     let x = c .before .before .before .before .before .index-table in
     let e = table-schema (a .t1) (message-valid (a .t1) (now (a .s)) (k .result) (k .ensures) z) (x .ensures .1) in
-    same-window (now (a .out)) (a .from) (message-shown (a .t1) (now (a .s)) (k .result) (k .ensures) z (indexed (x .last .1 .1 .0)) e) (whole-printed (c .before .before .page .ensures))
+    let sc = indexed (x .last .1 .1 .0) in
+    let g = message-accepts (a .t1) (now (a .s)) (k .result) (k .ensures) z sc e in
+    let w = whole-printed (page (linesOf sc 8 0 (now (a .s))) (k .result .fields) (length (now (a .s)))) (page-fits sc 0 (now (a .s)) (k .result .fields) (g .0) (g .1)) (c .before .before .page .ensures) in
+    same-window (now (a .out)) (a .from) (message-shown (a .t1) (now (a .s)) (k .result) (k .ensures) z sc e) w
 
 pub message-spec : {M : Type 1} → statement M
 message-spec =

@@ -1,7 +1,7 @@
 -- `hproto_show::first` meets its contract.
 use borrow.Author.Needs.{needs}
 use denote.Ref.{now}
-use Rattle.hproto_print.proofs.Windows.{same-window}
+use Rattle.text_window.proofs.Windows.{same-window}
 use Rattle.hproto_print.proofs.Counting.{left-octets}
 use Rattle.hproto_show.proofs.Order.{frame-inside, first-refused, table-refused, table-loaded}
 use Rattle.hproto_show.proofs.first.Statement.{statement}

@@ -1,7 +1,7 @@
 -- `hproto_show::second` meets its contract.
 use borrow.Author.Needs.{needs}
 use denote.Ref.{now}
-use Rattle.hproto_print.proofs.Windows.{same-window}
+use Rattle.text_window.proofs.Windows.{same-window}
 use Rattle.hproto_show.proofs.Order.{frame-inside, second-refused, second-followed, second-message}
 use Rattle.hproto_show.proofs.second.Statement.{statement}
 use Rattle.hproto_show.proofs.second.Tie as tie

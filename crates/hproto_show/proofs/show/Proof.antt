@@ -1,7 +1,7 @@
 -- `hproto_show::show` meets its contract.
 use borrow.Author.Needs.{needs}
 use denote.Ref.{now}
-use Rattle.hproto_print.proofs.Windows.{same-window}
+use Rattle.text_window.proofs.Windows.{same-window}
 use Rattle.hproto_show.proofs.Order.{too-long, not-too-long}
 use Rattle.hproto_show.proofs.show.Statement.{statement}
 use Rattle.hproto_show.proofs.show.Tie as tie

@@ -10,7 +10,7 @@ use Rattle.hproto_table.specs.Schema.{Schema}
 use Rattle.table_index.specs.internal.Cells.{indexed}
 use Rattle.hproto_field.specs.internal.Fronts.{front}
 use Rattle.hproto_print.proofs.Counting.{left-octets}
-use Rattle.hproto_print.proofs.Writing.{Progress, begun, ended, same-length, next-ends, leaf-contents, leaf-fits, leaf-written, nested-accepts, message-fits, inner-fits, nested-written}
+use Rattle.hproto_print.proofs.Writing.{Progress, begun, ended, same-length, next-ends, leaf-contents, leaf-written, nested-accepts, nested-written}
 use borrow.Fn.Kinds.{In}
 use borrow.Fn.PlainCycle.{Measures, is, falls, and}
 use Rattle.hproto_print.proofs.lines.write.Reads as write
@@ -66,12 +66,12 @@ module _ (t : ℕ) (c : Found t) where
 
   -- Where the field ends.
   ends-of : (i < i + c .field-in .result .control + c .field-in .result .contents) × (i + c .field-in .result .control + c .field-in .result .contents ≤ length (now (b .args .s)))
-  ends-of = next-ends (sc t b) (b .args .levels) (b .args .number) (now (b .args .s)) (now (b .args .out)) (b .args .from) (b .args .at) (b .pre .1 .1 .1) i (c .before .before .before .loop .end) (c .before .before .before .loop .out) state more (c .field-in .result) found
+  ends-of = next-ends (sc t b) (b .args .levels) (b .args .number) (now (b .args .s)) (now (b .args .out)) (b .args .from) (b .args .at) i (c .before .before .before .loop .end) (c .before .before .before .loop .out) state more (c .field-in .result) found
 
 write-loop-holds : (t : ℕ) → write-lts.Need-loop-holds (field-in-reads.Asked, field-in-reads.Learnt, held-reads.Asked, held-reads.Learnt, leaf-line-reads.Asked, leaf-line-reads.Learnt, message-line-reads.Asked, message-line-reads.Learnt, write-below t, write.Post) (write-at t) write.Post write-Inv-loop write-μ-loop
 write-loop-holds t c =
     let s = c .before .before in
-    begun (sc t s) (s .args .levels) (s .args .number) (now (s .args .s)) (now (s .args .out)) (s .args .from) (s .args .at) (s .pre .1 .1 .0)
+    begun (sc t s) (s .args .levels) (s .args .number) (now (s .args .s)) (now (s .args .out)) (s .args .from) (s .args .at) (s .pre .1 .1)
 
 write-sub-field-in : (t : ℕ) → write-lts.Need-sub-field-in (field-in-reads.Asked, field-in-reads.Learnt, held-reads.Asked, held-reads.Learnt, leaf-line-reads.Asked, leaf-line-reads.Learnt, message-line-reads.Asked, message-line-reads.Learnt, write-below t, write.Post) (write-at t) write.Post write-Inv-loop write-μ-loop
 write-sub-field-in t c = search needs
@@ -113,7 +113,7 @@ write-leaf-line-requires : (t : ℕ) → write-lts.Need-leaf-line-requires (fiel
 write-leaf-line-requires t c κs =
     let f = c .before .before .before .before .before .before .before in
     let q = plain-of (f .field-in .result .kind) (sym (c .before .before .before .before .held .ensures) ∙ c .before .before .enum-told .given .1) in
-    (leaf-contents (sc t (b t f)) (b t f .args .levels) (b t f .args .number) (now (b t f .args .s)) (now (b t f .args .out)) (b t f .args .from) (b t f .args .at) (b t f .pre .1 .1 .1) (i t f) (f .before .before .before .loop .end) (f .before .before .before .loop .out) (state t f) (more t f) (f .field-in .result) (found t f) q, leaf-fits (sc t (b t f)) (b t f .args .levels) (b t f .args .number) (now (b t f .args .s)) (now (b t f .args .out)) (b t f .args .from) (b t f .args .at) (b t f .pre .1 .1 .1) (i t f) (f .before .before .before .loop .end) (f .before .before .before .loop .out) (state t f) (more t f) (f .field-in .result) (found t f) q)
+    leaf-contents (sc t (b t f)) (b t f .args .levels) (b t f .args .number) (now (b t f .args .s)) (now (b t f .args .out)) (b t f .args .from) (b t f .args .at) (i t f) (f .before .before .before .loop .end) (f .before .before .before .loop .out) (state t f) (more t f) (f .field-in .result) (found t f) q
 
 write-loop-less : (t : ℕ) → write-lts.Need-loop-less (field-in-reads.Asked, field-in-reads.Learnt, held-reads.Asked, held-reads.Learnt, leaf-line-reads.Asked, leaf-line-reads.Learnt, message-line-reads.Asked, message-line-reads.Learnt, write-below t, write.Post) (write-at t) write.Post write-Inv-loop write-μ-loop
 write-loop-less t c = let f = c .before .before .before .before .before .before .before .before .before .before in let h = ends-of t f in let p = h .0 in let q = h .1 in omega arith
@@ -122,7 +122,7 @@ write-loop-again : (t : ℕ) → write-lts.Need-loop-again (field-in-reads.Asked
 write-loop-again t c =
     let f = c .before .before .before .before .before .before .before .before .before .before in
     let q = plain-of (f .field-in .result .kind) (sym (c .before .before .before .before .before .before .before .held .ensures) ∙ c .before .before .before .before .before .enum-told .given .1) in
-    leaf-written (sc t (b t f)) (b t f .args .levels) (b t f .args .number) (now (b t f .args .s)) (now (b t f .args .out)) (b t f .args .from) (b t f .args .at) (b t f .pre .1 .1 .1) (i t f) (f .before .before .before .loop .end) (f .before .before .before .loop .out) (state t f) (more t f) (f .field-in .result) (found t f) q (c .before .before .leaf-line .result) (c .before .before .leaf-line .last .0) (c .before .before .leaf-line .ensures)
+    leaf-written (sc t (b t f)) (b t f .args .levels) (b t f .args .number) (now (b t f .args .s)) (now (b t f .args .out)) (b t f .args .from) (b t f .args .at) (i t f) (f .before .before .before .loop .end) (f .before .before .before .loop .out) (state t f) (more t f) (f .field-in .result) (found t f) q (c .before .before .leaf-line .result) (c .before .before .leaf-line .last .0) (c .before .before .leaf-line .ensures)
 
 write-enum-known-m : (t : ℕ) → write-lts.Need-enum-known-m (field-in-reads.Asked, field-in-reads.Learnt, held-reads.Asked, held-reads.Learnt, leaf-line-reads.Asked, leaf-line-reads.Learnt, message-line-reads.Asked, message-line-reads.Learnt, write-below t, write.Post) (write-at t) write.Post write-Inv-loop write-μ-loop
 write-enum-known-m t c = search needs
@@ -139,12 +139,12 @@ write-part-message-line-end t c = let f = c .before .before .before .before .bef
 write-message-line-requires : (t : ℕ) → write-lts.Need-message-line-requires (field-in-reads.Asked, field-in-reads.Learnt, held-reads.Asked, held-reads.Learnt, leaf-line-reads.Asked, leaf-line-reads.Learnt, message-line-reads.Asked, message-line-reads.Learnt, write-below t, write.Post) (write-at t) write.Post write-Inv-loop write-μ-loop
 write-message-line-requires t c κs =
     let f = c .before .before .before .before .before .before .before .before in
-    (nested-accepts (sc t (b t f)) (b t f .args .levels) (b t f .args .number) (now (b t f .args .s)) (now (b t f .args .out)) (b t f .args .from) (b t f .args .at) (b t f .pre .1 .1 .1) (i t f) (f .before .before .before .loop .end) (f .before .before .before .loop .out) (state t f) (more t f) (f .field-in .result) (found t f) (b t f .pre .1 .0) (c .before .before .before .m .given .0 .0) (message-of (f .field-in .result .kind) (c .before .before .before .m .given .0 .0) (sym (c .before .before .before .before .before .held .ensures) ∙ c .before .before .before .m .given .1)) .2, message-fits (sc t (b t f)) (b t f .args .levels) (b t f .args .number) (now (b t f .args .s)) (now (b t f .args .out)) (b t f .args .from) (b t f .args .at) (b t f .pre .1 .1 .1) (i t f) (f .before .before .before .loop .end) (f .before .before .before .loop .out) (state t f) (more t f) (f .field-in .result) (found t f) (b t f .pre .1 .0) (c .before .before .before .m .given .0 .0) (message-of (f .field-in .result .kind) (c .before .before .before .m .given .0 .0) (sym (c .before .before .before .before .before .held .ensures) ∙ c .before .before .before .m .given .1)))
+    nested-accepts (sc t (b t f)) (b t f .args .levels) (b t f .args .number) (now (b t f .args .s)) (now (b t f .args .out)) (b t f .args .from) (b t f .args .at) (i t f) (f .before .before .before .loop .end) (f .before .before .before .loop .out) (state t f) (more t f) (f .field-in .result) (found t f) (b t f .pre .1 .0) (c .before .before .before .m .given .0 .0) (message-of (f .field-in .result .kind) (c .before .before .before .m .given .0 .0) (sym (c .before .before .before .before .before .held .ensures) ∙ c .before .before .before .m .given .1)) .2
 
 write-sub-write : (t : ℕ) → write-lts.Need-sub-write (field-in-reads.Asked, field-in-reads.Learnt, held-reads.Asked, held-reads.Learnt, leaf-line-reads.Asked, leaf-line-reads.Learnt, message-line-reads.Asked, message-line-reads.Learnt, write-below t, write.Post) (write-at t) write.Post write-Inv-loop write-μ-loop
 write-sub-write t c =
     let f = c .before .before .before .before .before .before .before .before .before .before .before in
-    let h = nested-accepts (sc t (b t f)) (b t f .args .levels) (b t f .args .number) (now (b t f .args .s)) (now (b t f .args .out)) (b t f .args .from) (b t f .args .at) (b t f .pre .1 .1 .1) (i t f) (f .before .before .before .loop .end) (f .before .before .before .loop .out) (state t f) (more t f) (f .field-in .result) (found t f) (b t f .pre .1 .0) (c .before .before .before .before .before .before .m .given .0 .0) (message-of (f .field-in .result .kind) (c .before .before .before .before .before .before .m .given .0 .0) (sym (c .before .before .before .before .before .before .before .before .held .ensures) ∙ c .before .before .before .before .before .before .m .given .1)) .0 in
+    let h = nested-accepts (sc t (b t f)) (b t f .args .levels) (b t f .args .number) (now (b t f .args .s)) (now (b t f .args .out)) (b t f .args .from) (b t f .args .at) (i t f) (f .before .before .before .loop .end) (f .before .before .before .loop .out) (state t f) (more t f) (f .field-in .result) (found t f) (b t f .pre .1 .0) (c .before .before .before .before .before .before .m .given .0 .0) (message-of (f .field-in .result .kind) (c .before .before .before .before .before .before .m .given .0 .0) (sym (c .before .before .before .before .before .before .before .before .held .ensures) ∙ c .before .before .before .before .before .before .m .given .1)) .0 in
     omega arith
 
 write-sub-write-2 : (t : ℕ) → write-lts.Need-sub-write-2 (field-in-reads.Asked, field-in-reads.Learnt, held-reads.Asked, held-reads.Learnt, leaf-line-reads.Asked, leaf-line-reads.Learnt, message-line-reads.Asked, message-line-reads.Learnt, write-below t, write.Post) (write-at t) write.Post write-Inv-loop write-μ-loop
@@ -159,11 +159,11 @@ write-part-write-end t c = let f = c .before .before .before .before .before .be
 write-write-requires : (t : ℕ) → write-lts.Need-write-requires (field-in-reads.Asked, field-in-reads.Learnt, held-reads.Asked, held-reads.Learnt, leaf-line-reads.Asked, leaf-line-reads.Learnt, message-line-reads.Asked, message-line-reads.Learnt, write-below t, write.Post) (write-at t) write.Post write-Inv-loop write-μ-loop
 write-write-requires t c κs =
     let f = c .before .before .before .before .before .before .before .before .before .before .before .before .before in
-    let h = nested-accepts (sc t (b t f)) (b t f .args .levels) (b t f .args .number) (now (b t f .args .s)) (now (b t f .args .out)) (b t f .args .from) (b t f .args .at) (b t f .pre .1 .1 .1) (i t f) (f .before .before .before .loop .end) (f .before .before .before .loop .out) (state t f) (more t f) (f .field-in .result) (found t f) (b t f .pre .1 .0) (c .before .before .before .before .before .before .before .before .m .given .0 .0) (message-of (f .field-in .result .kind) (c .before .before .before .before .before .before .before .before .m .given .0 .0) (sym (c .before .before .before .before .before .before .before .before .before .before .held .ensures) ∙ c .before .before .before .before .before .before .before .before .m .given .1)) in
+    let h = nested-accepts (sc t (b t f)) (b t f .args .levels) (b t f .args .number) (now (b t f .args .s)) (now (b t f .args .out)) (b t f .args .from) (b t f .args .at) (i t f) (f .before .before .before .loop .end) (f .before .before .before .loop .out) (state t f) (more t f) (f .field-in .result) (found t f) (b t f .pre .1 .0) (c .before .before .before .before .before .before .before .before .m .given .0 .0) (message-of (f .field-in .result .kind) (c .before .before .before .before .before .before .before .before .m .given .0 .0) (sym (c .before .before .before .before .before .before .before .before .before .before .held .ensures) ∙ c .before .before .before .before .before .before .before .before .m .given .1)) in
     let k = h .0 in
     let p = b t f .pre .0 in
     let l = b t f .pre .1 .0 in
-    (omega arith, (omega arith, (h .1, inner-fits (sc t (b t f)) (b t f .args .levels) (b t f .args .number) (now (b t f .args .s)) (now (b t f .args .out)) (b t f .args .from) (b t f .args .at) (b t f .pre .1 .1 .1) (i t f) (f .before .before .before .loop .end) (f .before .before .before .loop .out) (state t f) (more t f) (f .field-in .result) (found t f) (b t f .pre .1 .0) (c .before .before .before .before .before .before .before .before .m .given .0 .0) (message-of (f .field-in .result .kind) (c .before .before .before .before .before .before .before .before .m .given .0 .0) (sym (c .before .before .before .before .before .before .before .before .before .before .held .ensures) ∙ c .before .before .before .before .before .before .before .before .m .given .1)) (c .before .before .before .before .message-line .result) (c .before .before .before .before .message-line .last .1 .1 .1 .0) (c .before .before .before .before .message-line .ensures))))
+    (omega arith, (omega arith, h .1))
 
 write-loop-less-2 : (t : ℕ) → write-lts.Need-loop-less-2 (field-in-reads.Asked, field-in-reads.Learnt, held-reads.Asked, held-reads.Learnt, leaf-line-reads.Asked, leaf-line-reads.Learnt, message-line-reads.Asked, message-line-reads.Learnt, write-below t, write.Post) (write-at t) write.Post write-Inv-loop write-μ-loop
 write-loop-less-2 t c = let f = c .before .before .before .before .before .before .before .before .before .before .before .before .before .before .before .before in let h = ends-of t f in let p = h .0 in let q = h .1 in omega arith
@@ -171,7 +171,7 @@ write-loop-less-2 t c = let f = c .before .before .before .before .before .befor
 write-loop-again-2 : (t : ℕ) → write-lts.Need-loop-again-2 (field-in-reads.Asked, field-in-reads.Learnt, held-reads.Asked, held-reads.Learnt, leaf-line-reads.Asked, leaf-line-reads.Learnt, message-line-reads.Asked, message-line-reads.Learnt, write-below t, write.Post) (write-at t) write.Post write-Inv-loop write-μ-loop
 write-loop-again-2 t c =
     let f = c .before .before .before .before .before .before .before .before .before .before .before .before .before .before .before .before in
-    nested-written (sc t (b t f)) (b t f .args .levels) (b t f .args .number) (now (b t f .args .s)) (now (b t f .args .out)) (b t f .args .from) (b t f .args .at) (b t f .pre .1 .1 .1) (i t f) (f .before .before .before .loop .end) (f .before .before .before .loop .out) (state t f) (more t f) (f .field-in .result) (found t f) (b t f .pre .1 .0) (c .before .before .before .before .before .before .before .before .before .before .before .m .given .0 .0) (message-of (f .field-in .result .kind) (c .before .before .before .before .before .before .before .before .before .before .before .m .given .0 .0) (sym (c .before .before .before .before .before .before .before .before .before .before .before .before .before .held .ensures) ∙ c .before .before .before .before .before .before .before .before .before .before .before .m .given .1)) (c .before .before .before .before .before .before .before .message-line .result) (c .before .before .before .before .before .before .before .message-line .last .1 .1 .1 .0) (c .before .before .before .before .before .before .before .message-line .ensures) (c .before .before .write .result) (c .before .before .write .last .1 .1 .1 .1 .0) (c .before .before .write .ensures)
+    nested-written (sc t (b t f)) (b t f .args .levels) (b t f .args .number) (now (b t f .args .s)) (now (b t f .args .out)) (b t f .args .from) (b t f .args .at) (i t f) (f .before .before .before .loop .end) (f .before .before .before .loop .out) (state t f) (more t f) (f .field-in .result) (found t f) (b t f .pre .1 .0) (c .before .before .before .before .before .before .before .before .before .before .before .m .given .0 .0) (message-of (f .field-in .result .kind) (c .before .before .before .before .before .before .before .before .before .before .before .m .given .0 .0) (sym (c .before .before .before .before .before .before .before .before .before .before .before .before .before .held .ensures) ∙ c .before .before .before .before .before .before .before .before .before .before .before .m .given .1)) (c .before .before .before .before .before .before .before .message-line .result) (c .before .before .before .before .before .before .before .message-line .last .1 .1 .1 .0) (c .before .before .before .before .before .before .before .message-line .ensures) (c .before .before .write .result) (c .before .before .write .last .1 .1 .1 .1 .0) (c .before .before .write .ensures)
 
 write-same-length : (t : ℕ) → write-lts.Need-same-length (field-in-reads.Asked, field-in-reads.Learnt, held-reads.Asked, held-reads.Learnt, leaf-line-reads.Asked, leaf-line-reads.Learnt, message-line-reads.Asked, message-line-reads.Learnt, write-below t, write.Post) (write-at t) write.Post write-Inv-loop write-μ-loop
 write-same-length t c =

@@ -1,14 +1,13 @@
 -- `lines::int` puts the digits of the number that was read.
-use mathlib.Core.Path.{_≡_, sym, ap, _∙_, subst}
+use mathlib.Core.Path.{_≡_, ap, _∙_}
 use denote.Ref.{now}
 use mir.Syntax.{w64}
 use mir.Val.{toZ, ofZ}
 use mir.ValLaws.{toZ-ofZ}
 use Rattle.octets.specs.Signed.{integer}
 use Rattle.octets.proofs.Integer.{signed-is}
-use Rattle.hproto_print.specs.Digits.{signedDecimal}
-use Rattle.hproto_print.specs.internal.Pieces.{FitsU64}
-use Rattle.hproto_print.proofs.Windows.{same-place}
+use Rattle.text_window.specs.Digits.{signedDecimal}
+use Rattle.text_window.proofs.Windows.{same-place}
 use borrow.Author.Needs.{needs}
 use Rattle.hproto_print.proofs.lines.int.Statement.{statement}
 use Rattle.hproto_print.proofs.lines.int.Tie as tie
@@ -20,12 +19,10 @@ int-requires c κs = search needs
 value-is : (c : tie.After-int) → toZ w64 (ofZ w64 (c .int .result)) ≡ integer (now (c .before .before .before .args .s))
 value-is c =
     let b = c .before .before .before in
-    toZ-ofZ w64 (c .int .result) (record { sfits = c .int .ok }) ∙ c .int .ensures ∙ signed-is (now (b .args .s)) (b .pre .0)
+    toZ-ofZ w64 (c .int .result) (record { sfits = c .int .ok }) ∙ c .int .ensures ∙ signed-is (now (b .args .s)) (b .pre)
 
 signed-requires : tie.Need-signed-requires
-signed-requires c κs =
-    let b = c .before .before .before .before in
-    subst (FitsU64 (b .args .at)) (ap signedDecimal (sym (value-is (c .before)))) (b .pre .1)
+signed-requires c κs = search needs
 
 same-length : tie.Need-same-length
 same-length c = search needs

@@ -1,40 +1,48 @@
 -- `hproto_print::lines::leaf_line` meets its contract.
 use borrow.Author.Needs.{needs}
-use native.Mathlib.Omega.{arith}
-use mathlib.Core.List.{[], _∷_}
 use denote.Ref.{now}
-use lib.ListN.{length-append}
 use Rattle.hproto_message.specs.Tree.{value}
-use Rattle.hproto_print.specs.Ascii.{ascii}
-use Rattle.hproto_print.specs.Text.{meaningName, front, valueText, line}
-use Rattle.hproto_print.proofs.Windows.{then, fits-less, fits-after}
+use Rattle.text_window.specs.Ascii.{ascii}
+use Rattle.hproto_print.specs.Text.{kindName, front, line}
+use Rattle.hproto_print.specs.internal.Walk.{depthAndTag}
+use Rattle.hproto_print.proofs.Values.{name-is}
+use Rattle.text_window.proofs.Windows.{then, same-place}
 use Rattle.hproto_print.proofs.lines.leaf_line.Statement.{statement}
 use Rattle.hproto_print.proofs.lines.leaf_line.Tie as tie
 
 front-requires : tie.Need-front-requires
-unfolding line ascii
-front-requires c κs = let b = c .before .before .before in fits-less (front (b .args .depth) (b .args .tag) (meaningName (b .args .kind))) (b .pre .1) (simp length-append (omega arith))
+front-requires c κs = search needs
 
-value-requires : tie.Need-value-requires
-unfolding line ascii
-value-requires c κs =
-    let b = c .before .before .before .before .before .before .before in
-    (b .pre .0, fits-after (valueText (value (b .args .kind) (now (b .args .s)))) (c .before .before .before .front .ensures) (b .pre .1) (simp length-append (omega arith)))
+kind-name-requires : tie.Need-kind-name-requires
+kind-name-requires c κs = search needs
 
 put-requires : tie.Need-put-requires
-unfolding line ascii
-put-requires c κs =
-    let b = c .before .before .before .before .before .before .before .before .before .before .before in
-    fits-after (0x0a ∷ []) (then (c .before .before .before .before .before .before .before .front .ensures) (c .before .before .before .value .ensures)) (b .pre .1) (simp length-append (omega arith))
+put-requires c κs = search needs
+
+value-requires : tie.Need-value-requires
+value-requires c κs = search needs
+
+put-requires-2 : tie.Need-put-requires-2
+put-requires-2 c κs = search needs
 
 same-length : tie.Need-same-length
 same-length c = search needs
 
 returns : tie.Need-returns
-unfolding line ascii
+unfolding line front depthAndTag ascii
 returns c =
-    then (then (c .before .before .before .before .before .before .before .before .before .before .front .ensures) (c .before .before .before .before .before .before .value .ensures)) (c .before .before .put .ensures)
+    let a = c .before .before .before .before .before .before .before .before .before .before .before .before .before .before .before .before .before .before .before .before .before .before .args in
+    let name = same-place (kindName (value (a .kind) (now (a .s)))) (name-is (a .kind) (now (a .s))) (c .before .before .before .before .before .before .before .before .before .before .before .before .before .before .kind-name .ensures) in
+    then (then (then (then (c .before .before .before .before .before .before .before .before .before .before .before .before .before .before .before .before .before .before .front .ensures) name) (c .before .before .before .before .before .before .before .before .before .before .put .ensures)) (c .before .before .before .before .before .before .value .ensures)) (c .before .before .put2 .ensures)
 
 pub leaf-line-spec : {M : Type 1} → statement M
 leaf-line-spec =
-    tie.close (tie.spec front-requires value-requires put-requires same-length returns)
+    tie.close
+    (tie.spec
+    front-requires
+    kind-name-requires
+    put-requires
+    value-requires
+    put-requires-2
+    same-length
+    returns)

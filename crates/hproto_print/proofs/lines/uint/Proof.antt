@@ -1,11 +1,10 @@
 -- `lines::uint` puts the digits of the number that was read.
-use mathlib.Core.Path.{sym, ap, _∙_, subst}
+use mathlib.Core.Path.{ap, _∙_}
 use denote.Ref.{now}
 use Rattle.octets.specs.Number.{number}
 use Rattle.octets.proofs.Number.{unsigned-is}
-use Rattle.hproto_print.specs.Digits.{decimal}
-use Rattle.hproto_print.specs.internal.Pieces.{FitsU64}
-use Rattle.hproto_print.proofs.Windows.{same-place}
+use Rattle.text_window.specs.Digits.{decimal}
+use Rattle.text_window.proofs.Windows.{same-place}
 use borrow.Author.Needs.{needs}
 use Rattle.hproto_print.proofs.lines.uint.Statement.{statement}
 use Rattle.hproto_print.proofs.lines.uint.Tie as tie
@@ -14,10 +13,7 @@ uint-requires : tie.Need-uint-requires
 uint-requires c κs = search needs
 
 decimal-requires : tie.Need-decimal-requires
-decimal-requires c κs =
-    let b = c .before .before .before .before in
-    let e = c .before .uint .ensures ∙ unsigned-is (now (b .args .s)) (b .pre .0) in
-    subst (FitsU64 (b .args .at)) (ap decimal (sym e)) (b .pre .1)
+decimal-requires c κs = search needs
 
 same-length : tie.Need-same-length
 same-length c = search needs
@@ -25,7 +21,7 @@ same-length c = search needs
 returns : tie.Need-returns
 returns c =
     let b = c .before .before .before .before .before .before .before in
-    let e = c .before .before .before .before .uint .ensures ∙ unsigned-is (now (b .args .s)) (b .pre .0) in
+    let e = c .before .before .before .before .uint .ensures ∙ unsigned-is (now (b .args .s)) (b .pre) in
     same-place (decimal (number (now (b .args .s)))) (ap decimal e) (c .before .before .decimal .ensures)
 
 pub uint-spec : {M : Type 1} → statement M

@@ -1,0 +1,4 @@
+pub mod Windows
+pub mod Pieces
+pub mod Numbers
+pub mod Decimals

@@ -1,0 +1,4 @@
+pub mod Ascii
+pub mod Digits
+pub mod Window
+pub mod ReadDecimal
