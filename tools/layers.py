@@ -43,21 +43,22 @@ def reached(uses):
 
 
 class Chapter:
-    """The crates of one prefix: their lines from the bottom to the top, and the chapters that have to be named as used."""
+    """The crates of one prefix, in lines from the bottom to the top, and the names of the chapters that it uses."""
 
     def __init__(self, prefix, crates, uses):
         self.prefix, self.crates = prefix, crates
         depth = depths({crate: [used for used in uses[crate] if used in crates] for crate in crates})
         self.lines = [[crate for crate in crates if depth[crate] == d] for d in range(max(depth.values()) + 1)]
-        self.title = prefix if len(crates) > 1 else ''
+        self.name = prefix if len(crates) > 1 else crates[0]
         self.used = []
 
     def heading(self):
-        return ' '.join([self.title] * bool(self.title) + ['uses ' + ', '.join(self.used)] * bool(self.used))
+        """The name, where it is not that of the only crate, and what the chapter uses."""
+        return self.name if len(self.crates) > 1 else '', 'uses ' + ', '.join(self.used) if self.used else ''
 
     def natural_width(self):
         widest = max(sum(box_width(crate) + GAP for crate in line) for line in self.lines) + GAP
-        return min(WIDTH, max(widest, LETTER * len(self.heading()) + 2 * GAP))
+        return min(WIDTH, max(widest, LETTER * len(' '.join(self.heading())) + 2 * GAP))
 
     def wrapped(self, width):
         """The lines, divided so that each fits into a panel of a width."""
@@ -80,14 +81,13 @@ def read_layers():
     uses = read_crates()
     prefix = {crate: crate.split('_')[0] for crate in uses}
     chapters = {p: Chapter(p, [c for c in uses if prefix[c] == p], uses) for p in dict.fromkeys(prefix.values())}
-    name = {p: p if chapter.title else chapter.crates[0] for p, chapter in chapters.items()}
     direct = {p: {prefix[used] for c in chapter.crates for used in uses[c]} - {p} for p, chapter in chapters.items()}
     far = reached(direct)
     below = {p: [q for q in far[p] if p not in far[q]] for p in chapters}
     level = depths(below)
     for p, chapter in chapters.items():
         implied = {r for q in direct[p] for r in far[q] if q not in far[r]}
-        chapter.used = [name[q] for q in chapters if q in direct[p] and q not in implied]
+        chapter.used = [chapters[q].name for q in chapters if q in direct[p] and q not in implied]
     return [[chapters[p] for p in chapters if level[p] == d] for d in range(max(level.values()) + 1)]
 
 
@@ -110,8 +110,7 @@ def text(x, y, kind, words):
 
 def panel(chapter, x, y, width, height, colour):
     yield f'<rect x="{x:.1f}" y="{y}" width="{width:.1f}" height="{height}" rx="6" fill="{colour}" stroke="#8c959f"/>'
-    title = f'<tspan font-weight="bold">{chapter.title}</tspan> ' if chapter.title else ''
-    yield text(x + GAP, y + TITLE, 'heading', (title + chapter.heading()[len(chapter.title):].strip()).strip())
+    yield text(x + GAP, y + TITLE, 'heading', '<tspan font-weight="bold">{}</tspan> {}'.format(*chapter.heading()))
     lines = chapter.wrapped(width)
     for i, line in enumerate(reversed(lines)):
         left = x + (width + GAP - sum(box_width(crate) + GAP for crate in line)) / 2
