@@ -8,9 +8,9 @@ use mathlib.Core.Bool.{Bool, true, false, cond, not, _||_, true≢false}
 use mathlib.Core.List.{List, [], _∷_, _++_}
 use lib.ListN.{length, take, drop, take-append-drop, length-append, length-drop}
 use lib.Seq.{take-at, drop-at, take-append-le, drop-append-le, take-length}
-use lib.Dec.{eqb, leb}
+use lib.Dec.{leb}
 use borrow.Author.Count.{below-more}
-use borrow.Author.Tests.{eqb-true, leb-false, lt-leb, not-true}
+use borrow.Author.Tests.{leb-false, lt-leb}
 use Rattle.octets.specs.Number.{Octets, number}
 use Rattle.octets.proofs.Number.{number-octetsOf, length-octetsOf}
 use Rattle.hproto_table.specs.Entry.{entry}

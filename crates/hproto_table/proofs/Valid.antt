@@ -8,7 +8,7 @@ use mathlib.Core.List.{List, [], _∷_, _++_}
 use lib.ListN.{length, take, drop, getD, replicate, take-append-drop, length-drop}
 use lib.Seq.{drop-append-add, take-at, drop-at, take-suc, take-length, length-take-le}
 use lib.Dec.{eqb, leb, ltb, lit<}
-use borrow.Author.Tests.{eqb-true, le-leb, leb-true, ltb-true, not-true, not-false}
+use borrow.Author.Tests.{eqb-true, le-leb, leb-true, ltb-true, not-false}
 use Rattle.octets.specs.Number.{Octets, number, octetsOf}
 use Rattle.octets.proofs.Number.{octets-append, octets-octetsOf, number-octetsOf, length-octetsOf}
 use Rattle.hproto_table.specs.Entry.{Entry, entry}

@@ -1,5 +1,5 @@
 -- What an index in cells that were cleared says of its table: the loader's answer, the table's schema, and the order of each entry.
-use Prim.Native.Nat.{ℕ, zero, suc, _*_, _%_, _≤_, _<_, min}
+use Prim.Native.Nat.{ℕ, zero, suc, _*_, _≤_, _<_, min}
 use native.Mathlib.Numerals.{add-one}
 use native.Mathlib.Omega.{arith}
 use mathlib.Core.Path.{_≡_, refl, sym, ap, _∙_}

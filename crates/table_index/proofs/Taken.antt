@@ -1,5 +1,5 @@
 -- An index in cells that were cleared shows the words that were taken.
-use Prim.Native.Nat.{ℕ, zero, suc, _+_, _/_, _%_, _≤_, _<_}
+use Prim.Native.Nat.{ℕ, zero, suc, _+_, _%_, _≤_, _<_}
 use native.Mathlib.Omega.{arith}
 use mathlib.Core.Path.{_≡_, refl, sym, ap, _∙_}
 use mathlib.Core.Bool.{Bool, true, false, cond, not, _&&_, _||_, or-true, or-false}
@@ -8,15 +8,14 @@ use lib.ListN.{replicate}
 use lib.Seq.{append-snoc}
 use lib.Dec.{eqb, ltb}
 use borrow.Author.Tests.{eqb-true, eqb-false, eq-eqb, ne-eqb, ltb-true, ltb-false}
-use Rattle.hproto_table.specs.Entry.{entry, find, meaning}
+use Rattle.hproto_table.specs.Entry.{entry, find}
 use Rattle.hproto_table.specs.Load.{pair, seen}
 use Rattle.hproto_table.specs.Schema.{schemaOf}
 use Rattle.hproto_table.specs.Repeat.{distinct}
-use Rattle.hproto_table.specs.declared.Meaning.the-variants.{Raw}
 use Rattle.hproto_table.proofs.Bools.{and-left, and-right}
 use Rattle.hproto_table.proofs.Repeat.{seen-append, seen-one, distinct-snoc}
 use Rattle.hproto_table.proofs.Schemas.{same-schema, find-large}
-use Rattle.table_index.specs.internal.Cells.{keyOf, wordKey, cellOf, meaningIn, orderIn, search, fresh, notedBefore, taken, takenFrom, cellFor, indexed}
+use Rattle.table_index.specs.internal.Cells.{keyOf, wordKey, cellOf, meaningIn, orderIn, search, fresh, taken, takenFrom, cellFor, indexed}
 use Rattle.table_index.proofs.Meanings.{raw}
 use Rattle.table_index.proofs.Words.{Small, cell-some, cell-order, cell-means, key-fits, key-pair}
 use Rattle.table_index.proofs.Found.{standing, made, found-standing}
