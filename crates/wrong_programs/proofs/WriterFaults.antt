@@ -15,7 +15,7 @@ use Rattle.hproto_state.specs.Calls.{orRefuse}
 use Rattle.hproto_state.specs.declared.State.{State}
 use Rattle.hproto_state.specs.declared.Written.{Written}
 use Rattle.hproto_state.specs.declared.Finished.{Finished}
-use Rattle.hproto_state.proofs.Conditions.{passed, StartMet, start-met}
+use Rattle.hproto_state.proofs.Conditions.{passed as met, StartMet, start-met}
 use Rattle.wrong_programs.specs.Kinds as kinds
 use Rattle.wrong_programs.specs.Kinds.{RuledOut, AcceptsSome, refusal-of}
 use Rattle.wrong_programs.specs.Writer as writing
@@ -27,8 +27,8 @@ use Rattle.wrong_programs.proofs.Faults.{and-false, equal, holds, bad-t
 -- The tests that put, open and close share, with what comes after them.
 state-and-table : (t : Table) (s : State) (next : ℕ) → orRefuse (sound s) 10 (orRefuse (valid t) 2 next) ≡ 0 → (sound s ≡ true) × (valid t ≡ true)
 state-and-table t s next e =
-    let a = passed (sound s) 10 (orRefuse (valid t) 2 next) (omega arith) e in
-    (a .0, passed (valid t) 2 next (omega arith) (a .1) .0)
+    let a = met (sound s) 10 (orRefuse (valid t) 2 next) (omega arith) e in
+    (a .0, met (valid t) 2 next (omega arith) (a .1) .0)
 
 -- Those of put and close begin with that of the buffer's length.
 record Passed (t : Table) (s : State) (len : ℕ) : Type 0 where
@@ -39,7 +39,7 @@ record Passed (t : Table) (s : State) (len : ℕ) : Type 0 where
 passed : (t : Table) (s : State) (len next : ℕ)
     → orRefuse (eqb len (s .length)) 10 (orRefuse (sound s) 10 (orRefuse (valid t) 2 next)) ≡ 0 → Passed t s len
 passed t s len next e =
-    let a = passed (eqb len (s .length)) 10 (orRefuse (sound s) 10 (orRefuse (valid t) 2 next)) (omega arith) e in
+    let a = met (eqb len (s .length)) 10 (orRefuse (sound s) 10 (orRefuse (valid t) 2 next)) (omega arith) e in
     let b = state-and-table t s next (a .1) in
     record { same-length = eqb-true len (s .length) (a .0); state-sound = b .0; table-valid = b .1 }
 
@@ -147,7 +147,7 @@ unfolding writing.stateFits kinds.array finish calls.finished calls.finishRefusa
 finish-accepts-bad-state =
     bad-state (λ (r : Finished). r .refusal) (λ (x : StateCall). x .value)
     (λ x. equal (length (x .value .marks)) 7 (λ e. simp (e, and-false) at (x .in-range)))
-    (λ x e. passed (sound (x .value)) 10 _ (omega arith) e .0)
+    (λ x e. met (sound (x .value)) 10 _ (omega arith) e .0)
 
 pub sound-accepts-bad-state : BadStateRuledOut soundState refusal-of (λ (x : StateCall). x .value)
 unfolding writing.stateFits kinds.array soundState
