@@ -1,3 +1,4 @@
+pub mod Coded
 pub mod Fields
 pub mod HeldKinds
 pub mod Passing

@@ -1,5 +1,5 @@
 -- The cell of a number and a tag, and what a cell means.
-use Prim.Native.Nat.{ℕ, _+_, _-_, _/_, _%_, _≤_, _<_}
+use Prim.Native.Nat.{ℕ, _+_, _-_, _≤_, _<_}
 use native.Mathlib.Omega.{arith}
 use mathlib.Core.Path.{_≡_, refl, _∙_}
 use mathlib.Core.Bool.{Bool, true, false}
@@ -7,36 +7,46 @@ use mathlib.Core.List.{List}
 use lib.Dec.{ltb}
 use borrow.Author.Tests.{ne-eqb, ltb-true, ltb-false, lt-ltb, le-ltb}
 use Rattle.hproto_table.specs.declared.Meaning.the-variants.{Raw, Uint, Int, String, Text, Message}
-use Rattle.table_index.specs.internal.Cells.{keysFrom, keyOf, search, cellFor, meaningIn}
+use Rattle.table_index.specs.internal.Cells.{keysFrom, keyOf, search, cellFor, codeIn, meaningOf, meaningIn}
 use Rattle.table_index.proofs.Chains.{keys-small, keys-large}
 
 module _ (c : ℕ) where
-  pub raw : c / 64 % 32 ≡ 0 → Raw ≡ meaningIn c
-  unfolding meaningIn
+  pub raw : c ≡ 0 → Raw ≡ meaningOf c
+  unfolding meaningOf
   raw e = rw e refl
 
-  pub uint : c / 64 % 32 ≡ 1 → Uint ≡ meaningIn c
-  unfolding meaningIn
+  pub uint : c ≡ 1 → Uint ≡ meaningOf c
+  unfolding meaningOf
   uint e = rw e refl
 
-  pub int : c / 64 % 32 ≡ 2 → Int ≡ meaningIn c
-  unfolding meaningIn
+  pub int : c ≡ 2 → Int ≡ meaningOf c
+  unfolding meaningOf
   int e = rw e refl
 
-  pub string : c / 64 % 32 ≡ 3 → String ≡ meaningIn c
-  unfolding meaningIn
+  pub string : c ≡ 3 → String ≡ meaningOf c
+  unfolding meaningOf
   string e = rw e refl
 
-  pub text : c / 64 % 32 ≡ 4 → Text ≡ meaningIn c
-  unfolding meaningIn
+  pub text : c ≡ 4 → Text ≡ meaningOf c
+  unfolding meaningOf
   text e = rw e refl
 
-  pub message : (c / 64 % 32 ≡ 0 → ⊥) → (c / 64 % 32 ≡ 1 → ⊥) → (c / 64 % 32 ≡ 2 → ⊥) → (c / 64 % 32 ≡ 3 → ⊥) → (c / 64 % 32 ≡ 4 → ⊥)
-      → Message (c / 64 % 32 - 5) ≡ meaningIn c
-  unfolding meaningIn
-  message d₀ d₁ d₂ d₃ d₄ =
-      let k = c / 64 % 32 in
-      rw (ne-eqb k 0 d₀, ne-eqb k 1 d₁, ne-eqb k 2 d₂, ne-eqb k 3 d₃, ne-eqb k 4 d₄) refl
+  pub message : 5 ≤ c → Message (c - 5) ≡ meaningOf c
+  unfolding meaningOf
+  message h =
+      rw (
+        ne-eqb c 0 (λ e. omega arith),
+        ne-eqb c 1 (λ e. omega arith),
+        ne-eqb c 2 (λ e. omega arith),
+        ne-eqb c 3 (λ e. omega arith),
+        ne-eqb c 4 (λ e. omega arith),
+      )
+      refl
+
+-- No entry is a raw one.
+pub none : meaningIn 0 ≡ Raw
+unfolding meaningIn codeIn meaningOf
+none = refl
 
 pub keys-below : (n : ℕ) → keysFrom n ≤ 2097152
 keys-below n = go (ltb n 16) refl

@@ -16,7 +16,7 @@ use Rattle.hproto_table.proofs.Bools.{and-left, and-right}
 use Rattle.hproto_table.proofs.Repeat.{seen-append, seen-one, distinct-snoc}
 use Rattle.hproto_table.proofs.Schemas.{same-schema, find-large}
 use Rattle.table_index.specs.internal.Cells.{keyOf, wordKey, cellOf, meaningIn, orderIn, search, fresh, taken, takenFrom, cellFor, indexed}
-use Rattle.table_index.proofs.Meanings.{raw}
+use Rattle.table_index.proofs.Meanings.{none}
 use Rattle.table_index.proofs.Words.{Small, cell-some, cell-order, cell-means, key-fits, key-pair}
 use Rattle.table_index.proofs.Found.{standing, made, found-standing}
 
@@ -73,7 +73,7 @@ module _ (word : ℕ → ℕ) where
     find-standing : (k : ℕ) → SmallBefore k → k ≤ 64 → ((j : ℕ) → j < k → standing word j (wordKey (word j)) ≡ 0)
         → meaningIn (standing word k (keyOf n t)) ≡ find (map entry (wordsOf word k)) n t
     unfolding wordsOf standing find
-    find-standing zero small few new = sym (raw 0 refl)
+    find-standing zero small few new = none
     find-standing (suc k) small few new =
         go (eqb (wordKey (word k)) (keyOf n t)) refl (find-standing k (λ j l. small j (omega arith)) (omega arith) (λ j l. new j (omega arith)))
       where
@@ -193,7 +193,7 @@ module _ (good : ℕ → Bool) (word : ℕ → ℕ) (range : (j : ℕ) → good 
       go n t true e =
           ap meaningIn (found k (omega arith) (keyOf n t))
           ∙ find-standing word n t (ltb-true t 65536 e) k (small-before k (omega arith)) (omega (arith, within)) new-before
-      go n t false e = sym (raw 0 refl) ∙ sym (find-large (wordsOf word k) n t (ltb-false t 65536 e))
+      go n t false e = none ∙ sym (find-large (wordsOf word k) n t (ltb-false t 65536 e))
 
   -- The cell of a number and a tag has the order of the word whose entry is for them.
   abbrev Ordered : ℕ → ℕ → ℕ → Type 0

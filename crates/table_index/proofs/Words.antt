@@ -10,7 +10,7 @@ use Rattle.hproto_table.specs.Load.{inRange, pair}
 use Rattle.hproto_table.specs.declared.Meaning.{Meaning}
 use Rattle.hproto_table.specs.declared.Meaning.the-variants.{Raw, Uint, Int, String, Text, Message}
 use Rattle.hproto_table.proofs.Bools.{and-four}
-use Rattle.table_index.specs.internal.Cells.{keysFrom, keyOf, wordKey, cellOf, meaningIn}
+use Rattle.table_index.specs.internal.Cells.{keysFrom, keyOf, wordKey, cellOf, codeIn, meaningOf, meaningIn}
 use Rattle.table_index.proofs.Chains.{keys-small, keys-large}
 
 -- The numbers in a word whose entry is in range.
@@ -40,14 +40,12 @@ small w h =
 
 -- ---- the cell
 
--- The meaning of a code, and of a kind and an inner number.
-abbrev coded : ℕ → Meaning
-coded c = cond (eqb c 0) Raw (cond (eqb c 1) Uint (cond (eqb c 2) Int (cond (eqb c 3) String (cond (eqb c 4) Text (Message (c - 5))))))
-
+-- The meaning of a kind and an inner number.
 abbrev kinded : ℕ → ℕ → Meaning
 kinded k i = cond (eqb k 1) Uint (cond (eqb k 2) Int (cond (eqb k 3) String (cond (eqb k 4) Text (cond (eqb k 5) (Message i) Raw))))
 
-coded-plain : (k i : ℕ) → 1 ≤ k → k < 5 → coded k ≡ kinded k i
+coded-plain : (k i : ℕ) → 1 ≤ k → k < 5 → meaningOf k ≡ kinded k i
+unfolding meaningOf
 coded-plain k i h l = rw (ne-eqb k 0 (λ e. omega arith)) (go (eqb k 1) (eqb k 2) (eqb k 3) (eqb k 4) refl refl refl refl)
   where
     go : (a b c d : Bool) → eqb k 1 ≡ a → eqb k 2 ≡ b → eqb k 3 ≡ c → eqb k 4 ≡ d
@@ -58,7 +56,8 @@ coded-plain k i h l = rw (ne-eqb k 0 (λ e. omega arith)) (go (eqb k 1) (eqb k 2
     go false false false true p q r s = refl
     go false false false false p q r s = absurd (omega (arith, eqb-false k 1 p, eqb-false k 2 q, eqb-false k 3 r, eqb-false k 4 s))
 
-coded-message : (i : ℕ) → coded (5 + i) ≡ kinded 5 i
+coded-message : (i : ℕ) → meaningOf (5 + i) ≡ kinded 5 i
+unfolding meaningOf
 coded-message i =
     let m : 5 + i - 5 ≡ i = omega arith in
     rw (
@@ -85,12 +84,12 @@ module _ (w : ℕ) (s : Small w) (i : ℕ) (low : i < 64) where
   cell-some e = omega (arith, s .some)
 
   pub cell-means : meaningIn (cellOf w i) ≡ meaning (entry w)
-  unfolding meaningIn meaning cellOf entry
+  unfolding meaningIn codeIn meaning cellOf entry
   cell-means =
       let c : ((wordKey w * 32 + (w / 256 % 256 + w % 256)) * 64 + i) / 64 % 32 ≡ w / 256 % 256 + w % 256 = omega (arith, s .kinds, s .inner) in
       rw c (go (eqb (w / 256 % 256) 5) refl)
     where
-      go : (t : Bool) → eqb (w / 256 % 256) 5 ≡ t → coded (w / 256 % 256 + w % 256) ≡ kinded (w / 256 % 256) (w % 256)
+      go : (t : Bool) → eqb (w / 256 % 256) 5 ≡ t → meaningOf (w / 256 % 256 + w % 256) ≡ kinded (w / 256 % 256) (w % 256)
       go true e = rw (eqb-true (w / 256 % 256) 5 e) (coded-message (w % 256))
       go false e =
           let d = eqb-false (w / 256 % 256) 5 e in

@@ -11,7 +11,7 @@ ghost use lib.ListN.{take, drop};
 ghost use Rattle.hproto_table.specs.Entry.{entry, kindNumber};
 ghost use Rattle.hproto_table.specs.Load.{inRange, recordAt, wordAt, wellFormed};
 ghost use Rattle.hproto_table.specs.Valid.{allZero, valid as valid-of};
-ghost use Rattle.table_index.specs.internal.Cells.{keysFrom, wordKey, cellOf, meaningIn, orderIn, nextIn, search as search-of, fresh, linked, noted, notedBefore, takenFrom, takenWords, notedWords, allTaken, cellFor, indexed};
+ghost use Rattle.table_index.specs.internal.Cells.{keysFrom, wordKey, cellOf, codeIn, meaningIn, orderIn, nextIn, search as search-of, fresh, linked, noted, notedBefore, takenFrom, takenWords, notedWords, allTaken, cellFor, indexed};
 
 // The first key of a message number. There is no test of the number in a search, so that a loop over fields computes this once.
 fn keys_from(number: u64) -> u64
@@ -206,18 +206,25 @@ pub fn cell(cells: &[u32; 128], number: u64, tag: u64) -> u64
     search(cells, keys_from(number) + tag)
 }
 
+// The code of what a cell means: 0 to 4 for raw, uint, int, string and text, 5 + m for a message of number m.
+pub fn code(cell: u64) -> u64
+    ensures { λ r. ⌜ r ≡ codeIn cell ⌝ }
+{
+    (cell >> 6) % 32
+}
+
 // What a cell means.
 pub fn meaning(cell: u64) -> Meaning
     ensures { λ r. ⌜ r ≡ meaningIn cell ⌝ }
 {
-    let code = (cell >> 6) % 32;
-    match code {
+    let c = code(cell);
+    match c {
         0 => Meaning::Raw,
         1 => Meaning::Uint,
         2 => Meaning::Int,
         3 => Meaning::String,
         4 => Meaning::Text,
-        _ => Meaning::Message(code - 5),
+        _ => Meaning::Message(c - 5),
     }
 }
 

@@ -1,8 +1,8 @@
 use borrow.Author.Needs.{needs}
 use native.Mathlib.Omega.{arith}
-use mathlib.Core.Path.{sym, _∙_}
+use mathlib.Core.Path.{sym, ap, _∙_}
 use denote.Ref.{now}
-use Rattle.table_index.specs.internal.Cells.{indexed}
+use Rattle.table_index.specs.internal.Cells.{codeIn, meaningIn, indexed}
 use Rattle.hproto_field.proofs.Fields.{at-end, in-control, size-inside, past-end, whole-field}
 use Rattle.hproto_field.proofs.step.Statement.{statement}
 use Rattle.hproto_field.proofs.step.Tie as tie
@@ -35,8 +35,11 @@ returns c =
 add-end : tie.Need-add-end
 add-end c = search needs
 
-find-requires : tie.Need-find-requires
-find-requires c κs = search needs
+cell-requires : tie.Need-cell-requires
+cell-requires c κs = search needs
+
+code-requires : tie.Need-code-requires
+code-requires c κs = search needs
 
 sub-by-kind : tie.Need-sub-by-kind
 sub-by-kind c = search needs
@@ -46,9 +49,9 @@ part-by-kind-start c = search needs
 
 part-by-kind-end : tie.Need-part-by-kind-end
 part-by-kind-end c =
-    let v = c .before .before .before .tag .given in
-    let a = c .before .before .before .before .before .before .before .args in
-    let k = size-inside (now (a .s)) (v .0 .0) (v .0 .1 .0) (v .0 .1 .1 .0) (sym (c .before .before .before .before .before .control .ensures) ∙ v .1) in
+    let v = c .before .before .before .before .tag .given in
+    let a = c .before .before .before .before .before .before .before .before .args in
+    let k = size-inside (now (a .s)) (v .0 .0) (v .0 .1 .0) (v .0 .1 .1 .0) (sym (c .before .before .before .before .before .before .control .ensures) ∙ v .1) in
     omega arith
 
 by-kind-requires : tie.Need-by-kind-requires
@@ -65,12 +68,14 @@ returns-3 c =
     in-control (indexed (now (a .cells))) (a .number) (now (a .s)) (sym (c .before .before .control .ensures) ∙ c .enum-told2 .given .1)
 
 returns-4 : tie.Need-returns-4
+unfolding indexed meaningIn
 returns-4 c =
-    let a = c .before .before .before .before .before .before .before .before .before .args in
-    let v = c .before .before .before .before .before .tag .given in
-    c .by-kind .ensures ∙ rw (c .before .before .find .ensures)
+    let a = c .before .before .before .before .before .before .before .before .before .before .args in
+    let v = c .before .before .before .before .before .before .tag .given in
+    let k = c .before .before .code .ensures ∙ ap codeIn (c .before .before .before .cell .ensures) in
+    c .by-kind .ensures ∙ rw k
     (whole-field (indexed (now (a .cells))) (a .number) (now (a .s)) (v .0 .0) (v .0 .1 .0) (v .0 .1 .1 .0)
-    (sym (c .before .before .before .before .before .before .before .control .ensures) ∙ v .1) (c .before .before .before .if1 .left))
+    (sym (c .before .before .before .before .before .before .before .before .control .ensures) ∙ v .1) (c .before .before .before .before .if1 .left))
 
 pub step-spec : {M : Type 1} → statement M
 step-spec =
@@ -83,7 +88,8 @@ step-spec =
     sub-left
     returns
     add-end
-    find-requires
+    cell-requires
+    code-requires
     sub-by-kind
     part-by-kind-start
     part-by-kind-end

@@ -30,15 +30,21 @@ wordKey w = keyOf (entry w .number) (entry w .tag)
 unfoldable pub cellOf : ℕ → ℕ → ℕ
 cellOf w i = (wordKey w * 32 + (entry w .kind + entry w .inner)) * 64 + i
 
--- What a cell means.
-unfoldable pub meaningIn : ℕ → Meaning
-meaningIn c =
-    let code = c / 64 % 32 in
+-- The kind and the inner number in a cell as one number, and what that means.
+unfoldable pub codeIn : ℕ → ℕ
+codeIn c = c / 64 % 32
+
+unfoldable pub meaningOf : ℕ → Meaning
+meaningOf code =
     cond (eqb code 0) Raw
     (cond (eqb code 1) Uint
     (cond (eqb code 2) Int
     (cond (eqb code 3) String
     (cond (eqb code 4) Text (Message (code - 5))))))
+
+-- What a cell means.
+unfoldable pub meaningIn : ℕ → Meaning
+meaningIn c = meaningOf (codeIn c)
 
 -- The order in the table of the entry in a cell.
 unfoldable pub orderIn : ℕ → ℕ
