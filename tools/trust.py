@@ -11,7 +11,7 @@ import sys
 IMPORT = re.compile(r'use Rattle·(\w+?)(?:·specs\.specs|\.specs)\.((?:internal\.)?[A-Z]\w*)(?: as (\w+))?(?:\.\{(.*?)\})?')
 FUNCTION = re.compile(r'^pub (?:extern "C" )?fn (\w+)\(.*?^\{', re.M | re.S)
 ENTRIES = {
-    'hproto_load': 'load',
+    'table_index': 'load',
     'hproto_frame': 'frame_read frame_write',
     'hproto_state': 'start finish',
     'hproto_puts': 'put_uint put_int put_octets',

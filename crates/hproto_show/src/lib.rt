@@ -36,7 +36,7 @@ fn first(s: &[u8], from: u64, out: &mut [u8]) -> u64
     }
     let start = f.start as usize;
     let end = f.end as usize;
-    let l = hproto_load::load(&s[start..end]);
+    let l = table_index::load(&s[start..end]);
     if l.refusal != 0 {
         return hproto_print::refusal(l.refusal, l.place, from, out);
     }

@@ -6,7 +6,7 @@ use hproto_table::Table;
 fn load(word: &[u8]) -> Loaded {
     let mut space = [0u8; 65546];
     let n = sample_lines::octets_in(word, &mut space);
-    hproto_load::load(sample_lines::front(&space, n))
+    table_index::load(sample_lines::front(&space, n))
 }
 
 // The table of a word, which is to load.

@@ -1,3 +1,5 @@
+pub mod Ranges
+pub mod RecordLaws
 pub mod Chains
 pub mod Meanings
 pub mod Words
@@ -6,3 +8,4 @@ pub mod Noting
 pub mod Found
 pub mod Taken
 pub mod Loaded
+pub mod Loading

@@ -6,14 +6,14 @@ use mathlib.Core.Path.{_≡_, refl, sym, ap, _∙_}
 use mathlib.Core.Bool.{Bool, true, false, and-false}
 use mathlib.Core.List.{List}
 use lib.ListN.{length, take, drop, getD}
-use lib.Dec.{eqb}
-use borrow.Author.Tests.{eq-eqb, ne-eqb}
+use lib.Dec.{eqb, ltb}
+use borrow.Author.Tests.{eq-eqb, ne-eqb, ltb-true, ltb-false}
 use Rattle.hproto_table.specs.Entry.{entry}
 use Rattle.hproto_table.specs.Load.{inRange, recordAt, wordAt, wellFormed}
 use Rattle.hproto_table.proofs.Load.{wellFormed-range}
-use Rattle.hproto_record.specs.internal.Record.{recordOf}
-use Rattle.hproto_record.specs.declared.Record.the-variants.{Word, Wrong}
-use Rattle.hproto_record.proofs.RecordLaws.{place-is, recordOf-word, recordOf-wrong}
+use Rattle.table_index.specs.internal.Record.{recordOf}
+use Rattle.table_index.specs.declared.record.Record.the-variants.{Word, Wrong}
+use Rattle.table_index.proofs.RecordLaws.{place-is, recordOf-word, recordOf-wrong, record-cut}
 use Rattle.table_index.proofs.Chains.{chase-zero, chase-here}
 use Rattle.table_index.specs.internal.Cells.{wordKey, chase, search, fresh, linked, noted, notedBefore, taken, takenFrom, takenWords, notedWords}
 
@@ -167,3 +167,16 @@ module _ (s : List ℕ) (n : ℕ) where
 
     pub record-range : inRange (entry w) ≡ true
     record-range = rw record-word (wellFormed-range s n record-formed)
+
+-- ---- the records of octets
+
+-- All whole records were taken, or the first 64.
+pub octets-end : (s cells₀ : List ℕ) (n : ℕ) (cells : List ℕ) → Noting (λ i. wellFormed (recordAt s i)) (wordAt s) cells₀ 64 n cells → min 64 (length s / 8) ≤ n
+    → (n ≡ takenFrom (λ i. wellFormed (recordAt s i)) (wordAt s) cells₀ 0 64) × (cells ≡ notedBefore (wordAt s) cells₀ n)
+octets-end s cells₀ n cells k h = go (ltb n 64) refl
+  where
+    go : (t : Bool) → ltb n 64 ≡ t → (n ≡ takenFrom (λ i. wellFormed (recordAt s i)) (wordAt s) cells₀ 0 64) × (cells ≡ notedBefore (wordAt s) cells₀ n)
+    go true e =
+        let l = ltb-true n 64 e in
+        noting-bad (λ i. wellFormed (recordAt s i)) (wordAt s) cells₀ 64 n cells k l (record-cut s n (omega arith))
+    go false e = noting-ends (λ i. wellFormed (recordAt s i)) (wordAt s) cells₀ 64 n cells k (ltb-false n 64 e)

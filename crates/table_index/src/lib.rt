@@ -1,15 +1,19 @@
 // The index of a field table: for each message number and tag the kind and the inner number, found at once for any tag. Entries lie in 64
 // buckets by a hash of number and tag. A search compares the whole key, so that a bucket with several entries is slower and never wrong.
-use hproto_record::Record;
+// The loader finds a repeated pair by an index.
+mod record;
+
+use hproto_table::Loaded;
 use hproto_table::Meaning;
 use hproto_table::Table;
+use record::Record;
 ghost use mathlib.Core.Path.{_≡_};
 ghost use mathlib.Core.Bool.{true};
 ghost use Prim.Native.Nat.{_<_};
 ghost use lib.Dec.{eqb};
 ghost use lib.ListN.{take, drop};
 ghost use Rattle.hproto_table.specs.Entry.{entry, kindNumber};
-ghost use Rattle.hproto_table.specs.Load.{inRange, recordAt, wordAt, wellFormed};
+ghost use Rattle.hproto_table.specs.Load.{inRange, recordAt, wordAt, wellFormed, load as load-of, refused as refused-at};
 ghost use Rattle.hproto_table.specs.Valid.{allZero, valid as valid-of};
 ghost use Rattle.table_index.specs.internal.Cells.{keysFrom, wordKey, cellOf, codeIn, meaningIn, orderIn, nextIn, search as search-of, fresh, linked, noted, notedBefore, takenFrom, takenWords, notedWords, allTaken, cellFor, indexed};
 
@@ -110,9 +114,10 @@ pub fn index(table: &[u8], cells: &mut [u32; 128]) -> usize
     ensures { λ r. ⌜ r ≡ takenFrom (λ i. wellFormed (recordAt (now (table .entry)) i)) (wordAt (now (table .entry))) (now (cells .entry)) 0 64 ⌝ }
     ensures { λ r. ⌜ now (cells .exit) ≡ notedBefore (wordAt (now (table .entry))) (now (cells .entry)) r ⌝ }
 {
+    let most = numbers::smaller(64, table.len() / 8);
     let mut n: usize = 0;
-    while n < 64 {
-        let r = hproto_record::record_at(table, n * 8);
+    while n < most {
+        let r = record::record_at(table, n * 8);
         let Record::Word(w) = r else {
             return n;
         };
@@ -137,7 +142,7 @@ fn note_words(words: &[u64], cells: &mut [u32; 128]) -> usize
             break n;
         }
         let w = words[n];
-        if !hproto_record::in_range(w) {
+        if !record::in_range(w) {
             break n;
         }
         let key = word_key(w);
@@ -194,6 +199,40 @@ pub fn valid(t: Table) -> bool
 {
     let mut cells = [0u32; 128];
     index_table(&t.words, t.count, &mut cells)
+}
+
+fn refused(place: u64) -> Loaded
+    ensures { λ r. ⌜ r ≡ refused-at place ⌝ }
+{
+    Loaded {
+        refusal: 2,
+        place,
+        table: Table {
+            count: 0,
+            words: [0u64; 64],
+        },
+    }
+}
+
+// The first faulty record decides. A repeat among the records of the right form stands before the record at which they end.
+pub fn load(s: &[u8]) -> Loaded
+    ensures { λ r. ⌜ r ≡ load-of (now (s .entry)) ⌝ }
+{
+    let table = record::records(s);
+    let n = table.count;
+    let mut cells = [0u32; 128];
+    let first = index_words(&table.words, n, &mut cells);
+    if first < n {
+        return refused((first * 8) as u64);
+    }
+    if n * 8 < s.len() {
+        return refused((n * 8) as u64);
+    }
+    Loaded {
+        refusal: 0,
+        place: 0,
+        table,
+    }
 }
 
 // The cell of a message number and a tag, 0 where there is none.

@@ -137,7 +137,7 @@ fn finishes(r: Run) -> Run {
 fn loaded(word: &[u8]) -> Table {
     let mut xs = [0u8; 65546];
     let n = sample_lines::octets_in(word, &mut xs);
-    let l = hproto_load::load(sample_lines::front(&xs, n));
+    let l = table_index::load(sample_lines::front(&xs, n));
     let t = l.table;
     print::named(b"entries ", t.count as u64);
     t

@@ -6,6 +6,6 @@ use Rattle.wrong_programs.specs.Kinds.{Given, octets}
 abbrev pub LoadCall : Type 0
 LoadCall = Given octets
 
--- The contract of hproto_load::load.
+-- The contract of table_index::load.
 unfoldable pub load : LoadCall → Loaded
 load x = loads.load (x .value)

@@ -4,27 +4,30 @@ use native.Mathlib.Omega.{arith}
 use mathlib.Core.Path.{sym, _∙_}
 use borrow.Author.Tests.{not-true, not-false}
 use Rattle.hproto_table.specs.Load.{recordAt, wordAt, wellFormed}
-use Rattle.table_index.proofs.Noting.{Noting, noting-starts, noting-ends, noting-bad, noting-seen, noting-more, record-wrong, record-formed, record-word, record-range}
+use Rattle.table_index.proofs.Noting.{Noting, noting-starts, octets-end, noting-bad, noting-seen, noting-more, record-wrong, record-formed, record-word, record-range}
 use borrow.Author.Needs.{needs}
 use Rattle.table_index.proofs.index.Statement.{statement}
 use Rattle.table_index.proofs.index.Tie as tie
 
 abbrev Inv-loop : tie.InvT-loop
-Inv-loop table cells₀ n₀ cells n = Noting (λ i. wellFormed (recordAt table i)) (wordAt table) cells₀ 64 n cells
+Inv-loop table cells₀ most n₀ cells n = Noting (λ i. wellFormed (recordAt table i)) (wordAt table) cells₀ 64 n cells
 
 abbrev μ-loop : tie.MeasureT-loop
-μ-loop table cells₀ n₀ cells n = 64 - n
+μ-loop table cells₀ most n₀ cells n = most - n
+
+smaller-requires : tie.Need-smaller-requires Inv-loop μ-loop
+smaller-requires c κs = tt
 
 loop-holds : tie.Need-loop-holds Inv-loop μ-loop
 loop-holds c =
-    let s = c .before .args .table .now in
-    noting-starts (λ i. wellFormed (recordAt s i)) (wordAt s) (c .before .args .cells .now) 64
+    let s = c .before .before .args .table .now in
+    noting-starts (λ i. wellFormed (recordAt s i)) (wordAt s) (c .before .before .args .cells .now) 64
 
 mul-record-at : tie.Need-mul-record-at Inv-loop μ-loop
 mul-record-at c = omega arith
 
 record-at-requires : tie.Need-record-at-requires Inv-loop μ-loop
-record-at-requires c κs = tt
+record-at-requires c κs = omega (arith, c .before .before .smaller .ensures)
 
 enum-known-r : tie.Need-enum-known-r Inv-loop μ-loop
 enum-known-r c = search needs
@@ -34,7 +37,7 @@ enum-told c = search needs
 
 returns : tie.Need-returns Inv-loop μ-loop
 returns c =
-    let a = c .before .before .before .before .before .before .args in
+    let a = c .before .before .before .before .before .before .before .args in
     let s = a .table .now in
     let l = c .before .before .before .before .loop in
     noting-bad (λ i. wellFormed (recordAt s i)) (wordAt s) (a .cells .now) 64 (l .n) (l .cells) (l .inv) (omega arith)
@@ -42,13 +45,13 @@ returns c =
 
 note-requires : tie.Need-note-requires Inv-loop μ-loop
 note-requires c κs =
-    let s = c .before .before .before .before .before .before .before .before .args .table .now in
+    let s = c .before .before .before .before .before .before .before .before .before .args .table .now in
     let r = c .before .before .r .given in
     (record-range s (c .before .before .before .before .before .before .loop .n) (r .0 .0) (sym (r .1) ∙ c .before .before .before .before .record-at .ensures), omega arith)
 
 returns-2 : tie.Need-returns-2 Inv-loop μ-loop
 returns-2 c =
-    let a = c .before .before .before .before .before .before .before .before .before .before .args in
+    let a = c .before .before .before .before .before .before .before .before .before .before .before .args in
     let s = a .table .now in
     let l = c .before .before .before .before .before .before .before .before .loop in
     let w = c .before .before .before .before .r .given .0 .0 in
@@ -65,7 +68,7 @@ loop-less c = omega arith
 
 loop-again : tie.Need-loop-again Inv-loop μ-loop
 loop-again c =
-    let a = c .before .before .before .before .before .before .before .before .before .before .args in
+    let a = c .before .before .before .before .before .before .before .before .before .before .before .args in
     let s = a .table .now in
     let l = c .before .before .before .before .before .before .before .before .loop in
     let w = c .before .before .before .before .r .given .0 .0 in
@@ -76,10 +79,10 @@ loop-again c =
 
 returns-3 : tie.Need-returns-3 Inv-loop μ-loop
 returns-3 c =
-    let a = c .before .before .before .args in
+    let a = c .before .before .before .before .args in
     let s = a .table .now in
     let l = c .before .loop in
-    noting-ends (λ i. wellFormed (recordAt s i)) (wordAt s) (a .cells .now) 64 (l .n) (l .cells) (l .inv) (omega arith)
+    octets-end s (a .cells .now) (l .n) (l .cells) (l .inv) (omega (arith, c .before .before .smaller .ensures))
 
 pub index-spec : {M : Type 1} → statement M
 index-spec =
@@ -87,6 +90,7 @@ index-spec =
     (tie.spec
     Inv-loop
     μ-loop
+    smaller-requires
     loop-holds
     mul-record-at
     record-at-requires

@@ -1,20 +1,22 @@
-// One record of a field table's octets.
+// The records of a field table's octets.
+use hproto_table::Table;
 ghost use mathlib.Core.Path.{_≡_};
 ghost use Prim.Native.Nat.{_+_, _≤_, _<_};
 ghost use lib.ListN.{length, take, drop, getD};
 ghost use Rattle.octets.specs.Number.{number};
 ghost use Rattle.hproto_table.specs.Entry.{entry};
 ghost use Rattle.hproto_table.specs.Load.{inRange};
-ghost use Rattle.hproto_record.specs.internal.Record.{recordOf};
+ghost use Rattle.table_index.specs.internal.Pass.{Passed};
+ghost use Rattle.table_index.specs.internal.Record.{recordOf};
 
 // A record's word, or that the record is not of the right form.
-pub enum Record {
+pub(crate) enum Record {
     Word(u64),
     Wrong,
 }
 
 // Whether the entry in a word is in range. An inner number of 0 is in range whatever the kind; any other only with kind 5.
-pub fn in_range(w: u64) -> bool
+pub(crate) fn in_range(w: u64) -> bool
     ensures { λ r. ⌜ r ≡ inRange (entry w) ⌝ }
 {
     let number = w / 4294967296;
@@ -55,15 +57,10 @@ fn five(s: &[u8], at: usize) -> u64
 }
 
 // The record at a place.
-pub fn record_at(s: &[u8], at: usize) -> Record
+pub(crate) fn record_at(s: &[u8], at: usize) -> Record
+    requires { ⌜ at + 8 ≤ length (now s) ⌝ }
     ensures { λ r. ⌜ r ≡ recordOf (take 8 (drop at (now (s .entry)))) ⌝ }
 {
-    if s.len() < 8 {
-        return Record::Wrong;
-    }
-    if s.len() - 8 < at {
-        return Record::Wrong;
-    }
     if s[at] != 1 {
         return Record::Wrong;
     }
@@ -79,4 +76,22 @@ pub fn record_at(s: &[u8], at: usize) -> Record
     } else {
         Record::Wrong
     }
+}
+
+// The table of the records before the first one that is not of the right form, or before the 65th.
+pub(crate) fn records(s: &[u8]) -> Table
+    ensures { λ r. ⌜ Passed (now (s .entry)) (r .count) (r .words) ⌝ }
+{
+    let most = numbers::smaller(64, s.len() / 8);
+    let mut words = [0u64; 64];
+    let mut n: usize = 0;
+    while n < most {
+        let r = record_at(s, n * 8);
+        let Record::Word(w) = r else {
+            return Table { count: n, words };
+        };
+        words[n] = w;
+        n += 1;
+    }
+    Table { count: n, words }
 }

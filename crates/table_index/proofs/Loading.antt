@@ -1,26 +1,28 @@
 -- The words of a table that are filled from records, and what the first fault among them decides.
-use Prim.Native.Nat.{ℕ, suc, _+_, _*_, _-_, _≤_, _<_}
+use Prim.Native.Nat.{ℕ, suc, _+_, _*_, _-_, _/_, _≤_, _<_, min}
 use native.Mathlib.Nat.{mul-comm}
 use native.Mathlib.Numerals.{add-one}
 use native.Mathlib.Omega.{arith}
 use mathlib.Core.Path.{_≡_, refl, sym, ap, _∙_}
-use mathlib.Core.Bool.{true}
+use mathlib.Core.Bool.{Bool, true, false}
 use mathlib.Core.List.{List, _++_}
 use lib.ListN.{length, take, drop, getD, set, replicate}
 use lib.Seq.{set-at, take-at, append-snoc}
+use lib.Dec.{ltb}
 use borrow.Author.Count.{below-more}
+use borrow.Author.Tests.{ltb-true, ltb-false}
 use Rattle.octets.specs.Number.{number}
 use Rattle.hproto_table.specs.Entry.{entry}
-use Rattle.hproto_table.specs.Load.{inRange, wellFormed, recordAt, wordAt, wordsBefore, pair, seen, refused, accepted, tableOf, load}
+use Rattle.hproto_table.specs.Load.{inRange, wellFormed, recordAt, wordAt, wordsBefore, pair, seen, faulty, refused, accepted, tableOf, load}
 use Rattle.hproto_table.specs.Repeat.{distinct}
 use Rattle.hproto_table.specs.declared.Loaded.{Loaded}
 use Rattle.hproto_table.proofs.Load.{length-words, words-take, words-at, wellFormed-whole, wellFormed-range, faulty-form, faulty-seen, faulty-late, load-whole, load-fault}
-use Rattle.hproto_record.specs.internal.Record.{recordOf}
-use Rattle.hproto_record.specs.declared.Record.the-variants.{Word, Wrong}
-use Rattle.hproto_record.proofs.RecordLaws.{place-is, recordOf-word, recordOf-wrong}
+use Rattle.table_index.specs.internal.Record.{recordOf}
+use Rattle.table_index.specs.declared.record.Record.the-variants.{Word, Wrong}
+use Rattle.table_index.proofs.RecordLaws.{place-is, recordOf-word, recordOf-wrong, record-cut}
 use Rattle.table_index.specs.internal.Cells.{takenWords}
 use Rattle.table_index.proofs.Loaded.{words-within, words-apart, words-stopped}
-use Rattle.hproto_load.specs.internal.Pass.{Passed}
+use Rattle.table_index.specs.internal.Pass.{Passed}
 
 -- ---- the words that are read
 
@@ -59,8 +61,14 @@ taken-stops s n words k e =
       stopped = λ h. faulty-form s n (rw (← place-is s n) (recordOf-wrong (take 8 (drop (n * 8) s)) e));
     }
 
-pub taken-all : (s : List ℕ) (n : ℕ) (words : List ℕ) → Taken s n words → 64 ≤ n → Passed s n words
-taken-all s n words k l = record { few = k .few; formed = k .formed; filled = k .filled; stopped = λ h. faulty-late s n l }
+pub taken-all : (s : List ℕ) (n : ℕ) (words : List ℕ) → Taken s n words → min 64 (length s / 8) ≤ n → Passed s n words
+taken-all s n words k l = record { few = k .few; formed = k .formed; filled = k .filled; stopped = λ h. go (ltb n 64) refl }
+  where
+    go : (t : Bool) → ltb n 64 ≡ t → faulty s n ≡ true
+    go true e =
+        let m = ltb-true n 64 e in
+        faulty-form s n (record-cut s n (omega arith))
+    go false e = faulty-late s n (ltb-false n 64 e)
 
 -- ---- the whole
 

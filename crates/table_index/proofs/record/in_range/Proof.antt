@@ -1,8 +1,8 @@
 -- `in_range` gives what the definition says, at each return by the tests before it.
 use native.Mathlib.Omega.{arith}
-use Rattle.hproto_record.proofs.Ranges.{high, unwanted, inner, none, plain}
-use Rattle.hproto_record.proofs.in_range.Statement.{statement}
-use Rattle.hproto_record.proofs.in_range.Tie as tie
+use Rattle.table_index.proofs.Ranges.{high, unwanted, inner, none, plain}
+use Rattle.table_index.proofs.record.in_range.Statement.{statement}
+use Rattle.table_index.proofs.record.in_range.Tie as tie
 
 returns : tie.Need-returns
 returns c = high (c .before .args .w) (omega arith)

@@ -1,9 +1,9 @@
 -- `load` gives what the definition says: the first repeated pair among the records of the right form decides, or what stands after them.
 use native.Mathlib.Omega.{arith}
-use Rattle.hproto_load.proofs.Loading.{repeated, faulted, loaded}
+use Rattle.table_index.proofs.Loading.{repeated, faulted, loaded}
 use borrow.Author.Needs.{needs}
-use Rattle.hproto_load.proofs.load.Statement.{statement}
-use Rattle.hproto_load.proofs.load.Tie as tie
+use Rattle.table_index.proofs.load.Statement.{statement}
+use Rattle.table_index.proofs.load.Tie as tie
 
 records-requires : tie.Need-records-requires
 records-requires c κs = search needs

@@ -5,8 +5,8 @@ use mathlib.Core.List.{List}
 use lib.ListN.{drop}
 use Rattle.octets.specs.Number.{number}
 use Rattle.hproto_table.specs.Load.{wellFormed}
-use Rattle.hproto_record.specs.declared.Record.{Record}
-use Rattle.hproto_record.specs.declared.Record.the-variants.{Word, Wrong}
+use Rattle.table_index.specs.declared.record.Record.{Record}
+use Rattle.table_index.specs.declared.record.Record.the-variants.{Word, Wrong}
 
 -- A record's word, where the record is of the right form.
 unfoldable pub recordOf : List ℕ → Record

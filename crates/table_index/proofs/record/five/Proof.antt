@@ -1,8 +1,8 @@
 -- `five` gives the number that the five octets hold, made of them one by one.
-use Rattle.hproto_record.proofs.RecordLaws.{five-read}
+use Rattle.table_index.proofs.RecordLaws.{five-read}
 use borrow.Author.Needs.{needs}
-use Rattle.hproto_record.proofs.five.Statement.{statement}
-use Rattle.hproto_record.proofs.five.Tie as tie
+use Rattle.table_index.proofs.record.five.Statement.{statement}
+use Rattle.table_index.proofs.record.five.Tie as tie
 
 octet-at-requires : tie.Need-octet-at-requires
 octet-at-requires c κs = search needs

@@ -1,5 +1,5 @@
 -- A record's octets, one by one.
-use Prim.Native.Nat.{ℕ, suc, _+_, _*_, _≤_, _<_}
+use Prim.Native.Nat.{ℕ, suc, _+_, _*_, _/_, _≤_, _<_}
 use native.Mathlib.Nat.{mul-comm}
 use native.Mathlib.Numerals.{add-one}
 use native.Mathlib.Omega.{arith}
@@ -13,9 +13,10 @@ use borrow.Author.Tests.{ne-eqb}
 use Rattle.octets.specs.Number.{number}
 use Rattle.hproto_table.specs.Entry.{entry}
 use Rattle.hproto_table.specs.Load.{inRange, wellFormed, recordAt}
-use Rattle.hproto_record.specs.internal.Record.{recordOf}
-use Rattle.hproto_record.specs.declared.Record.{Record}
-use Rattle.hproto_record.specs.declared.Record.the-variants.{Word, Wrong}
+use Rattle.hproto_table.proofs.Load.{wellFormed-whole}
+use Rattle.table_index.specs.internal.Record.{recordOf}
+use Rattle.table_index.specs.declared.record.Record.{Record}
+use Rattle.table_index.specs.declared.record.Record.the-variants.{Word, Wrong}
 
 -- A part of a list that has more than nothing begins with the element there.
 next : (s : List ℕ) (k at after : ℕ) → at < length s → at + 1 ≡ after → take (suc k) (drop at s) ≡ getD s at 0 ∷ take k (drop after s)
@@ -43,12 +44,6 @@ pub five-read : (s : List ℕ) (at a b c d e : ℕ) → at + 5 ≤ length s → 
 five-read s at a b c d e h p q r t u = rw (p, q, r, t, u) (five-octets s at h)
 
 -- ---- a record
-
-pub record-cut : (s : List ℕ) (at : ℕ) → length s < at + 8 → Wrong ≡ recordOf (take 8 (drop at s))
-unfolding recordOf wellFormed
-record-cut s at h =
-    let e : length (take 8 (drop at s)) < 8 = simp (length-take, length-drop) (omega arith) in
-    rw (ne-eqb (length (take 8 (drop at s))) 8 (λ q. omega arith)) refl
 
 -- A record by its first three octets and the five after them.
 unfoldable answer : Bool → ℕ → Record
@@ -123,3 +118,11 @@ recordOf-wrong r e = go (wellFormed r) e
     go : (t : Bool) → Wrong ≡ cond t (Word (number (drop 3 r))) Wrong → t ≡ false
     go true q = let z : _≡_ {A = ℕ} 0 1 = cc in absurd (omega arith)
     go false q = refl
+
+-- There is no record of the right form after the whole ones.
+pub record-cut : (s : List ℕ) (n : ℕ) → length s / 8 ≤ n → wellFormed (recordAt s n) ≡ false
+record-cut s n h = go (wellFormed (recordAt s n)) refl
+  where
+    go : (t : Bool) → wellFormed (recordAt s n) ≡ t → t ≡ false
+    go true e = absurd (omega (arith, wellFormed-whole s n e))
+    go false e = refl

@@ -1,8 +1,8 @@
 -- `octet_at` gives the octet at a place, which is below 256 as every octet is.
 use native.Mathlib.Omega.{arith}
 use borrow.Author.Needs.{needs}
-use Rattle.hproto_record.proofs.octet_at.Statement.{statement}
-use Rattle.hproto_record.proofs.octet_at.Tie as tie
+use Rattle.table_index.proofs.record.octet_at.Statement.{statement}
+use Rattle.table_index.proofs.record.octet_at.Tie as tie
 
 shared-slice-read-wide : tie.Need-shared-slice-read-wide
 shared-slice-read-wide c = search needs

@@ -1,7 +1,7 @@
 use mathlib.Core.Path.{refl}
 use Rattle.hproto_table.specs.Load.{refused, tableOf}
-use Rattle.hproto_load.proofs.refused.Statement.{statement}
-use Rattle.hproto_load.proofs.refused.Tie as tie
+use Rattle.table_index.proofs.refused.Statement.{statement}
+use Rattle.table_index.proofs.refused.Tie as tie
 
 returns : tie.Need-returns
 unfolding refused tableOf
