@@ -4,9 +4,9 @@ use native.Mathlib.Omega.{arith}
 use mathlib.Core.Path.{_≡_, refl, sym}
 use mathlib.Core.Bool.{cond}
 use mathlib.Core.List.{List}
+use mathlib.Core.Logic.{_⊎_, inl, inr}
 use lib.ListN.{length}
-use lib.Dec.{leb}
-use borrow.Author.Tests.{le-leb}
+use borrow.Author.Tests.{le-leb, lt-leb}
 use Rattle.octets.specs.Text.{text}
 use Rattle.table_index.specs.internal.Cells.{meaningOf}
 use Rattle.table_index.proofs.Meanings as means
@@ -22,13 +22,10 @@ module _ (size : ℕ) (s : List ℕ) where
   unfolding stepByKind
   coded-text code e = rw (← means.text code e)
 
-  pub coded-uint : (code : ℕ) → code ≡ 1 → cond (leb (length s) 8) (Over size (length s)) (Fault 6) ≡ stepByKind (meaningOf code) size s
+  pub coded-wide : (code : ℕ) → 8 < length s → (code ≡ 1) ⊎ (code ≡ 2) → Fault 6 ≡ stepByKind (meaningOf code) size s
   unfolding stepByKind
-  coded-uint code e = rw (← means.uint code e)
-
-  pub coded-int : (code : ℕ) → code ≡ 2 → cond (leb (length s) 8) (Over size (length s)) (Fault 6) ≡ stepByKind (meaningOf code) size s
-  unfolding stepByKind
-  coded-int code e = rw (← means.int code e)
+  coded-wide code h (inl e) = rw (← means.uint code e, lt-leb (length s) 8 h)
+  coded-wide code h (inr e) = rw (← means.int code e, lt-leb (length s) 8 h)
 
   at-most-eight : (8 < length s → ⊥) → length s ≤ 8
   at-most-eight h = omega arith

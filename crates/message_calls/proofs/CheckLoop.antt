@@ -8,11 +8,15 @@ use lib.ListN.{length, take, drop, length-append, length-drop}
 use lib.Seq.{drop-drop, length-take-le}
 use Rattle.hproto_table.specs.Schema.{Schema}
 use Rattle.hproto_message.specs.Cut.{Cut, end, leaf, nested, depth, joined, Allowed}
-use Rattle.hproto_message.specs.declared.Step.the-variants.{Done, Fault, Over, Into}
+use Rattle.hproto_message.specs.declared.Step.the-variants as steps
 use Rattle.reading.specs.Reading.{Reading, accepted, refused}
 use Rattle.hproto_message.specs.Reading.{Inner, step, tagAt, afterStep, fieldsFrom, messageFrom}
 use Rattle.hproto_message.proofs.Steps.{StepMeans, step-means}
 use Rattle.octets.proofs.ControlPart.{part-size}
+use Rattle.hproto_field.specs.internal.Nexts.{nextAt}
+use Rattle.hproto_field.specs.declared.Next.{Next}
+use Rattle.hproto_field.specs.declared.Next.the-variants.{Done, Fault, Over, Into}
+use Rattle.hproto_field.proofs.Nexts.{OverFrom, IntoFrom, NextFrom, came-from}
 use Rattle.hproto_message.proofs.Accepted.{accepted-good, depth-positive}
 use Rattle.message_calls.specs.internal.Walks.{fields, walk}
 use Rattle.reading.specs.declared.Walk.{Walk}
@@ -22,11 +26,11 @@ use Rattle.reading.proofs.Traversal as traversal
 use Rattle.reading.proofs.Traversal.{Traversal}
 
 -- The sizes that a step names lie within the octets.
-pub step-inside : (sc : Schema) (n : ℕ) (s : List ℕ) (k l : ℕ) → step sc n s ≡ Over k l → (1 ≤ k) × (k + l ≤ length s)
+pub step-inside : (sc : Schema) (n : ℕ) (s : List ℕ) (k l : ℕ) → step sc n s ≡ steps.Over k l → (1 ≤ k) × (k + l ≤ length s)
 unfolding StepMeans
 step-inside sc n s k l e = let h = subst (StepMeans sc n s) e (step-means sc n s) in (h .1, h .2)
 
-pub step-inside-nested : (sc : Schema) (n : ℕ) (s : List ℕ) (m k l : ℕ) → step sc n s ≡ Into m k l → (1 ≤ k) × (k + l ≤ length s)
+pub step-inside-nested : (sc : Schema) (n : ℕ) (s : List ℕ) (m k l : ℕ) → step sc n s ≡ steps.Into m k l → (1 ≤ k) × (k + l ≤ length s)
 unfolding StepMeans
 step-inside-nested sc n s m k l e = let h = subst (StepMeans sc n s) e (step-means sc n s) in (h .1, h .2)
 
@@ -42,60 +46,98 @@ module _ (sc : Schema) (inner : Inner) (n at : ℕ) (s : List ℕ) where
   start = traversal.start fields depth (fieldsFrom sc inner n) at 0 s depth-positive (omega arith)
 
   module _ (i f d : ℕ) (now : State i f d) where
-    pub at-end : step sc n (drop i s) ≡ Done → Accepted f d ≡ whole
-    unfolding fieldsFrom afterStep fields depth
-    at-end e = traversal.at-end fields depth (fieldsFrom sc inner n) at 0 s i f d now end refl refl (rw e)
+    -- What the code finds after i octets.
+    abbrev pub here : Next
+    here = nextAt i (step sc n (drop i s))
 
-    pub at-fault : (k : ℕ) → step sc n (drop i s) ≡ Fault k → Refused k (at + i) ≡ whole
-    unfolding fieldsFrom afterStep
-    at-fault k e = traversal.at-fault fields depth (fieldsFrom sc inner n) at 0 s i f d now k (at + i) (rw e)
+    pub at-end : here ≡ Done → Accepted f d ≡ whole
+    unfolding fieldsFrom afterStep fields depth NextFrom
+    at-end e =
+        let h = came-from i (step sc n (drop i s)) Done e in
+        traversal.at-end fields depth (fieldsFrom sc inner n) at 0 s i f d now end refl refl (rw h)
 
-    -- The end of a field lies within the octets, and beyond its start.
-    ends : (k l : ℕ) → (1 ≤ k) × (k + l ≤ length (drop i s)) → (i < i + k + l) × (i + k + l ≤ length s)
-    ends k l h =
-        let p = h .0 in
-        traversal.forward fields depth (fieldsFrom sc inner n) at 0 s i f d now (k + l) (i + k + l) (omega arith) (h .1) (omega arith)
+    pub at-fault : (k : ℕ) → here ≡ Fault k → Refused k (at + i) ≡ whole
+    unfolding fieldsFrom afterStep NextFrom
+    at-fault k e =
+        let h = came-from i (step sc n (drop i s)) (Fault k) e in
+        traversal.at-fault fields depth (fieldsFrom sc inner n) at 0 s i f d now k (at + i) (rw h)
 
-    pub leaf-ends : (k l : ℕ) → step sc n (drop i s) ≡ Over k l → (i < i + k + l) × (i + k + l ≤ length s)
-    leaf-ends k l e = ends k l (step-inside sc n (drop i s) k l e)
+    -- A field that holds no message, by its end.
+    module _ (e : ℕ) (h : here ≡ Over e) where
+      found-leaf : OverFrom i e (step sc n (drop i s))
+      unfolding NextFrom
+      found-leaf = came-from i (step sc n (drop i s)) (Over e) h
 
-    pub nested-ends : (m k l : ℕ) → step sc n (drop i s) ≡ Into m k l → (i < i + k + l) × (i + k + l ≤ length s)
-    nested-ends m k l e = ends k l (step-inside-nested sc n (drop i s) m k l e)
+      leaf-inside : (1 ≤ found-leaf .size) × (found-leaf .size + found-leaf .len ≤ length (drop i s))
+      leaf-inside = step-inside sc n (drop i s) (found-leaf .size) (found-leaf .len) (found-leaf .is)
 
-    pub over-leaf : (k l : ℕ) → step sc n (drop i s) ≡ Over k l → State (i + k + l) (f + 1) d
-    unfolding fieldsFrom afterStep fields depth
-    over-leaf k l e =
-        let h = step-inside sc n (drop i s) k l e in
-        let p = h .0 in
-        traversal.over fields depth (fieldsFrom sc inner n) at 0 s i f d now (k + l) (i + k + l) (omega arith) (h .1) (omega arith)
-        (at + i + k + l) (omega arith) (leaf (tagAt (drop i s)) (take k (drop i s)) (take l (drop k (drop i s)))) (λ x. refl) (λ x. refl) (rw e)
+      -- It ends within the octets, and beyond its start.
+      pub leaf-ends : (i < e) × (e ≤ length s)
+      leaf-ends =
+          let w = found-leaf in
+          let p = leaf-inside .0 in
+          let q = w .end-is in
+          traversal.forward fields depth (fieldsFrom sc inner n) at 0 s i f d now (w .size + w .len) e (omega arith) (leaf-inside .1) (omega arith)
 
-    -- A field that holds a message, whose octets and offset are counted from the start of the message around it.
-    module _ (m k l : ℕ) (r : Walk) (h : step sc n (drop i s) ≡ Into m k l)
-        (w : r ≡ walk (inner m (at + i) (at + (i + k)) (take (i + k + l - (i + k)) (drop (i + k) s)))) where
-      abbrev message-held : Reading Cut
-      message-held = inner m (at + i) (at + i + k) (take l (drop k (drop i s)))
-
-      nested-octets : r ≡ walk message-held
-      nested-octets =
-          let p : at + i + k ≡ at + (i + k) = omega arith in
-          let q : i + k + l - (i + k) ≡ l = omega arith in
-          w ∙ rw (p, q, drop-drop k i s)
-
-      pub nested-turn : (g e c : ℕ) → r ≡ Accepted g e → g ≤ l → c ≡ max d (e + 1) → State (i + k + l) (f + (1 + g)) c
+      pub over-leaf : State e (f + 1) d
       unfolding fieldsFrom afterStep fields depth
-      nested-turn g e c a b x =
-          let j = step-inside-nested sc n (drop i s) m k l h in
-          let p = j .0 in
-          traversal.into fields depth (fieldsFrom sc inner n) at 0 s i f d now (k + l) (i + k + l) (omega arith) (j .1) (omega arith)
-          (at + i + k + l) (omega arith) (nested (tagAt (drop i s)) (take k (drop i s))) (λ x y. refl) (λ x y. refl) message-held r g e c
-          (rw h) nested-octets a (omega arith) x
+      over-leaf =
+          let w = found-leaf in
+          let p = leaf-inside .0 in
+          let q = w .end-is in
+          traversal.over fields depth (fieldsFrom sc inner n) at 0 s i f d now (w .size + w .len) e (omega arith) (leaf-inside .1) (omega arith)
+          (at + i + w .size + w .len) (omega arith) (leaf (tagAt (drop i s)) (take (w .size) (drop i s)) (take (w .len) (drop (w .size) (drop i s))))
+          (λ x. refl) (λ x. refl) (rw (w .is))
 
-      pub nested-refusal : (number place : ℕ) → r ≡ Refused number place → Refused number place ≡ whole
-      unfolding fieldsFrom afterStep
-      nested-refusal number place a =
-          traversal.at-nested-fault fields depth (fieldsFrom sc inner n) at 0 s i f d now (nested (tagAt (drop i s)) (take k (drop i s))) message-held
-          (fieldsFrom sc inner n (now .fuel - 1) (at + i + k + l) (drop (k + l) (drop i s))) r number place (rw h) nested-octets a
+    -- A field that holds a message, by its number and where its contents start and end.
+    module _ (m a e : ℕ) (h : here ≡ Into m a e) where
+      found-nested : IntoFrom i m a e (step sc n (drop i s))
+      unfolding NextFrom
+      found-nested = came-from i (step sc n (drop i s)) (Into m a e) h
+
+      nested-inside : (1 ≤ found-nested .size) × (found-nested .size + found-nested .len ≤ length (drop i s))
+      nested-inside = step-inside-nested sc n (drop i s) m (found-nested .size) (found-nested .len) (found-nested .is)
+
+      pub nested-ends : (i < a) × (a ≤ e) × (e ≤ length s)
+      nested-ends =
+          let w = found-nested in
+          let p = nested-inside .0 in
+          let q = w .end-is in
+          let b = w .start-is in
+          let x = traversal.forward fields depth (fieldsFrom sc inner n) at 0 s i f d now (w .size + w .len) e (omega arith) (nested-inside .1) (omega arith) in
+          (omega arith, omega arith, x .1)
+
+      -- The answer of the code for the contents.
+      module _ (r : Walk) (v : r ≡ walk (inner m (at + i) (at + a) (take (e - a) (drop a s)))) where
+        abbrev message-held : Reading Cut
+        message-held = inner m (at + i) (at + i + found-nested .size) (take (found-nested .len) (drop (found-nested .size) (drop i s)))
+
+        nested-octets : r ≡ walk message-held
+        nested-octets =
+            let w = found-nested in
+            let b = w .start-is in
+            let q = w .end-is in
+            let x : at + i + w .size ≡ at + a = omega arith in
+            let y : e - a ≡ w .len = omega arith in
+            v ∙ rw (x, y, drop-drop (w .size) i s, ← b)
+
+        pub nested-turn : (g x c : ℕ) → r ≡ Accepted g x → g ≤ e - a → c ≡ max d (x + 1) → State e (f + (1 + g)) c
+        unfolding fieldsFrom afterStep fields depth
+        nested-turn g x c u b k =
+            let w = found-nested in
+            let p = nested-inside .0 in
+            let y = w .start-is in
+            let q = w .end-is in
+            traversal.into fields depth (fieldsFrom sc inner n) at 0 s i f d now (w .size + w .len) e (omega arith) (nested-inside .1) (omega arith)
+            (at + i + w .size + w .len) (omega arith) (nested (tagAt (drop i s)) (take (w .size) (drop i s))) (λ x y. refl) (λ x y. refl) message-held r g x c
+            (rw (w .is)) nested-octets u (omega arith) k
+
+        pub nested-refusal : (number place : ℕ) → r ≡ Refused number place → Refused number place ≡ whole
+        unfolding fieldsFrom afterStep
+        nested-refusal number place u =
+            let w = found-nested in
+            traversal.at-nested-fault fields depth (fieldsFrom sc inner n) at 0 s i f d now (nested (tagAt (drop i s)) (take (w .size) (drop i s))) message-held
+            (fieldsFrom sc inner n (now .fuel - 1) (at + i + w .size + w .len) (drop (w .size + w .len) (drop i s))) r number place (rw (w .is)) nested-octets u
 
 -- A message has no more fields than octets.
 fields-few : (sc : Schema) (cut : Cut) (n : ℕ) → Allowed sc n cut → fields cut ≤ length (joined cut)
@@ -136,12 +178,11 @@ room-open sc zero n field at s h = absurd (omega arith)
 room-open sc (suc levels) n field at s h = let k : suc levels - 1 ≡ levels = omega arith in rw (k, add-zero at)
 
 -- A nested message's counts are small against its contents and the levels.
-pub nested-small : (sc : Schema) (levels n field at i k l : ℕ) (s : List ℕ) (f d : ℕ) (r : Walk) → i + k + l ≤ length s
-    → r ≡ walk (messageFrom sc levels n field at (take (i + k + l - (i + k)) (drop (i + k) s))) → r ≡ Accepted f d → (f ≤ l) × (d ≤ levels)
-nested-small sc levels n field at i k l s f d r h w a =
-    let b = take (i + k + l - (i + k)) (drop (i + k) s) in
-    let c = counts-small sc levels n field at b f d (sym w ∙ a) in
-    let p = c .0 in
-    let m : length b ≡ l =
-    length-take-le (i + k + l - (i + k)) (drop (i + k) s) (simp length-drop (omega arith)) ∙ omega arith in
+pub nested-small : (sc : Schema) (levels n field at a e : ℕ) (s : List ℕ) (f d : ℕ) (r : Walk) → a ≤ e → e ≤ length s
+    → r ≡ walk (messageFrom sc levels n field at (take (e - a) (drop a s))) → r ≡ Accepted f d → (f ≤ e - a) × (d ≤ levels)
+nested-small sc levels n field at a e s f d r p h w x =
+    let b = take (e - a) (drop a s) in
+    let c = counts-small sc levels n field at b f d (sym w ∙ x) in
+    let q = c .0 in
+    let m : length b ≡ e - a = length-take-le (e - a) (drop a s) (simp length-drop (omega arith)) in
     (omega arith, c .1)

@@ -1,5 +1,5 @@
 // The traversal of a message: its refusal, or the count of its fields and the depth of its deepest message.
-use hproto_message::Step;
+use hproto_field::Next;
 use reading::Checked;
 use reading::Walk;
 ghost use mathlib.Core.Path.{_≡_};
@@ -25,16 +25,14 @@ fn nested(cells: &[u32; 128], n: u64, levels: u64, from: u64, at: u64, s: &[u8])
     let mut fields: u64 = 0;
     let mut depth: u64 = 1;
     loop {
-        match hproto_field::step(cells, n, &s[i..]) {
-            Step::Done => return Walk::Accepted(fields, depth),
-            Step::Fault(k) => return Walk::Refused(k, at + (i as u64)),
-            Step::Over(control, contents) => {
-                i = i + control + contents;
+        match hproto_field::step(cells, n, s, i) {
+            Next::Done => return Walk::Accepted(fields, depth),
+            Next::Fault(k) => return Walk::Refused(k, at + (i as u64)),
+            Next::Over(e) => {
+                i = e;
                 fields = fields + 1;
             }
-            Step::Into(m, control, contents) => {
-                let a = i + control;
-                let e = a + contents;
+            Next::Into(m, a, e) => {
                 let here = at + (i as u64);
                 let inside = at + (a as u64);
                 match nested(cells, m, levels - 1, here, inside, &s[a..e]) {

@@ -1,11 +1,12 @@
 -- Laws for reading a control part.
-use Prim.Native.Nat.{ℕ, _+_, _-_, _/_, _%_, _≤_, _<_}
+use Prim.Native.Nat.{ℕ, suc, _+_, _-_, _/_, _%_, _≤_, _<_}
 use native.Mathlib.Nat.{add-assoc}
 use native.Mathlib.Omega.{arith}
 use mathlib.Core.Path.{_≡_, sym, ap, _∙_}
 use mathlib.Core.List.{List, [], _∷_}
 use lib.Bits.{bitAnd, and-mask, mask-lt}
 use lib.ListN.{length, getD, take, drop}
+use lib.Seq.{drop-cons}
 use borrow.Author.Tests.{lt-ltb, le-ltb}
 use Rattle.octets.specs.ControlPart.{Code, tagCode, lengthCode}
 use Rattle.octets.specs.Control.{following, coded, controlOf, control}
@@ -34,6 +35,13 @@ pub control-split : (s : List ℕ) (t l : ℕ) → 0 < length s → t < 16 → t
     → controlOf t l (take (length s - 1) (drop 1 s)) ≡ control s
 control-split s t l h b p q =
     rw (p, q ∙ and-mask (getD s 0 0) 4, tail-part s 1) (control-some s h (omega arith))
+
+-- The same at an offset.
+pub control-from : (s : List ℕ) (i t l : ℕ) → i < length s → t < 16 → t ≡ getD s i 0 / 16 → l ≡ bitAnd (getD s i 0) 15
+    → controlOf t l (take (length s - (i + 1)) (drop (i + 1) s)) ≡ control (drop i s)
+control-from s i t l h b p q =
+    let k : i + 1 ≡ suc i = omega arith in
+    rw (p, q ∙ and-mask (getD s i 0) 4, tail-part s (i + 1), drop-cons s i 0 h, k) (control-some (getD s i 0 ∷ drop (suc i) s) (omega arith) (omega arith))
 
 pub nybbles : (x t l : ℕ) → x < 256 → t ≡ x / 16 → l ≡ bitAnd x 15 → (t < 16) × (l < 16)
 nybbles x t l h p q = let m = mask-lt x 4 in (omega arith, omega arith)

@@ -3,7 +3,7 @@
 use octets::Control;
 ghost use mathlib.Core.Path.{_≡_};
 ghost use Prim.Native.Nat.{_+_, _<_, _≤_, _^_};
-ghost use lib.ListN.{length, take};
+ghost use lib.ListN.{length, take, drop};
 ghost use lib.IntN.{pos, negℤ};
 ghost use Rattle.octets.specs.Number.{number};
 ghost use Rattle.octets.specs.internal.Bounded.{unsigned, signed};
@@ -190,4 +190,15 @@ pub fn control(s: &[u8]) -> Control
         };
     }
     after_leads(t, l, &s[1..])
+}
+
+// The control part at an offset. A caller that has tested for one octet itself has no use for that test here.
+pub fn control_at(s: &[u8], i: usize) -> Control
+    ensures { λ r. ⌜ r ≡ control-of (drop i (now (s .entry))) ⌝ }
+{
+    if s.len() <= i {
+        return Control::Absent;
+    }
+    let c = s[i];
+    after_leads(numbers::wide(c >> 4), numbers::wide(c & 15), &s[i + 1..])
 }

@@ -1,99 +1,74 @@
-use borrow.Author.Needs.{needs}
 use native.Mathlib.Omega.{arith}
-use mathlib.Core.Path.{sym, ap, _∙_}
+use mathlib.Core.Logic.{inl, inr, ⊎-elim}
 use denote.Ref.{now}
-use Rattle.table_index.specs.internal.Cells.{codeIn, meaningIn, indexed}
-use Rattle.hproto_field.proofs.Fields.{at-end, in-control, size-inside, past-end, whole-field}
+use Prim.Native.Nat.{_+_, _≤_}
+use lib.Bits.{bitAnd, mask-lt}
+use lib.ListN.{length, getD}
+use borrow.Author.Tests.{eqb-true}
+use Rattle.hproto_field.proofs.Nexts.{small-inside, small-message, small-plain}
+use borrow.Author.Needs.{needs}
 use Rattle.hproto_field.proofs.step.Statement.{statement}
 use Rattle.hproto_field.proofs.step.Tie as tie
 
-control-requires : tie.Need-control-requires
-control-requires c κs = search needs
+small-code-requires : tie.Need-small-code-requires
+small-code-requires c κs = search needs
 
-enum-told : tie.Need-enum-told
-enum-told c = search needs
+-- A field with a code ends within the octets.
+inside : (c : tie.Then1) → let a = c .before .before .before .args in a .i + 1 + bitAnd (getD (now (a .s)) (a .i) 0) 15 ≤ length (now (a .s))
+inside c =
+    let a = c .before .before .before .args in
+    small-inside (now (a .cells)) (a .number) (now (a .s)) (a .i) (c .before .small-code .result) (c .before .small-code .ensures) (c .if1 .taken)
 
-enum-told-2 : tie.Need-enum-told-2
-enum-told-2 c = search needs
+shared-slice-read-n : tie.Need-shared-slice-read-n
+shared-slice-read-n c = let h = inside (c .before) in omega arith
 
-enum-known-tag : tie.Need-enum-known-tag
-enum-known-tag c = search needs
+cast-n : tie.Need-cast-n
+cast-n c = let a = c .before .before .before .before .args in let h = mask-lt (getD (now (a .s)) (a .i) 0) 4 in omega arith
 
-sub-left : tie.Need-sub-left
-sub-left c =
-    let v = c .before .tag .given in
-    size-inside (now (c .before .before .before .before .before .args .s)) (v .0 .0) (v .0 .1 .0) (v .0 .1 .1 .0)
-    (sym (c .before .before .before .control .ensures) ∙ v .1)
+add-a : tie.Need-add-a
+add-a c = let h = inside (c .before) in omega arith
+
+sub-t13 : tie.Need-sub-t13
+sub-t13 c = search needs
+
+add-t14 : tie.Need-add-t14
+add-t14 c = let h = inside (c .before .before) in omega arith
 
 returns : tie.Need-returns
 returns c =
-    let a = c .before .before .before .before .before .before .args in
-    let v = c .before .before .tag .given in
-    past-end (indexed (now (a .cells))) (a .number) (now (a .s)) (v .0 .0) (v .0 .1 .0) (v .0 .1 .1 .0)
-    (sym (c .before .before .before .before .control .ensures) ∙ v .1) (c .if1 .taken)
+    let b = c .before .before in
+    let a = b .before .before .before .args in
+    small-message (now (a .cells)) (a .number) (now (a .s)) (a .i) (b .before .small-code .result) (b .before .small-code .ensures) (b .if1 .taken) (c .if2 .taken)
 
-add-end : tie.Need-add-end
-add-end c = search needs
-
-cell-requires : tie.Need-cell-requires
-cell-requires c κs = search needs
-
-code-requires : tie.Need-code-requires
-code-requires c κs = search needs
-
-sub-by-kind : tie.Need-sub-by-kind
-sub-by-kind c = search needs
-
-part-by-kind-start : tie.Need-part-by-kind-start
-part-by-kind-start c = search needs
-
-part-by-kind-end : tie.Need-part-by-kind-end
-part-by-kind-end c =
-    let v = c .before .before .before .before .tag .given in
-    let a = c .before .before .before .before .before .before .before .before .args in
-    let k = size-inside (now (a .s)) (v .0 .0) (v .0 .1 .0) (v .0 .1 .1 .0) (sym (c .before .before .before .before .before .before .control .ensures) ∙ v .1) in
-    omega arith
-
-by-kind-requires : tie.Need-by-kind-requires
-by-kind-requires c κs = search needs
+add-t18 : tie.Need-add-t18
+add-t18 c = let h = inside (c .before .before .before .before) in omega arith
 
 returns-2 : tie.Need-returns-2
 returns-2 c =
-    let a = c .before .before .before .before .args in
-    at-end (indexed (now (a .cells))) (a .number) (now (a .s)) (sym (c .before .before .control .ensures) ∙ c .enum-told .given .1)
+    let b = c .before .before .before .before in
+    let a = b .before .before .before .args in
+    let k = b .before .small-code .result in
+    small-plain (now (a .cells)) (a .number) (now (a .s)) (a .i) k (b .before .small-code .ensures) (b .if1 .taken) (c .before .if3 .taken)
+    (⊎-elim (λ w. inl (w .taken)) (⊎-elim (λ w. inr (inl (eqb-true k 0 (w .1 .taken)))) (λ w. inr (inr (eqb-true k 3 (w .2 .taken))))) (c .if4 .came))
+
+any-step-requires : tie.Need-any-step-requires
+any-step-requires c κs = search needs
 
 returns-3 : tie.Need-returns-3
-returns-3 c =
-    let a = c .before .before .before .before .args in
-    in-control (indexed (now (a .cells))) (a .number) (now (a .s)) (sym (c .before .before .control .ensures) ∙ c .enum-told2 .given .1)
-
-returns-4 : tie.Need-returns-4
-unfolding indexed meaningIn
-returns-4 c =
-    let a = c .before .before .before .before .before .before .before .before .before .before .args in
-    let v = c .before .before .before .before .before .before .tag .given in
-    let k = c .before .before .code .ensures ∙ ap codeIn (c .before .before .before .cell .ensures) in
-    c .by-kind .ensures ∙ rw k
-    (whole-field (indexed (now (a .cells))) (a .number) (now (a .s)) (v .0 .0) (v .0 .1 .0) (v .0 .1 .1 .0)
-    (sym (c .before .before .before .before .before .before .before .before .control .ensures) ∙ v .1) (c .before .before .before .before .if1 .left))
+returns-3 c = search needs
 
 pub step-spec : {M : Type 1} → statement M
 step-spec =
     tie.close
     (tie.spec
-    control-requires
-    enum-told
-    enum-told-2
-    enum-known-tag
-    sub-left
+    small-code-requires
+    shared-slice-read-n
+    cast-n
+    add-a
+    sub-t13
+    add-t14
     returns
-    add-end
-    cell-requires
-    code-requires
-    sub-by-kind
-    part-by-kind-start
-    part-by-kind-end
-    by-kind-requires
+    add-t18
     returns-2
-    returns-3
-    returns-4)
+    any-step-requires
+    returns-3)

@@ -5,10 +5,9 @@ use mathlib.Core.Path.{_≡_, sym, ap, _∙_}
 use mathlib.Core.List.{List}
 use lib.ListN.{length, take, drop, length-take}
 use denote.Ref.{now}
-use Rattle.octets.proofs.Slices.{tail-part}
 use Rattle.hproto_table.specs.Schema.{Schema}
 use Rattle.table_index.specs.internal.Cells.{indexed}
-use Rattle.hproto_message.specs.Reading.{messageFrom, step}
+use Rattle.hproto_message.specs.Reading.{messageFrom}
 use Rattle.reading.specs.internal.Walks.{walkOf}
 use Rattle.message_calls.specs.internal.Walks as walks
 use Rattle.message_calls.proofs.CheckLoop.{whole, State, start, at-end, at-fault, over-leaf, leaf-ends, nested-ends, nested-turn, nested-refusal, nested-small, room-open}
@@ -56,8 +55,8 @@ abbrev After-inner : ℕ → Type 0
 After-inner t = nested-lts.After-known-told4 (claims t) (nested-at t) nested.Post nested-Inv-loop nested-μ-loop
 
 module _ (t : ℕ) (c : After-step t) where
-  abbrev args : nested-lts.Args (claims t) (nested-at t) nested.Post nested-Inv-loop nested-μ-loop (c .before .before .before .before .before .κs)
-  args = c .before .before .before .before .before .args
+  abbrev args : nested-lts.Args (claims t) (nested-at t) nested.Post nested-Inv-loop nested-μ-loop (c .before .before .before .before .κs)
+  args = c .before .before .before .before .args
 
   abbrev sc : Schema
   sc = indexed (now (args .cells))
@@ -66,20 +65,16 @@ module _ (t : ℕ) (c : After-step t) where
   octets = now (args .s)
 
   abbrev i : ℕ
-  i = c .before .before .loop .i
+  i = c .before .loop .i
 
-  abbrev state : State sc (messageFrom sc (args .levels - 1)) (args .n) (args .at) octets i (c .before .before .loop .fields) (c .before .before .loop .depth)
-  state = c .before .before .loop .inv .1
+  abbrev state : State sc (messageFrom sc (args .levels - 1)) (args .n) (args .at) octets i (c .before .loop .fields) (c .before .loop .depth)
+  state = c .before .loop .inv .1
 
   abbrev room-left : 1 ≤ args .levels
-  room-left = c .before .before .loop .inv .0
+  room-left = c .before .loop .inv .0
 
   abbrev bounds : (args .at + length octets ≤ 65536) × (args .levels ≤ 8)
-  bounds = c .before .before .before .before .before .pre .1
-
-  -- What the step found at the octets that are left.
-  step-found : c .step .result ≡ step sc (args .n) (drop i octets)
-  step-found = c .step .ensures ∙ ap (step sc (args .n)) (tail-part octets i)
+  bounds = c .before .before .before .before .pre .1
 
   -- What the whole message comes to, in terms of its fields.
   opened : whole sc (messageFrom sc (args .levels - 1)) (args .n) (args .at) octets
@@ -87,33 +82,34 @@ module _ (t : ℕ) (c : After-step t) where
   opened = room-open sc (args .levels) (args .n) (args .from) (args .at) octets room-left
 
 -- The field that the loop goes over ends within the octets.
-over-ends : (t : ℕ) (c : Over-field t) → let b = c .before .before .before in let v = c .before .control .given .0 in
-    (i t b < i t b + v .0 + v .1 .0) × (i t b + v .0 + v .1 .0 ≤ length (octets t b))
+over-ends : (t : ℕ) (c : Over-field t) → let b = c .before .before .before in let v = c .before .e .given .0 in
+    (i t b < v .0) × (v .0 ≤ length (octets t b))
 over-ends t c =
     let b = c .before .before .before in
-    let v = c .before .control .given in
+    let v = c .before .e .given in
     leaf-ends (sc t b) (messageFrom (sc t b) (args t b .levels - 1)) (args t b .n) (args t b .at) (octets t b) (i t b)
-    (b .before .before .loop .fields) (b .before .before .loop .depth) (state t b) (v .0 .0) (v .0 .1 .0) (sym (step-found t b) ∙ v .1)
+    (b .before .loop .fields) (b .before .loop .depth) (state t b) (v .0 .0) (sym (b .step .ensures) ∙ v .1)
 
--- The field that holds a nested message ends within the octets.
+-- The contents of the field that holds a nested message lie within the octets.
 in-ends : (t : ℕ) (c : In-field t) → let b = c .before .before .before in let v = c .before .m .given .0 in
-    (i t b < i t b + v .1 .0 + v .1 .1 .0) × (i t b + v .1 .0 + v .1 .1 .0 ≤ length (octets t b))
+    (i t b < v .1 .0) × (v .1 .0 ≤ v .1 .1 .0) × (v .1 .1 .0 ≤ length (octets t b))
 in-ends t c =
     let b = c .before .before .before in
     let v = c .before .m .given in
     nested-ends (sc t b) (messageFrom (sc t b) (args t b .levels - 1)) (args t b .n) (args t b .at) (octets t b) (i t b)
-    (b .before .before .loop .fields) (b .before .before .loop .depth) (state t b) (v .0 .0) (v .0 .1 .0) (v .0 .1 .1 .0) (sym (step-found t b) ∙ v .1)
+    (b .before .loop .fields) (b .before .loop .depth) (state t b) (v .0 .0) (v .0 .1 .0) (v .0 .1 .1 .0) (sym (b .step .ensures) ∙ v .1)
 
 -- The nested message's counts are small.
-inner-small : (t : ℕ) (c : After-inner t) → let d = c .before .before .before .before .before in let b = d .before .before .before in let w = c .before .f .given .0 in
-    (w .0 ≤ d .before .m .given .0 .1 .1 .0) × (w .1 .0 ≤ args t b .levels - 1)
+inner-small : (t : ℕ) (c : After-inner t) → let d = c .before .before .before .before .before in let b = d .before .before .before in
+    let v = d .before .m .given .0 in let w = c .before .f .given .0 in (w .0 ≤ v .1 .1 .0 - v .1 .0) × (w .1 .0 ≤ args t b .levels - 1)
 inner-small t c =
     let d = c .before .before .before .before .before in
     let b = d .before .before .before in
     let v = d .before .m .given .0 in
     let w = c .before .f .given in
-    nested-small (sc t b) (args t b .levels - 1) (v .0) (args t b .at + i t b) (args t b .at + (i t b + v .1 .0)) (i t b) (v .1 .0) (v .1 .1 .0) (octets t b)
-    (w .0 .0) (w .0 .1 .0) (c .before .before .before .nested .result) (in-ends t d .1) (c .before .before .before .nested .ensures) (w .1)
+    let h = in-ends t d in
+    nested-small (sc t b) (args t b .levels - 1) (v .0) (args t b .at + i t b) (args t b .at + v .1 .0) (v .1 .0) (v .1 .1 .0) (octets t b)
+    (w .0 .0) (w .0 .1 .0) (c .before .before .before .nested .result) (h .1) (h .2) (c .before .before .before .nested .ensures) (w .1)
 
 nested-returns : (t : ℕ) → nested-lts.Need-returns (claims t) (nested-at t) nested.Post nested-Inv-loop nested-μ-loop
 unfolding messageFrom walkOf
@@ -126,15 +122,6 @@ nested-loop-holds t c =
     let h = c .if1 .left in
     (omega arith, start e (messageFrom e (a .levels - 1)) (a .n) (a .at) (now (a .s)))
 
-nested-sub-step : (t : ℕ) → nested-lts.Need-sub-step (claims t) (nested-at t) nested.Post nested-Inv-loop nested-μ-loop
-nested-sub-step t c = search needs
-
-nested-part-step-start : (t : ℕ) → nested-lts.Need-part-step-start (claims t) (nested-at t) nested.Post nested-Inv-loop nested-μ-loop
-nested-part-step-start t c = search needs
-
-nested-part-step-end : (t : ℕ) → nested-lts.Need-part-step-end (claims t) (nested-at t) nested.Post nested-Inv-loop nested-μ-loop
-nested-part-step-end t c = search needs
-
 nested-step-requires : (t : ℕ) → nested-lts.Need-step-requires (claims t) (nested-at t) nested.Post nested-Inv-loop nested-μ-loop
 nested-step-requires t c κs = search needs
 
@@ -144,28 +131,22 @@ nested-enum-told t c = search needs
 nested-returns-2 : (t : ℕ) → nested-lts.Need-returns-2 (claims t) (nested-at t) nested.Post nested-Inv-loop nested-μ-loop
 nested-returns-2 t c =
     let b = c .before .before in
-    at-end (sc t b) (messageFrom (sc t b) (args t b .levels - 1)) (args t b .n) (args t b .at) (octets t b) (i t b) (b .before .before .loop .fields) (b .before .before .loop .depth) (state t b) (sym (step-found t b) ∙ c .enum-told .given .1) ∙ opened t b
+    at-end (sc t b) (messageFrom (sc t b) (args t b .levels - 1)) (args t b .n) (args t b .at) (octets t b) (i t b) (b .before .loop .fields) (b .before .loop .depth) (state t b) (sym (b .step .ensures) ∙ c .enum-told .given .1) ∙ opened t b
 
 nested-enum-known-k : (t : ℕ) → nested-lts.Need-enum-known-k (claims t) (nested-at t) nested.Post nested-Inv-loop nested-μ-loop
 nested-enum-known-k t c = search needs
 
-nested-add-t31 : (t : ℕ) → nested-lts.Need-add-t31 (claims t) (nested-at t) nested.Post nested-Inv-loop nested-μ-loop
-nested-add-t31 t c = let b = c .before .before .before in let h = state t b .inside in let k = bounds t b .0 in omega arith
+nested-add-t24 : (t : ℕ) → nested-lts.Need-add-t24 (claims t) (nested-at t) nested.Post nested-Inv-loop nested-μ-loop
+nested-add-t24 t c = let b = c .before .before .before in let h = state t b .inside in let k = bounds t b .0 in omega arith
 
 nested-returns-3 : (t : ℕ) → nested-lts.Need-returns-3 (claims t) (nested-at t) nested.Post nested-Inv-loop nested-μ-loop
 nested-returns-3 t c =
     let b = c .before .before .before in
     let v = c .before .k .given in
-    at-fault (sc t b) (messageFrom (sc t b) (args t b .levels - 1)) (args t b .n) (args t b .at) (octets t b) (i t b) (b .before .before .loop .fields) (b .before .before .loop .depth) (state t b) (v .0 .0) (sym (step-found t b) ∙ v .1) ∙ opened t b
+    at-fault (sc t b) (messageFrom (sc t b) (args t b .levels - 1)) (args t b .n) (args t b .at) (octets t b) (i t b) (b .before .loop .fields) (b .before .loop .depth) (state t b) (v .0 .0) (sym (b .step .ensures) ∙ v .1) ∙ opened t b
 
-nested-enum-known-control : (t : ℕ) → nested-lts.Need-enum-known-control (claims t) (nested-at t) nested.Post nested-Inv-loop nested-μ-loop
-nested-enum-known-control t c = search needs
-
-nested-add-i : (t : ℕ) → nested-lts.Need-add-i (claims t) (nested-at t) nested.Post nested-Inv-loop nested-μ-loop
-nested-add-i t c = let b = c .before .before .before in let h = over-ends t c .1 in let k = bounds t b .0 in omega arith
-
-nested-add-i-2 : (t : ℕ) → nested-lts.Need-add-i-2 (claims t) (nested-at t) nested.Post nested-Inv-loop nested-μ-loop
-nested-add-i-2 t c = let b = c .before .before .before in let h = over-ends t c .1 in let k = bounds t b .0 in omega arith
+nested-enum-known-e : (t : ℕ) → nested-lts.Need-enum-known-e (claims t) (nested-at t) nested.Post nested-Inv-loop nested-μ-loop
+nested-enum-known-e t c = search needs
 
 nested-add-fields : (t : ℕ) → nested-lts.Need-add-fields (claims t) (nested-at t) nested.Post nested-Inv-loop nested-μ-loop
 nested-add-fields t c = let b = c .before .before .before in let h = state t b .few in let l = state t b .inside in let k = bounds t b .0 in omega arith
@@ -176,48 +157,42 @@ nested-loop-less t c = let h = over-ends t c in let p = h .0 in let q = h .1 in 
 nested-loop-again : (t : ℕ) → nested-lts.Need-loop-again (claims t) (nested-at t) nested.Post nested-Inv-loop nested-μ-loop
 nested-loop-again t c =
     let b = c .before .before .before in
-    let v = c .before .control .given in
-    (room-left t b, over-leaf (sc t b) (messageFrom (sc t b) (args t b .levels - 1)) (args t b .n) (args t b .at) (octets t b) (i t b) (b .before .before .loop .fields) (b .before .before .loop .depth) (state t b) (v .0 .0) (v .0 .1 .0) (sym (step-found t b) ∙ v .1))
+    let v = c .before .e .given in
+    (room-left t b, over-leaf (sc t b) (messageFrom (sc t b) (args t b .levels - 1)) (args t b .n) (args t b .at) (octets t b) (i t b) (b .before .loop .fields) (b .before .loop .depth) (state t b) (v .0 .0) (sym (b .step .ensures) ∙ v .1))
 
 nested-enum-known-m : (t : ℕ) → nested-lts.Need-enum-known-m (claims t) (nested-at t) nested.Post nested-Inv-loop nested-μ-loop
 nested-enum-known-m t c = search needs
-
-nested-add-a : (t : ℕ) → nested-lts.Need-add-a (claims t) (nested-at t) nested.Post nested-Inv-loop nested-μ-loop
-nested-add-a t c = let b = c .before .before .before in let h = in-ends t c .1 in let k = bounds t b .0 in omega arith
-
-nested-add-e : (t : ℕ) → nested-lts.Need-add-e (claims t) (nested-at t) nested.Post nested-Inv-loop nested-μ-loop
-nested-add-e t c = let b = c .before .before .before in let h = in-ends t c .1 in let k = bounds t b .0 in omega arith
 
 nested-sub-nested : (t : ℕ) → nested-lts.Need-sub-nested (claims t) (nested-at t) nested.Post nested-Inv-loop nested-μ-loop
 nested-sub-nested t c = let b = c .before .before .before in let h = room-left t b in omega arith
 
 nested-add-here : (t : ℕ) → nested-lts.Need-add-here (claims t) (nested-at t) nested.Post nested-Inv-loop nested-μ-loop
-nested-add-here t c = let b = c .before .before .before in let h = in-ends t c .1 in let k = bounds t b .0 in omega arith
+nested-add-here t c = let b = c .before .before .before in let e = in-ends t c in let p = e .0 in let q = e .1 in let r = e .2 in let k = bounds t b .0 in omega arith
 
 nested-add-inside : (t : ℕ) → nested-lts.Need-add-inside (claims t) (nested-at t) nested.Post nested-Inv-loop nested-μ-loop
-nested-add-inside t c = let b = c .before .before .before in let h = in-ends t c .1 in let k = bounds t b .0 in omega arith
+nested-add-inside t c = let b = c .before .before .before in let e = in-ends t c in let p = e .0 in let q = e .1 in let r = e .2 in let k = bounds t b .0 in omega arith
 
 nested-sub-nested-2 : (t : ℕ) → nested-lts.Need-sub-nested-2 (claims t) (nested-at t) nested.Post nested-Inv-loop nested-μ-loop
-nested-sub-nested-2 t c = search needs
+nested-sub-nested-2 t c = in-ends t c .1
 
 nested-part-nested-start : (t : ℕ) → nested-lts.Need-part-nested-start (claims t) (nested-at t) nested.Post nested-Inv-loop nested-μ-loop
-nested-part-nested-start t c = search needs
+nested-part-nested-start t c = in-ends t c .1
 
 nested-part-nested-end : (t : ℕ) → nested-lts.Need-part-nested-end (claims t) (nested-at t) nested.Post nested-Inv-loop nested-μ-loop
-nested-part-nested-end t c = let h = in-ends t c .1 in omega arith
+nested-part-nested-end t c = in-ends t c .2
 
 nested-nested-requires : (t : ℕ) → nested-lts.Need-nested-requires (claims t) (nested-at t) nested.Post nested-Inv-loop nested-μ-loop
 nested-nested-requires t c κs =
     let d = c .before in
     let b = d .before .before .before in
-    let h = in-ends t d .1 in
+    let h = in-ends t d .2 in
+    let e = in-ends t d .1 in
     let k = bounds t b .0 in
     let l = bounds t b .1 in
     let r = room-left t b in
-    let p = b .before .before .before .before .before .pre .0 in
+    let p = b .before .before .before .before .pre .0 in
     let v = d .before .m .given .0 in
-    let m : length (take (i t b + v .1 .0 + v .1 .1 .0 - (i t b + v .1 .0)) (drop (i t b + v .1 .0) (octets t b))) ≤ v .1 .1 .0 =
-    simp length-take (omega arith) in
+    let m : length (take (v .1 .1 .0 - v .1 .0) (drop (v .1 .0) (octets t b))) ≤ v .1 .1 .0 - v .1 .0 = simp length-take (omega arith) in
     (omega arith, (omega arith, omega arith))
 
 nested-enum-known-f : (t : ℕ) → nested-lts.Need-enum-known-f (claims t) (nested-at t) nested.Post nested-Inv-loop nested-μ-loop
@@ -228,7 +203,9 @@ nested-add-fields-2 t c =
     let d = c .before .before .before .before .before in
     let b = d .before .before .before in
     let h = inner-small t c .0 in
-    let e = in-ends t d .1 in
+    let e = in-ends t d in
+    let p = e .0 in
+    let q = e .2 in
     let k = bounds t b .0 in
     let f = state t b .few in
     let g = state t b .inside in
@@ -239,7 +216,9 @@ nested-add-fields-3 t c =
     let d = c .before .before .before .before .before in
     let b = d .before .before .before in
     let h = inner-small t c .0 in
-    let e = in-ends t d .1 in
+    let e = in-ends t d in
+    let p = e .0 in
+    let q = e .2 in
     let k = bounds t b .0 in
     let f = state t b .few in
     let g = state t b .inside in
@@ -262,6 +241,7 @@ nested-loop-less-2 t c =
     let h = in-ends t d in
     let p = h .0 in
     let q = h .1 in
+    let r = h .2 in
     omega arith
 
 nested-loop-again-2 : (t : ℕ) → nested-lts.Need-loop-again-2 (claims t) (nested-at t) nested.Post nested-Inv-loop nested-μ-loop
@@ -272,8 +252,8 @@ nested-loop-again-2 t c =
     let v = d .before .m .given in
     let w = n .before .f .given in (
       room-left t b,
-      nested-turn (sc t b) (messageFrom (sc t b) (args t b .levels - 1)) (args t b .n) (args t b .at) (octets t b) (i t b) (b .before .before .loop .fields) (b .before .before .loop .depth) (state t b) (v .0 .0) (v .0 .1 .0) (v .0 .1 .1 .0) (n .before .before .before .nested .result)
-          (sym (step-found t b) ∙ v .1) (n .before .before .before .nested .ensures) (w .0 .0) (w .0 .1 .0) (c .larger .result) (w .1) (inner-small t n .0) (c .larger .ensures),
+      nested-turn (sc t b) (messageFrom (sc t b) (args t b .levels - 1)) (args t b .n) (args t b .at) (octets t b) (i t b) (b .before .loop .fields) (b .before .loop .depth) (state t b) (v .0 .0) (v .0 .1 .0) (v .0 .1 .1 .0) (sym (b .step .ensures) ∙ v .1)
+          (n .before .before .before .nested .result) (n .before .before .before .nested .ensures) (w .0 .0) (w .0 .1 .0) (c .larger .result) (w .1) (inner-small t n .0) (c .larger .ensures),
     )
 
 nested-enum-known-k-2 : (t : ℕ) → nested-lts.Need-enum-known-k-2 (claims t) (nested-at t) nested.Post nested-Inv-loop nested-μ-loop
@@ -285,8 +265,8 @@ nested-returns-4 t c =
     let b = d .before .before .before in
     let v = d .before .m .given in
     let w = c .before .k2 .given in
-    nested-refusal (sc t b) (messageFrom (sc t b) (args t b .levels - 1)) (args t b .n) (args t b .at) (octets t b) (i t b) (b .before .before .loop .fields) (b .before .before .loop .depth) (state t b) (v .0 .0) (v .0 .1 .0) (v .0 .1 .1 .0) (c .before .before .before .nested .result)
-    (sym (step-found t b) ∙ v .1) (c .before .before .before .nested .ensures) (w .0 .0) (w .0 .1 .0) (w .1)
+    nested-refusal (sc t b) (messageFrom (sc t b) (args t b .levels - 1)) (args t b .n) (args t b .at) (octets t b) (i t b) (b .before .loop .fields) (b .before .loop .depth) (state t b) (v .0 .0) (v .0 .1 .0) (v .0 .1 .1 .0) (sym (b .step .ensures) ∙ v .1)
+    (c .before .before .before .nested .result) (c .before .before .before .nested .ensures) (w .0 .0) (w .0 .1 .0) (w .1)
     ∙ opened t b
 
 pub +nested-spec : {M : Type 1} → statement M
@@ -297,24 +277,17 @@ pub +nested-spec : {M : Type 1} → statement M
     nested-μ-loop
     (nested-returns t)
     (nested-loop-holds t)
-    (nested-sub-step t)
-    (nested-part-step-start t)
-    (nested-part-step-end t)
     (nested-step-requires t)
     (nested-enum-told t)
     (nested-returns-2 t)
     (nested-enum-known-k t)
-    (nested-add-t31 t)
+    (nested-add-t24 t)
     (nested-returns-3 t)
-    (nested-enum-known-control t)
-    (nested-add-i t)
-    (nested-add-i-2 t)
+    (nested-enum-known-e t)
     (nested-add-fields t)
     (nested-loop-less t)
     (nested-loop-again t)
     (nested-enum-known-m t)
-    (nested-add-a t)
-    (nested-add-e t)
     (nested-add-here t)
     (nested-add-inside t)
     (nested-sub-nested t)
