@@ -98,7 +98,7 @@ fn small_code(cells: &[u32; 128], number: u64, s: &[u8], i: usize) -> u64
 }
 
 // The field at an offset in a message of a number, under the index of a table. Most fields have a control part of one octet and contents
-// that need no look, so that case comes first. Without it the check of a meter reading took a sixth more time.
+// that need no look, so that case comes first. Without it the check of a meter reading took a quarter more time.
 pub fn step(cells: &[u32; 128], number: u64, s: &[u8], i: usize) -> Next
     ensures { λ r. ⌜ r ≡ nextAt i (step-of (indexed (now (cells .entry))) number (drop i (now (s .entry)))) ⌝ }
 {

@@ -25,23 +25,21 @@ pub control-none : (s : List ℕ) → length s ≡ 0 → Absent ≡ control s
 unfolding control
 control-none s h = sym (ap control (length-zero s h))
 
-control-some : (s : List ℕ) → 0 < length s → getD s 0 0 < 256 → controlOf (getD s 0 0 / 16) (getD s 0 0 % 16) (drop 1 s) ≡ control s
+control-some : (x : ℕ) (s : List ℕ) → x < 256 → controlOf (x / 16) (x % 16) s ≡ control (x ∷ s)
 unfolding control
-control-some [] h l = absurd (omega arith)
-control-some (x ∷ s) h l = rw (lt-ltb x 256 l)
+control-some x s l = rw (lt-ltb x 256 l)
 
--- The two nybbles of the first octet by shift and mask, and the octets after it.
-pub control-split : (s : List ℕ) (t l : ℕ) → 0 < length s → t < 16 → t ≡ getD s 0 0 / 16 → l ≡ bitAnd (getD s 0 0) 15
-    → controlOf t l (take (length s - 1) (drop 1 s)) ≡ control s
-control-split s t l h b p q =
-    rw (p, q ∙ and-mask (getD s 0 0) 4, tail-part s 1) (control-some s h (omega arith))
-
--- The same at an offset.
+-- The two nybbles of the octet at an offset by shift and mask, and the octets after it.
 pub control-from : (s : List ℕ) (i t l : ℕ) → i < length s → t < 16 → t ≡ getD s i 0 / 16 → l ≡ bitAnd (getD s i 0) 15
     → controlOf t l (take (length s - (i + 1)) (drop (i + 1) s)) ≡ control (drop i s)
 control-from s i t l h b p q =
     let k : i + 1 ≡ suc i = omega arith in
-    rw (p, q ∙ and-mask (getD s i 0) 4, tail-part s (i + 1), drop-cons s i 0 h, k) (control-some (getD s i 0 ∷ drop (suc i) s) (omega arith) (omega arith))
+    rw (p, q ∙ and-mask (getD s i 0) 4, tail-part s (i + 1), drop-cons s i 0 h, k) (control-some (getD s i 0) (drop (suc i) s) (omega arith))
+
+-- The same at the front.
+pub control-split : (s : List ℕ) (t l : ℕ) → 0 < length s → t < 16 → t ≡ getD s 0 0 / 16 → l ≡ bitAnd (getD s 0 0) 15
+    → controlOf t l (take (length s - 1) (drop 1 s)) ≡ control s
+control-split s = control-from s 0
 
 pub nybbles : (x t l : ℕ) → x < 256 → t ≡ x / 16 → l ≡ bitAnd x 15 → (t < 16) × (l < 16)
 nybbles x t l h p q = let m = mask-lt x 4 in (omega arith, omega arith)
