@@ -25,6 +25,12 @@ fn nested(cells: &[u32; 128], n: u64, levels: u64, from: u64, at: u64, s: &[u8])
     let mut fields: u64 = 0;
     let mut depth: u64 = 1;
     loop {
+        let end = hproto_field::quick(cells, n, s, i);
+        if end != 0 {
+            i = end;
+            fields = fields + 1;
+            continue;
+        }
         match hproto_field::step(cells, n, s, i) {
             Next::Done => return Walk::Accepted(fields, depth),
             Next::Fault(k) => return Walk::Refused(k, at + (i as u64)),

@@ -1,74 +1,95 @@
-use native.Mathlib.Omega.{arith}
-use mathlib.Core.Logic.{inl, inr, ⊎-elim}
-use denote.Ref.{now}
 use Prim.Native.Nat.{_+_, _≤_}
-use lib.Bits.{bitAnd, mask-lt}
-use lib.ListN.{length, getD}
-use borrow.Author.Tests.{eqb-true}
-use Rattle.hproto_field.proofs.Nexts.{small-inside, small-message, small-plain}
+use lib.ListN.{length}
+use native.Mathlib.Omega.{arith}
+use mathlib.Core.Path.{sym, ap, _∙_}
+use denote.Ref.{now}
+use Rattle.table_index.specs.internal.Cells.{codeIn, meaningIn, indexed}
+use Rattle.hproto_field.proofs.Nexts.{done-at, partial-at, start-inside, past-at, field-at}
 use borrow.Author.Needs.{needs}
 use Rattle.hproto_field.proofs.step.Statement.{statement}
 use Rattle.hproto_field.proofs.step.Tie as tie
 
-small-code-requires : tie.Need-small-code-requires
-small-code-requires c κs = search needs
+control-at-requires : tie.Need-control-at-requires
+control-at-requires c κs = search needs
 
--- A field with a code ends within the octets.
-inside : (c : tie.Then1) → let a = c .before .before .before .args in a .i + 1 + bitAnd (getD (now (a .s)) (a .i) 0) 15 ≤ length (now (a .s))
+enum-told : tie.Need-enum-told
+enum-told c = search needs
+
+enum-told-2 : tie.Need-enum-told-2
+enum-told-2 c = search needs
+
+enum-known-tag : tie.Need-enum-known-tag
+enum-known-tag c = search needs
+
+-- The control part that was found ends within the octets.
+inside : (c : tie.After-known-told) → let a = c .before .before .before .before .before .args in a .i + c .before .tag .given .0 .1 .1 .0 ≤ length (now (a .s))
 inside c =
-    let a = c .before .before .before .args in
-    small-inside (now (a .cells)) (a .number) (now (a .s)) (a .i) (c .before .small-code .result) (c .before .small-code .ensures) (c .if1 .taken)
+    let a = c .before .before .before .before .before .args in
+    let v = c .before .tag .given in
+    start-inside (now (a .s)) (a .i) (v .0 .0) (v .0 .1 .0) (v .0 .1 .1 .0) (sym (c .before .before .before .control-at .ensures) ∙ v .1)
 
-shared-slice-read-n : tie.Need-shared-slice-read-n
-shared-slice-read-n c = let h = inside (c .before) in omega arith
+add-start : tie.Need-add-start
+add-start c = omega (arith, inside c)
 
-cast-n : tie.Need-cast-n
-cast-n c = let a = c .before .before .before .before .args in let h = mask-lt (getD (now (a .s)) (a .i) 0) 4 in omega arith
-
-add-a : tie.Need-add-a
-add-a c = let h = inside (c .before) in omega arith
-
-sub-t13 : tie.Need-sub-t13
-sub-t13 c = search needs
-
-add-t14 : tie.Need-add-t14
-add-t14 c = let h = inside (c .before .before) in omega arith
+sub-left : tie.Need-sub-left
+sub-left c = inside c
 
 returns : tie.Need-returns
 returns c =
-    let b = c .before .before in
-    let a = b .before .before .before .args in
-    small-message (now (a .cells)) (a .number) (now (a .s)) (a .i) (b .before .small-code .result) (b .before .small-code .ensures) (b .if1 .taken) (c .if2 .taken)
+    let b = c .before .before .before .before .before .before in
+    let a = b .args in
+    let v = c .before .before .tag .given in
+    past-at (now (a .s)) (a .i) (v .0 .0) (v .0 .1 .0) (v .0 .1 .1 .0) (sym (c .before .before .before .before .control-at .ensures) ∙ v .1)
+    (indexed (now (a .cells))) (a .number) (c .if1 .taken)
 
-add-t18 : tie.Need-add-t18
-add-t18 c = let h = inside (c .before .before .before .before) in omega arith
+add-end : tie.Need-add-end
+add-end c = let h = inside (c .before) in let k = c .if1 .left in omega arith
+
+cell-requires : tie.Need-cell-requires
+cell-requires c κs = search needs
+
+code-requires : tie.Need-code-requires
+code-requires c κs = search needs
+
+by-code-requires : tie.Need-by-code-requires
+by-code-requires c κs = let b = c .before .before in let h = inside (b .before) in let k = b .if1 .left in (omega arith, omega arith)
 
 returns-2 : tie.Need-returns-2
 returns-2 c =
-    let b = c .before .before .before .before in
-    let a = b .before .before .before .args in
-    let k = b .before .small-code .result in
-    small-plain (now (a .cells)) (a .number) (now (a .s)) (a .i) k (b .before .small-code .ensures) (b .if1 .taken) (c .before .if3 .taken)
-    (⊎-elim (λ w. inl (w .taken)) (⊎-elim (λ w. inr (inl (eqb-true k 0 (w .1 .taken)))) (λ w. inr (inr (eqb-true k 3 (w .2 .taken))))) (c .if4 .came))
-
-any-step-requires : tie.Need-any-step-requires
-any-step-requires c κs = search needs
+    let a = c .before .before .before .before .args in
+    done-at (indexed (now (a .cells))) (a .number) (now (a .s)) (a .i) (sym (c .before .before .control-at .ensures) ∙ c .enum-told .given .1)
 
 returns-3 : tie.Need-returns-3
-returns-3 c = search needs
+returns-3 c =
+    let a = c .before .before .before .before .args in
+    partial-at (indexed (now (a .cells))) (a .number) (now (a .s)) (a .i) (sym (c .before .before .control-at .ensures) ∙ c .enum-told2 .given .1)
+
+returns-4 : tie.Need-returns-4
+unfolding indexed meaningIn
+returns-4 c =
+    let b = c .before .before .before in
+    let a = b .before .before .before .before .before .before .args in
+    let v = b .before .before .tag .given in
+    let k = c .before .code .ensures ∙ ap codeIn (c .before .before .cell .ensures) in
+    c .by-code .ensures ∙ rw k
+    (field-at (now (a .s)) (a .i) (v .0 .0) (v .0 .1 .0) (v .0 .1 .1 .0) (sym (b .before .before .before .before .control-at .ensures) ∙ v .1)
+    (indexed (now (a .cells))) (a .number) (b .if1 .left))
 
 pub step-spec : {M : Type 1} → statement M
 step-spec =
     tie.close
     (tie.spec
-    small-code-requires
-    shared-slice-read-n
-    cast-n
-    add-a
-    sub-t13
-    add-t14
+    control-at-requires
+    enum-told
+    enum-told-2
+    enum-known-tag
+    add-start
+    sub-left
     returns
-    add-t18
+    add-end
+    cell-requires
+    code-requires
+    by-code-requires
     returns-2
-    any-step-requires
-    returns-3)
+    returns-3
+    returns-4)
