@@ -1,5 +1,5 @@
 pub mod Coded
 pub mod Fields
-pub mod HeldKinds
+pub mod Heads
 pub mod Nexts
 pub mod Passing

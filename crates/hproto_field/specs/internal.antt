@@ -1,3 +1,2 @@
-pub mod Fronts
-pub mod Held
+pub mod Heads
 pub mod Nexts

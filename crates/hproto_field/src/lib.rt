@@ -1,33 +1,19 @@
 // One step through a message: what stands at the front of octets.
-use hproto_table::Meaning;
 use octets::Control;
 ghost use mathlib.Core.Path.{_≡_};
 ghost use Prim.Native.Nat.{_-_, _≤_};
 ghost use lib.ListN.{length, take, drop};
 ghost use Rattle.hproto_message.specs.Reading.{step as step-of, stepByKind};
-ghost use Rattle.hproto_field.specs.internal.Fronts.{front as front-of, part as part-of, nothing as nothing-of};
-ghost use Rattle.hproto_field.specs.internal.Held.{heldIn};
+ghost use Rattle.hproto_field.specs.internal.Heads.{headAt};
 ghost use Rattle.hproto_field.specs.internal.Nexts.{nextAt, smallCode};
 ghost use Rattle.table_index.specs.internal.Cells.{meaningOf, indexed};
 
-// The tag, the kind and the sizes of the control part and of the contents of a whole field; raw and zeros where there is none.
-pub struct Field {
-    pub tag: u64,
-    pub kind: Meaning,
-    pub control: usize,
-    pub contents: usize,
-}
-
-// The number of the message that a field holds, if it holds one.
-pub enum Holds {
-    None,
-    Number(u64),
-}
-
-// The tag of a whole field and the sizes of its control part and of its contents, or that there is none.
-pub enum Extent {
-    None,
-    Found(u64, usize, usize),
+// The field at an offset of a message: its tag and where its contents start and end. Or there is none: the message ends there, or the
+// number of the refusal.
+pub enum Head {
+    End,
+    Fault(u64),
+    Field { tag: u64, start: usize, end: usize },
 }
 
 // What stands at an offset of a message, by offsets in the message: the end; a fault; a field without a message in it, by its end; a field
@@ -115,62 +101,28 @@ pub fn quick(cells: &[u32; 128], number: u64, s: &[u8], i: usize) -> usize
     0
 }
 
-// The tag of the whole field at the front of octets and the sizes of its control part and of its contents, if there is one.
-fn part(s: &[u8]) -> Extent
-    ensures { λ r. ⌜ r ≡ part-of (now (s .entry)) ⌝ }
+// The field at the offset i of the message that ends at the offset `end` of s, its contents unread. `step` reads the control part itself:
+// this function has other callers, so the compiler would not inline it into the check, which then takes up to 1.6 times as long.
+pub fn head_at(s: &[u8], i: usize, end: usize) -> Head
+    ensures { λ r. ⌜ r ≡ headAt i (drop i (take end (now (s .entry)))) ⌝ }
 {
-    match octets_read::control(s) {
-        Control::Absent => Extent::None,
-        Control::Partial => Extent::None,
+    let stop = numbers::smaller(end, s.len());
+    if stop <= i {
+        return Head::End;
+    }
+    match octets_read::control(&s[i..stop]) {
+        Control::Absent => Head::End,
+        Control::Partial => Head::Fault(3),
         Control::Whole { tag, length, size } => {
-            let start = size as usize;
-            let rest = (s.len() - start) as u64;
+            let start = i + (size as usize);
+            let rest = (stop - start) as u64;
             if rest < length {
-                return Extent::None;
+                return Head::Fault(4);
             }
-            Extent::Found(tag, start, length as usize)
-        }
-    }
-}
-
-// The number of the message that a field of a kind holds.
-pub fn held(kind: Meaning) -> Holds
-    ensures { λ r. ⌜ r ≡ heldIn kind ⌝ }
-{
-    match kind {
-        Meaning::Raw => Holds::None,
-        Meaning::Uint => Holds::None,
-        Meaning::Int => Holds::None,
-        Meaning::String => Holds::None,
-        Meaning::Text => Holds::None,
-        Meaning::Message(m) => Holds::Number(m),
-    }
-}
-
-fn nothing() -> Field
-    ensures { λ r. ⌜ r ≡ nothing-of ⌝ }
-{
-    Field {
-        tag: 0,
-        kind: Meaning::Raw,
-        control: 0,
-        contents: 0,
-    }
-}
-
-// The field at the front of octets, its contents unread, under the index of a table.
-pub fn field_in(cells: &[u32; 128], number: u64, s: &[u8]) -> Field
-    ensures { λ r. ⌜ r ≡ front-of (indexed (now (cells .entry))) number (now (s .entry)) ⌝ }
-{
-    match part(s) {
-        Extent::None => nothing(),
-        Extent::Found(tag, control, contents) => {
-            let kind = table_index::find(cells, number, tag);
-            Field {
+            Head::Field {
                 tag,
-                kind,
-                control,
-                contents,
+                start,
+                end: start + (length as usize),
             }
         }
     }

@@ -1,6 +1,6 @@
 // The lines of a message that was checked before. Like those of text_window, each function that puts text puts a piece at `at` and answers
 // the place after it.
-use hproto_field::Holds;
+use hproto_field::Head;
 use hproto_table::Meaning;
 ghost use mathlib.Core.Path.{_≡_};
 ghost use mathlib.Core.List.{[]};
@@ -96,13 +96,19 @@ fn direct(cells: &[u32; 128], number: u64, s: &[u8]) -> u64
 {
     let mut i: usize = 0;
     let mut n: u64 = 0;
-    while i < s.len() {
-        let f = hproto_field::field_in(cells, number, &s[i..]);
-        let a = i + f.control;
-        i = a + f.contents;
-        n += 1;
+    loop {
+        match hproto_field::head_at(s, i, s.len()) {
+            Head::Field {
+                tag: _,
+                start: _,
+                end,
+            } => {
+                i = end;
+                n += 1;
+            }
+            _ => return n,
+        }
     }
-    n
 }
 
 // The line of a field that holds a message of a number. The count of its fields stands in the line, before their own lines.
@@ -143,24 +149,24 @@ pub(crate) fn write(
 {
     let mut i: usize = 0;
     let mut end = at;
-    while i < s.len() {
-        let f = hproto_field::field_in(cells, number, &s[i..]);
-        let kind = f.kind;
-        let a = i + f.control;
-        let e = a + f.contents;
-        let depth = 9 - levels;
-        let tag = f.tag;
-        match hproto_field::held(kind) {
-            Holds::None => {
-                end = leaf_line(out, from, end, depth, tag, kind, &s[a..e]);
-                i = e;
+    loop {
+        match hproto_field::head_at(s, i, s.len()) {
+            Head::Field { tag, start, end: e } => {
+                let depth = 9 - levels;
+                let kind = table_index::find(cells, number, tag);
+                match kind {
+                    Meaning::Message(m) => {
+                        let b = message_line(cells, m, &s[start..e], out, from, end, depth, tag);
+                        end = write(cells, m, levels - 1, &s[start..e], out, from, b);
+                        i = e;
+                    }
+                    _ => {
+                        end = leaf_line(out, from, end, depth, tag, kind, &s[start..e]);
+                        i = e;
+                    }
+                }
             }
-            Holds::Number(m) => {
-                let b = message_line(cells, m, &s[a..e], out, from, end, depth, tag);
-                end = write(cells, m, levels - 1, &s[a..e], out, from, b);
-                i = e;
-            }
+            _ => return end,
         }
     }
-    end
 }

@@ -7,7 +7,7 @@ pub mod Outers
 pub mod LookupAnswers
 pub mod Trees
 pub mod Behind
-pub mod Directs
+pub mod Codes
 pub mod Passing
 pub mod Puts
 pub mod Writing

@@ -112,7 +112,7 @@ module _ (sc : Schema) (n : ℕ) (s : List ℕ) (tag : ℕ) (which : Occurrence)
   unfolding wanted
   spot-is cut g =
       chosen-spot tag which s
-      ∙ rw (places-are sc n tag 8 s cut g, chosen-map placeOf which (withTag itemOf tag (outermost sc n 0 cut)))
+      ∙ rw (places-are sc n tag s 8 cut g, chosen-map placeOf which (withTag itemOf tag (outermost sc n 0 cut)))
 
   module _ (e : checkUnder sc n s .refusal ≡ 0) where
     cut : Cut

@@ -16,15 +16,19 @@ use Rattle.octets.proofs.Integer.{length-leastInt}
 use Rattle.hproto_table.specs.Schema.{Schema}
 use Rattle.hproto_table.specs.declared.Meaning.{Meaning}
 use Rattle.hproto_table.specs.declared.Meaning.the-variants.{Raw, Uint, Int, String, Text, Message}
+use Rattle.hproto_message.specs.Cut.{Contents}
 use Rattle.hproto_message.specs.Tree.{value}
 use Rattle.hproto_message.specs.Shortest.{field, leastContents}
 use Rattle.hproto_message.proofs.Next.{Plain}
 use Rattle.hproto_message.proofs.Shortened.{shortest-no-longer}
-use Rattle.hproto_field.specs.internal.Fronts.{front}
-use Rattle.hproto_field.specs.declared.Field.{Field}
+use Rattle.hproto_field.specs.internal.Heads.{headAt}
+use Rattle.hproto_field.specs.declared.Head.{Head}
+use Rattle.hproto_field.specs.declared.Head.the-variants.{Field}
+use Rattle.hproto_field.proofs.Heads.{Fieldless}
+use Rattle.hproto_field.proofs.Passing.{Ends, ends}
 use Rattle.hproto_put.proofs.Least.{leastControl-size, leastControl-widths}
 use Rattle.message_calls.specs.internal.Stores.{short}
-use Rattle.message_calls.proofs.Passing.{Passed, nothing-passed, all-passed, passed-length, part, ends, leaf-passed, nested-passed, short-is}
+use Rattle.message_calls.proofs.Passing.{Passed, nothing-passed, all-passed, passed-length, part, tag-small, leaf-contents, leaf-passed, nested-passed, short-is}
 use Rattle.hproto_message.proofs.Fields.{field-length}
 
 signedWidth-bound : (z : ℤ) → signedWidth z ≤ 8
@@ -66,48 +70,49 @@ module _ (sc : Schema) (levels n : ℕ) (s : List ℕ) where
   pub counted-none : Accepts sc (suc levels) n s → Counted 0 0
   counted-none a = record { written = []; passed = nothing-passed sc levels n s a; total = refl }
 
-  pub counted-all : (i size : ℕ) → Counted i size → length s ≤ i → size ≡ length (short sc (suc levels) n s)
-  counted-all i size p h = p .total ∙ sym (ap length (all-passed sc levels n s i (p .written) (p .passed) h))
+  pub counted-all : (i size : ℕ) → Counted i size → (h : Head) → headAt i (drop i s) ≡ h → Fieldless h → size ≡ length (short sc (suc levels) n s)
+  counted-all i size p h e q = p .total ∙ sym (ap length (all-passed sc levels n s i (p .written) (p .passed) h e q))
 
   pub counted-few : (i size : ℕ) → Counted i size → size ≤ length (short sc (suc levels) n s)
   counted-few i size p = let e = p .total in let k = passed-length sc levels n s i (p .written) (p .passed) in omega arith
 
-  module _ (i size : ℕ) (p : Counted i size) (more : i < length s) (o : Octets s) (f : Field) (found : f ≡ front sc n (drop i s)) where
+  module _ (i size : ℕ) (p : Counted i size) (o : Octets s) (tag start stop : ℕ) (found : headAt i (drop i s) ≡ Field tag start stop) (k : Meaning) (means : k ≡ sc .means n tag) where
     abbrev contents : List ℕ
-    contents = part sc levels n s i (p .written) (p .passed) more f found
+    contents = part sc levels n s i (p .written) (p .passed) tag start stop found
 
-    small : f .tag % 65536 ≡ f .tag
-    small = ends sc levels n s i (p .written) (p .passed) more f found o .tag-small
+    small : tag % 65536 ≡ tag
+    small = tag-small sc levels n s i (p .written) (p .passed) tag start stop found o
 
-    pub next-onward : (i < i + f .control + f .contents) × (i + f .control + f .contents ≤ length s)
-    next-onward =
-        let h = ends sc levels n s i (p .written) (p .passed) more f found o in
-        (h .onward, h .inside)
+    pub next-ends : Ends sc levels n s i (p .passed .left) tag start stop found
+    next-ends = ends sc levels n s i (p .passed .left) tag start stop found
+
+    pub next-contents : Plain k → Contents k contents
+    next-contents q = leaf-contents sc levels n s i (p .written) (p .passed) tag start stop found k means q
 
     counted-next : (j : ℕ) (xs : List ℕ) → Passed sc levels n s j (p .written ++ xs) → Counted j (size + length xs)
     counted-next j xs q =
         let e = p .total in
         record { written = p .written ++ xs; passed = q; total = rw (length-append (p .written) xs) (omega arith) }
 
-    pub leaf-counted : (r : ℕ) → Plain (f .kind) → r ≡ length (field (f .tag % 65536) (leastContents (value (f .kind) contents)))
-        → Counted (i + f .control + f .contents) (size + r)
+    pub leaf-counted : (r : ℕ) → Plain k → r ≡ length (field (tag % 65536) (leastContents (value k contents)))
+        → Counted stop (size + r)
     leaf-counted r q e =
-        subst (λ (x : ℕ). Counted (i + f .control + f .contents) (size + x)) (sym (e ∙ rw small))
-        (counted-next (i + f .control + f .contents) (field (f .tag) (leastContents (value (f .kind) contents)))
-        (leaf-passed sc levels n s i (p .written) (p .passed) more f found q))
+        subst (λ (x : ℕ). Counted stop (size + x)) (sym (e ∙ rw small))
+        (counted-next stop (field tag (leastContents (value k contents)))
+        (leaf-passed sc levels n s i (p .written) (p .passed) tag start stop found k means q))
 
-    module _ (m : ℕ) (q : f .kind ≡ Message m) where
+    module _ (m : ℕ) (q : k ≡ Message m) where
       pub nested-accepts : (1 ≤ levels) × Accepts sc levels m contents
       nested-accepts =
-          let h = nested-passed sc levels n s i (p .written) (p .passed) more f found m q in
+          let h = nested-passed sc levels n s i (p .written) (p .passed) tag start stop found k means m q in
           (h .positive, h .accepts)
 
-      pub nested-counted : (k l : ℕ) → k ≡ length (short sc levels m contents) → l ≡ length (leastControl (f .tag % 65536) k)
-          → Counted (i + f .control + f .contents) (size + (l + k))
-      nested-counted k l a b =
-          let h = nested-passed sc levels n s i (p .written) (p .passed) more f found m q in
+      pub nested-counted : (inner l : ℕ) → inner ≡ length (short sc levels m contents) → l ≡ length (leastControl (tag % 65536) inner)
+          → Counted stop (size + (l + inner))
+      nested-counted inner l a b =
+          let h = nested-passed sc levels n s i (p .written) (p .passed) tag start stop found k means m q in
           let xs = short sc levels m contents in
-          let c : l ≡ length (leastControl (f .tag) (length xs)) = b ∙ rw (small, a) in
-          let e : length (field (f .tag) xs) ≡ l + k = field-length (f .tag) xs ∙ rw (a, c) in
-          subst (λ (x : ℕ). Counted (i + f .control + f .contents) (size + x)) e
-          (counted-next (i + f .control + f .contents) (field (f .tag) xs) (h .passed))
+          let c : l ≡ length (leastControl tag (length xs)) = b ∙ rw (small, a) in
+          let e : length (field tag xs) ≡ l + inner = field-length tag xs ∙ rw (a, c) in
+          subst (λ (x : ℕ). Counted stop (size + x)) e
+          (counted-next stop (field tag xs) (h .passed))

@@ -20,9 +20,10 @@ use Rattle.hproto_message.specs.Tree.{value, tree}
 use Rattle.hproto_message.specs.Items.{Item, items, itemTag, withTag}
 use Rattle.hproto_message.proofs.Steps.{field-control, in-three}
 use Rattle.message_calls.specs.Lookup.{Outer, outermost}
-use Rattle.message_calls.specs.internal.Spots.{Span, afterPart, placesFrom, places}
-use Rattle.hproto_field.specs.internal.Fronts.{partFrom, part}
-use Rattle.hproto_field.specs.declared.Extent.the-variants.{Found}
+use Rattle.message_calls.specs.internal.Spots.{Span, afterHead, placesFrom, places}
+use Rattle.hproto_field.specs.internal.Heads.{headFrom, headAt}
+use Rattle.hproto_field.specs.declared.Head.the-variants.{Field}
+use Rattle.hproto_field.proofs.Heads.{head-field}
 use Rattle.message_calls.proofs.Choosing.{Each, map-withTag}
 use Rattle.message_calls.specs.InTree.{Shows}
 
@@ -70,21 +71,18 @@ module _ (c b r : List ℕ) (t : ℕ) (w : WholeField t c b) where
       }
 
   -- The walk finds the field.
-  part-is : part (c ++ b ++ r) ≡ Found t (length c) (length b)
-  unfolding part partFrom
-  part-is =
-      let e = field-control t c b r w in
+  head-is : (at : ℕ) → headAt at (c ++ b ++ r) ≡ Field t (at + length c) (at + length c + length b)
+  head-is at =
       let l : length (c ++ b ++ r) ≡ length c + length b + length r = simp length-append (omega arith) in
-      let h : length b ≤ length (c ++ b ++ r) - length c = omega arith in
-      rw (e, le-leb (length b) (length (c ++ b ++ r) - length c) h)
+      sym (head-field at (c ++ b ++ r) t (length b) (length c) (field-control t c b r w) (omega arith))
 
-  pub walked : (tag fuel at : ℕ)
-      → placesFrom tag (suc fuel) at (c ++ b ++ r)
+  pub walked : (s : List ℕ) (at : ℕ) → drop at s ≡ c ++ b ++ r → (tag fuel : ℕ)
+      → placesFrom tag s (suc fuel) at
       ≡ cond (eqb t tag)
-      (record { start = at + length c; end = at + length c + length b } ∷ placesFrom tag fuel (at + length c + length b) r)
-      (placesFrom tag fuel (at + length c + length b) r)
-  unfolding placesFrom afterPart
-  walked tag fuel at = rw (part-is, in-three c b r .third)
+      (record { start = at + length c; end = at + length c + length b } ∷ placesFrom tag s fuel (at + length c + length b))
+      (placesFrom tag s fuel (at + length c + length b))
+  unfolding placesFrom afterHead
+  walked s at e tag fuel = rw (e, head-is at)
 
 module _ (sc : Schema) (levels n : ℕ) (s : List ℕ) where
   pub each-held : (cut : Cut) (at : ℕ) → drop at s ≡ joined cut → Allowed sc n cut → cuts.depth cut ≤ suc levels
@@ -110,39 +108,37 @@ module _ (sc : Schema) (levels n : ℕ) (s : List ℕ) where
 abbrev pub placeOf : Outer → Span
 placeOf o = record { start = o .start; end = o .start + o .length }
 
-module _ (sc : Schema) (n t : ℕ) where
+module _ (sc : Schema) (n t : ℕ) (s : List ℕ) where
   -- The places of the outermost fields with a tag are those that the walk finds.
-  found-at : (cut : Cut) (fuel at : ℕ) → Allowed sc n cut → length (joined cut) < fuel
-      → placesFrom t fuel at (joined cut) ≡ map placeOf (withTag itemOf t (outermost sc n at cut))
-  unfolding placesFrom afterPart part partFrom outermost withTag joined Allowed itemTag
-  found-at Cut.end zero at a h = absurd (omega arith)
-  found-at Cut.end (suc fuel) at a h = rw control-nil
-  found-at (Cut.leaf tag c b rest) zero at a h = absurd (omega arith)
-  found-at (Cut.leaf tag c b rest) (suc fuel) at a h =
+  found-at : (cut : Cut) (fuel at : ℕ) → drop at s ≡ joined cut → Allowed sc n cut → length (joined cut) < fuel
+      → placesFrom t s fuel at ≡ map placeOf (withTag itemOf t (outermost sc n at cut))
+  unfolding placesFrom afterHead headAt headFrom outermost withTag joined Allowed itemTag
+  found-at Cut.end zero at e a h = absurd (omega arith)
+  found-at Cut.end (suc fuel) at e a h = rw (e, control-nil)
+  found-at (Cut.leaf tag c b rest) zero at e a h = absurd (omega arith)
+  found-at (Cut.leaf tag c b rest) (suc fuel) at e a h =
       let f = a .0 in
       let k = positive c b (joined rest) tag (f .whole) in
       let l : length (c ++ b ++ joined rest) ≡ length c + length b + length (joined rest) = simp length-append (omega arith) in
-      let i = found-at rest fuel (at + length c + length b) (a .1) (omega arith) in
-      walked c b (joined rest) tag (f .whole) t fuel at ∙ rw i
+      let i = found-at rest fuel (at + length c + length b) (parts c b (joined rest) tag (f .whole) s at e .rest) (a .1) (omega arith) in
+      walked c b (joined rest) tag (f .whole) s at e t fuel ∙ rw i
       (sym (map-withTag placeOf itemOf t (record { item = Item.leaf tag (value (sc .means n tag) b); start = at + length c; length = length b })
       (outermost sc n (at + length c + length b) rest)))
-  found-at (Cut.nested tag c inner rest) zero at a h = absurd (omega arith)
-  found-at (Cut.nested tag c inner rest) (suc fuel) at a h =
+  found-at (Cut.nested tag c inner rest) zero at e a h = absurd (omega arith)
+  found-at (Cut.nested tag c inner rest) (suc fuel) at e a h =
       let f = a .0 .1 in
       let b = joined inner in
       let k = positive c b (joined rest) tag (f .whole) in
       let l : length (c ++ b ++ joined rest) ≡ length c + length b + length (joined rest) = simp length-append (omega arith) in
-      let i = found-at rest fuel (at + length c + length b) (a .1) (omega arith) in
-      walked c b (joined rest) tag (f .whole) t fuel at ∙ rw i
+      let i = found-at rest fuel (at + length c + length b) (parts c b (joined rest) tag (f .whole) s at e .rest) (a .1) (omega arith) in
+      walked c b (joined rest) tag (f .whole) s at e t fuel ∙ rw i
       (sym (map-withTag placeOf itemOf t
       (record { item = Item.nested tag (tree sc (innerOf (sc .means n tag)) inner); start = at + length c; length = length b })
       (outermost sc n (at + length c + length b) rest)))
 
-  pub places-are : (levels : ℕ) (s : List ℕ) (cut : Cut) → Good sc levels n s cut → places t s ≡ map placeOf (withTag itemOf t (outermost sc n 0 cut))
+  pub places-are : (levels : ℕ) (cut : Cut) → Good sc levels n s cut → places t s ≡ map placeOf (withTag itemOf t (outermost sc n 0 cut))
   unfolding places
-  places-are levels s cut g =
-      subst (λ (r : List ℕ). placesFrom t (suc (length r)) 0 r ≡ map placeOf (withTag itemOf t (outermost sc n 0 cut))) (g .divides)
-      (found-at cut (suc (length (joined cut))) 0 (g .allowed) (omega arith))
+  places-are levels cut g = let l = ap length (g .divides) in found-at cut (suc (length s)) 0 (sym (g .divides)) (g .allowed) (omega arith)
 
 -- A tag has at most two octets.
 pub small-tags : (sc : Schema) (n : ℕ) (cut : Cut) (at : ℕ) → Allowed sc n cut → Octets (joined cut)

@@ -1,5 +1,5 @@
 -- Passing over the fields of an accepted message: what has been passed is the front of the shortest form.
-use Prim.Native.Nat.{ℕ, suc, _+_, _%_, _≤_, _<_}
+use Prim.Native.Nat.{ℕ, suc, _+_, _%_, _≤_}
 use native.Mathlib.Nat.{mod-eq-of-lt}
 use native.Mathlib.Omega.{arith}
 use mathlib.Core.Path.{_≡_, sym, ap, _∙_}
@@ -9,6 +9,7 @@ use Rattle.octets.specs.Number.{Octets}
 use Rattle.octets.proofs.Number.{octets-part}
 use Rattle.octets.proofs.ControlPart.{part-of-control, part-bounds}
 use Rattle.hproto_table.specs.Schema.{Schema}
+use Rattle.hproto_table.specs.declared.Meaning.{Meaning}
 use Rattle.hproto_table.specs.declared.Meaning.the-variants.{Message}
 use Rattle.hproto_message.specs.Cut.{Cut, Contents, Good}
 use Rattle.hproto_message.specs.Tree.{Tree, value, tree}
@@ -16,10 +17,12 @@ use Rattle.hproto_message.specs.internal.Accepts.{Accepts}
 use Rattle.hproto_message.specs.Shortest.{leastContents, field, shortest}
 use Rattle.hproto_message.proofs.Accepted.{good-accepted, accepts-good, good-accepts}
 use Rattle.hproto_message.proofs.Next.{Plain}
-use Rattle.hproto_field.specs.internal.Fronts.{front}
-use Rattle.hproto_field.specs.declared.Field.{Field}
+use Rattle.hproto_field.specs.internal.Heads.{headAt}
+use Rattle.hproto_field.specs.declared.Head.{Head}
+use Rattle.hproto_field.specs.declared.Head.the-variants.{Field}
+use Rattle.hproto_field.proofs.Heads.{Fieldless}
 use Rattle.hproto_field.proofs.Passing as fields
-use Rattle.hproto_field.proofs.Passing.{Left, all-left, none-left, front-is, leaf-next, nested-next}
+use Rattle.hproto_field.proofs.Passing.{Left, all-left, none-left, here, leaf-next, nested-next}
 use Rattle.message_calls.specs.Written.{shortestOf}
 use Rattle.message_calls.specs.internal.Stores.{short}
 
@@ -39,69 +42,63 @@ module _ (sc : Schema) (levels n : ℕ) (s : List ℕ) where
       let g = accepts-good sc (suc levels) n s a in
       record { left = all-left sc levels n s (g .0) (g .1); whole = short-is sc (suc levels) n s (g .0) (g .1) }
 
-  pub all-passed : (i : ℕ) (written : List ℕ) → Passed i written → length s ≤ i → short sc (suc levels) n s ≡ written
+  pub all-passed : (i : ℕ) (written : List ℕ) → Passed i written → (h : Head) → headAt i (drop i s) ≡ h → Fieldless h
+      → short sc (suc levels) n s ≡ written
   unfolding tree shortest
-  all-passed i written p h =
-      p .whole ∙ ap (λ (c : Cut). written ++ shortest (tree sc n c)) (none-left sc levels n s i (p .left) h) ∙ append-nil written
+  all-passed i written p h e q =
+      p .whole ∙ ap (λ (c : Cut). written ++ shortest (tree sc n c)) (none-left sc levels n s i (p .left) h e q) ∙ append-nil written
 
-  module _ (i : ℕ) (written : List ℕ) (p : Passed i written) (more : i < length s) (f : Field) (found : f ≡ front sc n (drop i s)) where
-    -- The field's octets, counted from the start of the message.
+  module _ (i : ℕ) (written : List ℕ) (p : Passed i written) (tag start stop : ℕ) (found : headAt i (drop i s) ≡ Field tag start stop) where
+    -- The field's contents.
     abbrev pub part : List ℕ
-    part = fields.part sc levels n s i (p .left) more f found
+    part = fields.part sc levels n s i (p .left) tag start stop found
 
-    -- The field ends within the message, and its tag has at most two octets.
-    pub record Ends : Type 0 where
-      pub onward : i < i + f .control + f .contents
-      pub inside : i + f .control + f .contents ≤ length s
-      pub tag-small : f .tag % 65536 ≡ f .tag
+    -- Its tag has at most two octets.
+    pub tag-small : Octets s → tag % 65536 ≡ tag
+    tag-small o =
+        let x = here sc levels n s i (p .left) tag start stop found in
+        mod-eq-of-lt
+        (part-bounds (take (x .size) (drop i s)) tag (x .len) (octets-part (x .size) i s o)
+        (part-of-control (drop i s) tag (x .len) (x .size) (x .control-part)) .0)
 
-    pub ends : Octets s → Ends
-    ends o =
-        let e = front-is sc levels n s i (p .left) more f found .0 in
-        let w = fields.ends sc levels n s i (p .left) more f found in
-        let b = part-bounds (take (f .control) (drop i s)) (f .tag) (f .contents) (octets-part (f .control) i s o)
-        (part-of-control (drop i s) (f .tag) (f .contents) (f .control) e) .0 in
-        record { onward = w .0; inside = w .1; tag-small = mod-eq-of-lt b }
+    module _ (k : Meaning) (means : k ≡ sc .means n tag) where
+      -- A field that is no message: its least form is the next part of the shortest form.
+      pub leaf-passed : Plain k → Passed stop (written ++ field tag (leastContents (value k part)))
+      unfolding shortest
+      leaf-passed q =
+          let x = leaf-next sc levels n s i (p .left) tag start stop found k means q in
+          record {
+            left = x .left;
+            whole =
+                p .whole ∙ ap (λ (y : Tree). written ++ shortest y) (x .tree-is)
+                ∙ sym (append-assoc written (field tag (leastContents (value k part))) (shortest (tree sc n (x .left .rest))));
+          }
 
-    -- A field that is no message: its least form is the next part of the shortest form.
-    pub leaf-passed : Plain (f .kind)
-        → Passed (i + f .control + f .contents) (written ++ field (f .tag) (leastContents (value (f .kind) part)))
-    unfolding shortest
-    leaf-passed q =
-        let x = leaf-next sc levels n s i (p .left) more f found q in
-        let v = value (f .kind) part in
-        record {
-          left = x .left;
-          whole =
-              p .whole ∙ ap (λ (y : Tree). written ++ shortest y) (x .tree-is)
-              ∙ sym (append-assoc written (field (f .tag) (leastContents v)) (shortest (tree sc n (x .left .rest))));
-        }
+      pub leaf-contents : Plain k → Contents k part
+      leaf-contents q = leaf-next sc levels n s i (p .left) tag start stop found k means q .contents
 
-    pub leaf-contents : Plain (f .kind) → Contents (f .kind) part
-    leaf-contents q = leaf-next sc levels n s i (p .left) more f found q .contents
+      -- A field that is a message of the number m: it is accepted, and its shortest form with a control part is the next part.
+      pub record NestedPassed (m : ℕ) : Type 0 where
+        pub accepts : Accepts sc levels m part
+        pub passed : Passed stop (written ++ field tag (short sc levels m part))
+        pub positive : 1 ≤ levels
 
-    -- A field that is a message of the number m: it is accepted, and its shortest form with a control part is the next part.
-    pub record NestedPassed (m : ℕ) : Type 0 where
-      pub accepts : Accepts sc levels m part
-      pub passed : Passed (i + f .control + f .contents) (written ++ field (f .tag) (short sc levels m part))
-      pub positive : 1 ≤ levels
-
-    pub nested-passed : (m : ℕ) → f .kind ≡ Message m → NestedPassed m
-    unfolding shortest
-    nested-passed m q =
-        let x = nested-next sc levels n s i (p .left) more f found m q in
-        let e = short-is sc levels m part (x .inner) (x .good-inner) in
-        record {
-          accepts = good-accepts sc levels m part (x .inner) (x .good-inner);
-          passed =
-              record {
-                left = x .left;
-                whole =
-                    p .whole ∙ ap (λ (y : Tree). written ++ shortest y) (x .tree-is)
-                    ∙ rw (← e) (sym (append-assoc written (field (f .tag) (short sc levels m part)) (shortest (tree sc n (x .left .rest)))));
-              };
-          positive = x .positive;
-        }
+      pub nested-passed : (m : ℕ) → k ≡ Message m → NestedPassed m
+      unfolding shortest
+      nested-passed m q =
+          let x = nested-next sc levels n s i (p .left) tag start stop found k means m q in
+          let e = short-is sc levels m part (x .inner) (x .good-inner) in
+          record {
+            accepts = good-accepts sc levels m part (x .inner) (x .good-inner);
+            passed =
+                record {
+                  left = x .left;
+                  whole =
+                      p .whole ∙ ap (λ (y : Tree). written ++ shortest y) (x .tree-is)
+                      ∙ rw (← e) (sym (append-assoc written (field tag (short sc levels m part)) (shortest (tree sc n (x .left .rest)))));
+                };
+            positive = x .positive;
+          }
 
   -- What has been passed is no longer than the whole.
   pub passed-length : (i : ℕ) (written : List ℕ) → Passed i written → length written ≤ length (short sc (suc levels) n s)

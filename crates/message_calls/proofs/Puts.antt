@@ -1,18 +1,19 @@
 -- A field is stored as its control part and then its contents.
-use Prim.Native.Nat.{ℕ, _+_, _*_, _-_, _%_, _≤_, _<_}
+use Prim.Native.Nat.{ℕ, suc, _+_, _*_, _-_, _/_, _%_, _≤_, _<_}
 use native.Mathlib.Nat.{div-one}
+use native.Mathlib.Numerals.{add-one}
 use native.Mathlib.Omega.{arith}
 use mathlib.Core.Path.{_≡_, sym, ap, _∙_}
 use mathlib.Core.List.{List, [], _∷_}
 use lib.ListN.{length, set}
 use lib.IntN.{ℤ}
-use borrow.Author.Tests.{lt-ltb}
+use borrow.Author.Tests.{lt-ltb, le-ltb}
 use Rattle.octets.specs.Number.{number, octetsOf, leastUint}
 use Rattle.octets.specs.internal.Least.{uintWidthBits, intWidthBits}
 use Rattle.octets.specs.internal.Bounded.{unsigned, signed}
 use Rattle.octets.specs.Signed.{integer, leastInt}
 use Rattle.octets.specs.declared.Least.{Least}
-use Rattle.octets.specs.Control.{leastCode, leastControl}
+use Rattle.octets.specs.Control.{firstFit, leastCode, leastControl}
 use Rattle.octets.proofs.Number.{length-octetsOf, unsigned-is, uint-octets}
 use Rattle.octets.proofs.Integer.{signed-is, int-octets}
 use Rattle.hproto_store.specs.Store.{stored}
@@ -32,6 +33,20 @@ control-some tag n = omega arith
 pub control-direct : (tag n : ℕ) → tag < 14 → n < 12 → leastControl tag n ≡ (tag * 16 + n) ∷ []
 unfolding leastControl leastCode
 control-direct tag n h k = rw (lt-ltb tag 14 h, lt-ltb n 12 k)
+
+-- A control part whose length stands in its first octet and whose tag takes one octet more, or two.
+pub control-one : (tag n : ℕ) → 14 ≤ tag → tag < 256 → n < 12 → leastControl tag n ≡ (224 + n) ∷ tag ∷ []
+unfolding leastControl leastCode firstFit octetsOf
+control-one tag n a b h =
+    let e : tag / 1 % 256 ≡ tag = omega arith in
+    rw (le-ltb tag 14 a, lt-ltb n 12 h, lt-ltb tag 256 b, e)
+
+pub control-two : (tag n : ℕ) → 256 ≤ tag → tag < 65536 → n < 12 → leastControl tag n ≡ (240 + n) ∷ (tag / 256) ∷ (tag % 256) ∷ []
+unfolding leastControl leastCode firstFit octetsOf
+control-two tag n a b h =
+    let e : tag / 256 % 256 ≡ tag / 256 = omega arith in
+    let f : tag / 1 % 256 ≡ tag % 256 = omega arith in
+    rw (le-ltb tag 14 (omega arith), lt-ltb n 12 h, le-ltb tag 256 a, lt-ltb tag 65536 b, e, f)
 
 -- A store of one octet.
 one-stored : (d : List ℕ) (at x : ℕ) → at < length d → set d at x ≡ stored d at (x ∷ [])
@@ -57,6 +72,23 @@ module _ (d : List ℕ) (to tag n : ℕ) (t : tag < 14) (l : n < 12) where
       let e = direct-size in
       let i : to < length d = omega arith in
       (omega arith, rw (control-direct tag n t l, moved-nowhere d (to + 1) n (omega arith)) (one-stored d to (tag * 16 + n) i))
+
+-- A control part of two octets, and one of three.
+pub one-put : (d : List ℕ) (to tag n : ℕ) → 14 ≤ tag → tag < 256 → n < 12 → to + length (leastControl tag n) ≤ length d
+    → Put d to (leastControl tag n) (to + 2) (set (set d to (224 + n)) (to + 1) tag)
+one-put d to tag n a b h k =
+    let e = control-one tag n a b h in
+    let l = ap length e in
+    record { place = rw e; buffer = rw (e, add-one) (sym (stored-fits d to ((224 + n) ∷ tag ∷ []) (omega arith))) }
+
+pub two-put : (d : List ℕ) (to tag n : ℕ) → 256 ≤ tag → tag < 65536 → n < 12 → to + length (leastControl tag n) ≤ length d
+    → Put d to (leastControl tag n) (to + 3) (set (set (set d to (240 + n)) (to + 1) (tag / 256)) (to + 2) (tag % 256))
+two-put d to tag n a b h k =
+    let e = control-two tag n a b h in
+    let l = ap length e in
+    let i : to + 1 ≡ suc to = omega arith in
+    let j : to + 2 ≡ suc (suc to) = omega arith in
+    record { place = rw e; buffer = rw (e, i, j) (sym (stored-fits d to ((240 + n) ∷ (tag / 256) ∷ (tag % 256) ∷ []) (omega arith))) }
 
 -- A number of one octet.
 pub one-digit : (d : List ℕ) (at w v : ℕ) → w ≡ 1 → at + length (octetsOf w v) ≤ length d → Put d at (octetsOf w v) (at + 1) (set d at (v % 256))

@@ -5,13 +5,13 @@ use mathlib.Core.Path.{_≡_, refl, ap, _∙_}
 use mathlib.Core.List.{List, [], _∷_}
 use mathlib.Core.Option.{Option, none, some}
 use lib.ListN.{length, drop, getElem?, length-drop}
-use lib.Seq.{drop-drop}
 use borrow.Author.Tests.{eq-eqb, ne-eqb}
-use Rattle.hproto_field.specs.internal.Fronts.{part}
-use Rattle.hproto_field.specs.declared.Extent.the-variants.{None, Found}
-use Rattle.hproto_field.proofs.Fields.{part-bounds}
+use Rattle.hproto_field.specs.internal.Heads.{headAt}
+use Rattle.hproto_field.specs.declared.Head.{Head}
+use Rattle.hproto_field.specs.declared.Head.the-variants.{End, Fault, Field}
+use Rattle.hproto_field.proofs.Heads.{extent, Fieldless}
 use Rattle.message_calls.specs.Lookup.{lastOr}
-use Rattle.message_calls.specs.internal.Spots.{Span, afterPart, placesFrom, places, spotOf, nthSpot, lastSpot}
+use Rattle.message_calls.specs.internal.Spots.{Span, afterHead, placesFrom, places, spotOf, nthSpot, lastSpot}
 use Rattle.message_calls.specs.declared.outermost.Spot.{Spot}
 use Rattle.message_calls.specs.declared.outermost.Spot.the-variants as spot
 
@@ -32,7 +32,7 @@ module _ (tag : ℕ) (s : List ℕ) where
 
   -- The places from i on.
   unfoldable pub rest : (i : ℕ) → Ahead i → List Span
-  rest i a = placesFrom tag (a .fuel) i (drop i s)
+  rest i a = placesFrom tag s (a .fuel) i
 
   at-start : Ahead 0
   at-start = record { fuel = suc (length s); inside = omega arith; enough = omega arith }
@@ -41,46 +41,45 @@ module _ (tag : ℕ) (s : List ℕ) where
   unfolding places rest at-start
   all-ahead = refl
 
-  none-ahead : (i : ℕ) (a : Ahead i) → part (drop i s) ≡ None → rest i a ≡ []
-  unfolding rest placesFrom afterPart
-  none-ahead i a e = go (a .fuel)
+  -- No field stands at i.
+  none-ahead : (i : ℕ) (a : Ahead i) (h : Head) → headAt i (drop i s) ≡ h → Fieldless h → rest i a ≡ []
+  unfolding rest placesFrom afterHead Fieldless
+  none-ahead i a h e q = go (a .fuel)
     where
-      go : (fuel : ℕ) → placesFrom tag fuel i (drop i s) ≡ []
+      nothing : (fuel : ℕ) (h : Head) → Fieldless h → afterHead tag (placesFrom tag s fuel) h ≡ []
+      nothing fuel End q = refl
+      nothing fuel (Fault k) q = refl
+      nothing fuel (Field t start end) q = absurd q
+
+      go : (fuel : ℕ) → placesFrom tag s fuel i ≡ []
       go zero = refl
-      go (suc fuel) = rw e
+      go (suc fuel) = rw e (nothing fuel h q)
 
   -- The field at i is passed.
-  module _ (i : ℕ) (a : Ahead i) (t size len : ℕ) (e : part (drop i s) ≡ Found t size len) where
+  module _ (i : ℕ) (a : Ahead i) (t start end : ℕ) (e : headAt i (drop i s) ≡ Field t start end) where
     pub record Onward : Type 0 where
-      pub further : i < i + size + len
-      pub start-further : i < i + size
-      pub start-inside : i + size ≤ length s
-      pub end-inside : i + size + len ≤ length s
-      pub ahead : Ahead (i + size + len)
-      pub matched : t ≡ tag → rest i a ≡ record { start = i + size; end = i + size + len } ∷ rest (i + size + len) ahead
-      pub other : (t ≡ tag → ⊥) → rest i a ≡ rest (i + size + len) ahead
+      pub further : i < end
+      pub end-inside : end ≤ length s
+      pub ahead : Ahead end
+      pub matched : t ≡ tag → rest i a ≡ record { start = start; end = end } ∷ rest end ahead
+      pub other : (t ≡ tag → ⊥) → rest i a ≡ rest end ahead
 
     pub onward : Onward
-    unfolding rest placesFrom afterPart
+    unfolding rest placesFrom afterHead
     onward = go (a .fuel) (a .enough) refl
       where
         go : (fuel : ℕ) → length s < i + fuel → a .fuel ≡ fuel → Onward
         go zero h f = let k = a .inside in absurd (omega arith)
         go (suc fuel) h f =
-            let b = part-bounds (drop i s) t size len e in
-            let x = b .positive in
-            let z = b .inside in
-            let w : i + (size + len) ≡ i + size + len = omega arith in
+            let x = extent i (drop i s) t start end e in
             let d = length-drop i s in
             let k = a .inside in
             record {
               further = omega arith;
-              start-further = omega arith;
-              start-inside = omega arith;
               end-inside = omega arith;
               ahead = record { fuel = fuel; inside = omega arith; enough = omega arith };
-              matched = λ m. rw (f, e, eq-eqb t tag m, drop-drop (size + len) i s, w);
-              other = λ m. rw (f, e, ne-eqb t tag m, drop-drop (size + len) i s, w);
+              matched = λ m. rw (f, e, eq-eqb t tag m);
+              other = λ m. rw (f, e, ne-eqb t tag m);
             }
 
   -- The k-th place is the `left`-th of those from i on.
@@ -91,31 +90,31 @@ module _ (tag : ℕ) (s : List ℕ) where
   pub nothing-sought : (k : ℕ) → Sought k 0 k
   nothing-sought k = record { ahead = at-start; same = ap (λ (l : List Span). getElem? l k) all-ahead }
 
-  pub not-there : (k i left : ℕ) → Sought k i left → part (drop i s) ≡ None → spot.Absent ≡ nthSpot tag k s
+  pub not-there : (k i left : ℕ) → Sought k i left → (h : Head) → headAt i (drop i s) ≡ h → Fieldless h → spot.Absent ≡ nthSpot tag k s
   unfolding nthSpot spotOf
-  not-there k i left q e = rw (q .same, none-ahead i (q .ahead) e)
+  not-there k i left q h e f = rw (q .same, none-ahead i (q .ahead) h e f)
 
-  module _ (k i left : ℕ) (q : Sought k i left) (t size len : ℕ) (e : part (drop i s) ≡ Found t size len) where
-    next : Onward i (q .ahead) t size len e
-    next = onward i (q .ahead) t size len e
+  module _ (k i left : ℕ) (q : Sought k i left) (t start end : ℕ) (e : headAt i (drop i s) ≡ Field t start end) where
+    next : Onward i (q .ahead) t start end e
+    next = onward i (q .ahead) t start end e
 
-    pub other-passed : (t ≡ tag → ⊥) → Sought k (i + size + len) left
+    pub other-passed : (t ≡ tag → ⊥) → Sought k end left
     other-passed m = record { ahead = next .ahead; same = q .same ∙ ap (λ (l : List Span). getElem? l left) (next .other m) }
 
-    pub reached : t ≡ tag → left ≡ 0 → spot.At (i + size) (i + size + len) ≡ nthSpot tag k s
+    pub reached : t ≡ tag → left ≡ 0 → spot.At start end ≡ nthSpot tag k s
     unfolding nthSpot spotOf
     reached m z =
-        let f : getElem? (places tag s) k ≡ some (record { start = i + size; end = i + size + len }) =
-        q .same ∙ ap (λ (l : List Span). getElem? l left) (next .matched m) ∙ first-is (record { start = i + size; end = i + size + len }) (rest (i + size + len) (next .ahead)) left z in
+        let f : getElem? (places tag s) k ≡ some (record { start = start; end = end }) =
+        q .same ∙ ap (λ (l : List Span). getElem? l left) (next .matched m) ∙ first-is (record { start = start; end = end }) (rest end (next .ahead)) left z in
         rw f
 
-    pub one-passed : t ≡ tag → (left ≡ 0 → ⊥) → Sought k (i + size + len) (left - 1)
+    pub one-passed : t ≡ tag → (left ≡ 0 → ⊥) → Sought k end (left - 1)
     one-passed m z =
         record {
           ahead = next .ahead;
           same =
               q .same ∙ ap (λ (l : List Span). getElem? l left) (next .matched m)
-              ∙ later-is (record { start = i + size; end = i + size + len }) (rest (i + size + len) (next .ahead)) left z;
+              ∙ later-is (record { start = start; end = end }) (rest end (next .ahead)) left z;
         }
 
   -- `best` is the last place before i, if there is one.
@@ -129,23 +128,23 @@ module _ (tag : ℕ) (s : List ℕ) where
   unfolding spotOf
   nothing-held = record { ahead = at-start; held = none; best-is = refl; same = ap (lastOr none) all-ahead }
 
-  pub settled : (i : ℕ) (best : Spot) → Latest i best → part (drop i s) ≡ None → best ≡ lastSpot tag s
+  pub settled : (i : ℕ) (best : Spot) → Latest i best → (h : Head) → headAt i (drop i s) ≡ h → Fieldless h → best ≡ lastSpot tag s
   unfolding lastSpot lastOr
-  settled i best q e = rw (q .best-is, q .same, none-ahead i (q .ahead) e)
+  settled i best q h e f = rw (q .best-is, q .same, none-ahead i (q .ahead) h e f)
 
-  module _ (i : ℕ) (best : Spot) (q : Latest i best) (t size len : ℕ) (e : part (drop i s) ≡ Found t size len) where
-    after : Onward i (q .ahead) t size len e
-    after = onward i (q .ahead) t size len e
+  module _ (i : ℕ) (best : Spot) (q : Latest i best) (t start end : ℕ) (e : headAt i (drop i s) ≡ Field t start end) where
+    after : Onward i (q .ahead) t start end e
+    after = onward i (q .ahead) t start end e
 
-    pub kept : (t ≡ tag → ⊥) → Latest (i + size + len) best
+    pub kept : (t ≡ tag → ⊥) → Latest end best
     kept m = record { ahead = after .ahead; held = q .held; best-is = q .best-is; same = q .same ∙ ap (lastOr (q .held)) (after .other m) }
 
-    pub taken : t ≡ tag → Latest (i + size + len) (spot.At (i + size) (i + size + len))
+    pub taken : t ≡ tag → Latest end (spot.At start end)
     unfolding lastOr spotOf
     taken m =
         record {
           ahead = after .ahead;
-          held = some (record { start = i + size; end = i + size + len });
+          held = some (record { start = start; end = end });
           best-is = refl;
           same = q .same ∙ rw (after .matched m);
         }

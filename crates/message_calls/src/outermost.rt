@@ -1,11 +1,9 @@
 // Lookup: the k-th or the last of the outermost fields of a message that have a tag.
 use crate::Found;
 use crate::traversal;
-use hproto_field::Extent;
+use hproto_field::Head;
 use hproto_table::Table;
-use octets::Control;
 ghost use mathlib.Core.Path.{_≡_};
-ghost use Rattle.hproto_field.specs.internal.Fronts.{part};
 ghost use Rattle.message_calls.specs.Lookup.{refusal, answer};
 ghost use Rattle.table_index.specs.internal.Cells.{indexed};
 ghost use Rattle.message_calls.specs.internal.LookupUnder.{answerUnder, lookupUnder, lookupLastUnder};
@@ -38,26 +36,6 @@ pub(crate) fn refused(number: u64, place: u64) -> Found
     }
 }
 
-// The tag of the whole field at the front of octets and the sizes of its control part and of its contents, if there is one. `part` of
-// hproto_field is the same. It is not shared: with this caller too, the compiler would no longer put it into `field_in`, which the
-// shortener calls for each field.
-fn front(s: &[u8]) -> Extent
-    ensures { λ r. ⌜ r ≡ part (now (s .entry)) ⌝ }
-{
-    match octets_read::control(s) {
-        Control::Absent => Extent::None,
-        Control::Partial => Extent::None,
-        Control::Whole { tag, length, size } => {
-            let start = size as usize;
-            let rest = (s.len() - start) as u64;
-            if rest < length {
-                return Extent::None;
-            }
-            Extent::Found(tag, start, length as usize)
-        }
-    }
-}
-
 // The k-th field with a tag. Each field is passed as a whole, so none inside a nested message is looked at. What a tag means is not asked:
 // where a field ends does not depend on it, and the table would be searched for every field that is passed.
 fn nth(s: &[u8], tag: u64, k: u64) -> Spot
@@ -66,20 +44,17 @@ fn nth(s: &[u8], tag: u64, k: u64) -> Spot
     let mut i: usize = 0;
     let mut left = k;
     loop {
-        match front(&s[i..]) {
-            Extent::None => {
-                return Spot::Absent;
-            }
-            Extent::Found(t, control, contents) => {
-                let a = i + control;
-                i = a + contents;
+        match hproto_field::head_at(s, i, s.len()) {
+            Head::Field { tag: t, start, end } => {
+                i = end;
                 if t == tag {
                     if left == 0 {
-                        return Spot::At { start: a, end: i };
+                        return Spot::At { start, end };
                     }
                     left = left - 1;
                 }
             }
+            _ => return Spot::Absent,
         }
     }
 }
@@ -91,20 +66,21 @@ fn last(s: &[u8], tag: u64) -> Spot
     let mut i: usize = 0;
     let mut best = Spot::Absent;
     loop {
-        match front(&s[i..]) {
-            Extent::None => {
-                return best;
-            }
-            Extent::Found(seen, control, contents) => {
-                let first = i + control;
-                i = first + contents;
+        match hproto_field::head_at(s, i, s.len()) {
+            Head::Field {
+                tag: seen,
+                start: first,
+                end: after,
+            } => {
+                i = after;
                 if seen == tag {
                     best = Spot::At {
                         start: first,
-                        end: i,
+                        end: after,
                     };
                 }
             }
+            _ => return best,
         }
     }
 }

@@ -2,20 +2,19 @@
 use crate::Shortened;
 use crate::sizes;
 use crate::traversal;
-use hproto_field::Field;
-use hproto_field::Holds;
-use hproto_table::Meaning;
+use hproto_field::Head;
+use octets::Control;
 use octets::Least;
 ghost use mathlib.Core.Path.{_≡_};
 ghost use Prim.Native.Nat.{_+_, _*_, _-_, _≤_, _<_};
-ghost use lib.ListN.{length};
+ghost use lib.ListN.{length, drop};
 ghost use Rattle.octets.specs.Number.{Octets, number as number-of, octetsOf, leastUint};
 ghost use Rattle.octets.specs.Signed.{integer, leastInt};
 ghost use Rattle.octets.specs.Control.{leastControl};
 ghost use Rattle.hproto_store.specs.Store.{stored};
 ghost use Rattle.hproto_store.specs.internal.Moved.{moved};
-ghost use Rattle.table_index.specs.internal.Cells.{indexed};
-ghost use Rattle.hproto_field.specs.internal.Fronts.{front as front-of};
+ghost use Rattle.table_index.specs.internal.Cells.{meaningOf, indexed};
+ghost use Rattle.hproto_field.specs.internal.Heads.{headAt};
 ghost use Rattle.hproto_message.specs.Cut.{Contents};
 ghost use Rattle.hproto_message.specs.internal.Accepts.{Accepts};
 ghost use Rattle.hproto_message.specs.Tree.{value};
@@ -45,6 +44,27 @@ fn one_octet(tag: u16, n: usize) -> u8
     ((tag as u8) << 4) + (n as u8)
 }
 
+// Stores a control part of two octets or more and answers the place after it. One whose length stands in its first octet is stored with no
+// loop: the fields of a message with large tags have such.
+fn wide_front(tag: u16, n: usize, out: &mut [u8], to: usize) -> usize
+    requires { ⌜ to + length (leastControl tag n) ≤ length (now out) ⌝ }
+    ensures { λ r. ⌜ Put (now (out .entry)) to (leastControl tag n) r (now (out .exit)) ⌝ }
+{
+    if tag < 14 || 12 <= n {
+        hproto_put::put_control(out, to, tag, n as u64);
+        return to + hproto_put::control_size(tag, n as u64);
+    }
+    if tag < 256 {
+        out[to] = 224 + (n as u8);
+        out[to + 1] = tag as u8;
+        return to + 2;
+    }
+    out[to] = 240 + (n as u8);
+    out[to + 1] = (tag >> 8) as u8;
+    out[to + 2] = (tag % 256) as u8;
+    to + 3
+}
+
 // Stores the least control part and answers the place after it. Most take one octet, which needs no call.
 fn put_front(tag: u16, n: usize, out: &mut [u8], to: usize) -> usize
     requires { ⌜ to + length (leastControl tag n) ≤ length (now out) ⌝ }
@@ -54,8 +74,7 @@ fn put_front(tag: u16, n: usize, out: &mut [u8], to: usize) -> usize
         out[to] = one_octet(tag, n);
         return to + 1;
     }
-    hproto_put::put_control(out, to, tag, n as u64);
-    to + hproto_put::control_size(tag, n as u64)
+    wide_front(tag, n, out, to)
 }
 
 // A field whose contents are the octets of a number.
@@ -106,20 +125,19 @@ fn put_int(tag: u16, s: &[u8], out: &mut [u8], to: usize) -> usize
     put_least(tag, octets_least::int_least(v), out, to)
 }
 
-// A field that is no message, in its least form.
-fn put_value(kind: Meaning, tag: u16, s: &[u8], out: &mut [u8], to: usize) -> usize
-    requires { ⌜ Contents kind (now s) ⌝ }
-    requires { ⌜ to + length (field tag (leastContents (value kind (now s)))) ≤ length (now out) ⌝ }
-    ensures { λ r. ⌜ Put (now (out .entry)) to (field tag (leastContents (value kind (now (s .entry))))) r (now (out .exit)) ⌝ }
+// A field that is no message, in its least form, by the code of what its tag means.
+fn put_value(code: u64, tag: u16, s: &[u8], out: &mut [u8], to: usize) -> usize
+    requires { ⌜ Contents (meaningOf code) (now s) ⌝ }
+    requires { ⌜ to + length (field tag (leastContents (value (meaningOf code) (now s)))) ≤ length (now out) ⌝ }
+    ensures { λ r. ⌜ Put (now (out .entry)) to (field tag (leastContents (value (meaningOf code) (now (s .entry))))) r (now (out .exit)) ⌝ }
 {
-    match kind {
-        Meaning::Raw => put_plain(tag, s, out, to),
-        Meaning::Uint => put_uint(tag, s, out, to),
-        Meaning::Int => put_int(tag, s, out, to),
-        Meaning::String => put_plain(tag, s, out, to),
-        Meaning::Text => put_plain(tag, s, out, to),
-        Meaning::Message(_) => to,
+    if code == 1 {
+        return put_uint(tag, s, out, to);
     }
+    if code == 2 {
+        return put_int(tag, s, out, to);
+    }
+    put_plain(tag, s, out, to)
 }
 
 // Puts a control part before the n octets that stand behind room for one octet at `to`. They are final by then: the length that it says
@@ -135,28 +153,33 @@ fn wrap(tag: u16, out: &mut [u8], to: usize, n: usize) -> usize
     }
     let size = hproto_put::control_size(tag, n as u64);
     hproto_store::move_up(out, to + 1, n, size - 1);
-    hproto_put::put_control(out, to, tag, n as u64);
-    to + size + n
+    wide_front(tag, n, out, to) + n
 }
 
-// The field at the front of octets, its contents unread. Most control parts are one octet, so that case is tested first.
-fn next_field(cells: &[u32; 128], number: u64, s: &[u8]) -> Field
-    ensures { λ r. ⌜ r ≡ front-of (indexed (now (cells .entry))) number (now (s .entry)) ⌝ }
+// The field at the offset i of a message, as `hproto_field::head_at` answers it. That function has other callers, so the compiler would not
+// inline it into `write`, and the shortener then takes a fifth to a third longer.
+fn next_field(s: &[u8], i: usize) -> Head
+    ensures { λ r. ⌜ r ≡ headAt i (drop i (now (s .entry))) ⌝ }
 {
-    if 0 < s.len() {
-        let c = s[0];
-        let tag = (c >> 4) as u64;
-        let n = (c & 15) as usize;
-        if tag < 14 && n < 12 && n < s.len() {
-            return Field {
+    if s.len() <= i {
+        return Head::End;
+    }
+    match octets_read::control(&s[i..]) {
+        Control::Absent => Head::End,
+        Control::Partial => Head::Fault(3),
+        Control::Whole { tag, length, size } => {
+            let start = i + (size as usize);
+            let left = (s.len() - start) as u64;
+            if left < length {
+                return Head::Fault(4);
+            }
+            Head::Field {
                 tag,
-                kind: table_index::find(cells, number, tag),
-                control: 1,
-                contents: n,
-            };
+                start,
+                end: start + (length as usize),
+            }
         }
     }
-    hproto_field::field_in(cells, number, s)
 }
 
 // Writes the shortest form of an accepted message at `to` and answers the place after it. A nested message is written first, so that
@@ -168,27 +191,26 @@ fn write(cells: &[u32; 128], number: u64, levels: u64, s: &[u8], out: &mut [u8],
     ensures { λ r. ⌜ Put (now (out .entry)) to (short (indexed (now (cells .entry))) levels number (now (s .entry))) r (now (out .exit)) ⌝ }
 {
     let mut i: usize = 0;
-    let mut end = to;
-    while i < s.len() {
-        let f = next_field(cells, number, &s[i..]);
-        let kind = f.kind;
-        let a = i + f.control;
-        let e = a + f.contents;
-        // A tag is below 65,536, so that the remainder is the tag; it spares the proof of the cast.
-        let tag = (f.tag % 65536) as u16;
-        match hproto_field::held(kind) {
-            Holds::None => {
-                end = put_value(kind, tag, &s[a..e], out, end);
-                i = e;
+    let mut place = to;
+    loop {
+        match next_field(s, i) {
+            Head::Field { tag: t, start, end } => {
+                // A tag is below 65,536, so that the remainder is the tag; it spares the proof of the cast.
+                let tag = (t % 65536) as u16;
+                let cell = table_index::cell(cells, number, t);
+                let code = table_index::code(cell);
+                if code < 5 {
+                    place = put_value(code, tag, &s[start..end], out, place);
+                    i = end;
+                } else {
+                    let after = write(cells, code - 5, levels - 1, &s[start..end], out, place + 1);
+                    place = wrap(tag, out, place, after - (place + 1));
+                    i = end;
+                }
             }
-            Holds::Number(m) => {
-                let after = write(cells, m, levels - 1, &s[a..e], out, end + 1);
-                end = wrap(tag, out, end, after - (end + 1));
-                i = e;
-            }
+            _ => return place,
         }
     }
-    end
 }
 
 // The answer where the message is refused, or there is no room.

@@ -1,13 +1,12 @@
 // How many octets the shortest form of a message takes.
-use hproto_field::Holds;
-use hproto_table::Meaning;
+use hproto_field::Head;
 ghost use mathlib.Core.Path.{_≡_};
 ghost use Prim.Native.Nat.{_≤_};
 ghost use lib.ListN.{length};
 ghost use Rattle.reading.specs.Reading.{messageLimit};
 ghost use Rattle.octets.specs.Number.{Octets, number as number-of, leastUint};
 ghost use Rattle.octets.specs.Signed.{integer, leastInt};
-ghost use Rattle.table_index.specs.internal.Cells.{indexed};
+ghost use Rattle.table_index.specs.internal.Cells.{meaningOf, indexed};
 ghost use Rattle.hproto_message.specs.Cut.{Contents};
 ghost use Rattle.hproto_message.specs.internal.Accepts.{Accepts};
 ghost use Rattle.hproto_message.specs.Tree.{value};
@@ -37,28 +36,27 @@ fn int_size(s: &[u8]) -> usize
     octets_least::int_least(v).width as usize
 }
 
-// How many octets the least contents take.
-fn least_size(kind: Meaning, s: &[u8]) -> usize
-    requires { ⌜ Contents kind (now s) ⌝ }
-    ensures { λ r. ⌜ r ≡ length (leastContents (value kind (now (s .entry)))) ⌝ }
+// How many octets the least contents take, by the code of what the tag means.
+fn least_size(code: u64, s: &[u8]) -> usize
+    requires { ⌜ Contents (meaningOf code) (now s) ⌝ }
+    ensures { λ r. ⌜ r ≡ length (leastContents (value (meaningOf code) (now (s .entry)))) ⌝ }
 {
-    match kind {
-        Meaning::Raw => s.len(),
-        Meaning::Uint => uint_size(s),
-        Meaning::Int => int_size(s),
-        Meaning::String => s.len(),
-        Meaning::Text => s.len(),
-        Meaning::Message(_) => 0,
+    if code == 1 {
+        return uint_size(s);
     }
+    if code == 2 {
+        return int_size(s);
+    }
+    s.len()
 }
 
 // How many octets a field that is no message takes in its least form.
-fn value_size(kind: Meaning, tag: u16, s: &[u8]) -> usize
-    requires { ⌜ Contents kind (now s) ⌝ }
+fn value_size(code: u64, tag: u16, s: &[u8]) -> usize
+    requires { ⌜ Contents (meaningOf code) (now s) ⌝ }
     requires { ⌜ length (now s) ≤ messageLimit ⌝ }
-    ensures { λ r. ⌜ r ≡ length (field tag (leastContents (value kind (now (s .entry))))) ⌝ }
+    ensures { λ r. ⌜ r ≡ length (field tag (leastContents (value (meaningOf code) (now (s .entry))))) ⌝ }
 {
-    let n = least_size(kind, s);
+    let n = least_size(code, s);
     hproto_put::control_size(tag, n as u64) + n
 }
 
@@ -71,25 +69,24 @@ fn measure(cells: &[u32; 128], number: u64, levels: u64, s: &[u8]) -> usize
 {
     let mut i: usize = 0;
     let mut size: usize = 0;
-    while i < s.len() {
-        let f = hproto_field::field_in(cells, number, &s[i..]);
-        let kind = f.kind;
-        let a = i + f.control;
-        let e = a + f.contents;
-        let tag = (f.tag % 65536) as u16;
-        match hproto_field::held(kind) {
-            Holds::None => {
-                size = size + value_size(kind, tag, &s[a..e]);
-                i = e;
+    loop {
+        match hproto_field::head_at(s, i, s.len()) {
+            Head::Field { tag: t, start, end } => {
+                let tag = (t % 65536) as u16;
+                let cell = table_index::cell(cells, number, t);
+                let code = table_index::code(cell);
+                if code < 5 {
+                    size = size + value_size(code, tag, &s[start..end]);
+                    i = end;
+                } else {
+                    let n = measure(cells, code - 5, levels - 1, &s[start..end]);
+                    size = size + (hproto_put::control_size(tag, n as u64) + n);
+                    i = end;
+                }
             }
-            Holds::Number(m) => {
-                let n = measure(cells, m, levels - 1, &s[a..e]);
-                size = size + (hproto_put::control_size(tag, n as u64) + n);
-                i = e;
-            }
+            _ => return size,
         }
     }
-    size
 }
 
 // Whether the shortest form of an accepted message takes at most `len` octets. It is no longer than the message, so only a smaller

@@ -1,8 +1,11 @@
 -- `hproto_show::first` meets its contract.
+use Prim.Native.Nat.{_-_}
+use native.Mathlib.Omega.{arith}
 use borrow.Author.Needs.{needs}
 use denote.Ref.{now}
+use lib.ListN.{length, drop, length-drop}
+use lib.Seq.{take-all}
 use Rattle.text_window.proofs.Windows.{same-window}
-use Rattle.hproto_print.proofs.Counting.{left-octets}
 use Rattle.hproto_show.proofs.Order.{frame-inside, first-refused, table-refused, table-loaded}
 use Rattle.hproto_show.proofs.first.Statement.{statement}
 use Rattle.hproto_show.proofs.first.Tie as tie
@@ -77,7 +80,7 @@ returns-3 c =
     let a = c .before .before .before .before .before .before .before .before .before .before .before .before .before .before .before .args in
     let k = c .before .before .before .before .before .before .before .before .before .before .before .before .frame-read in
     let l = c .before .before .before .before .before .before .before .before .load in
-    let o = left-octets (k .result .end) (now (a .s)) in
+    let o = take-all (length (now (a .s)) - k .result .end) (drop (k .result .end) (now (a .s))) (simp length-drop (omega arith)) in
     same-window (now (a .out)) (a .from) (rw (← o) at (table-loaded (now (a .s)) (k .result) (k .ensures) (c .before .before .before .before .before .before .before .before .before .before .if1 .left) (l .result) (l .ensures) (c .before .before .before .before .before .before .if2 .left))) (c .before .before .second .ensures)
 
 pub first-spec : {M : Type 1} → statement M

@@ -1,6 +1,6 @@
 -- The walk over the outermost fields by their control parts alone, and what contents say by a kind's number. proofs/Outers.antt and
 -- proofs/LookupAnswers.antt show that in an accepted message these are the places and the values of Lookup.antt.
-use Prim.Native.Nat.{ℕ, zero, suc, _+_}
+use Prim.Native.Nat.{ℕ, zero, suc}
 use mathlib.Core.Bool.{cond}
 use mathlib.Core.List.{List, [], _∷_}
 use mathlib.Core.Option.{Option, none, some}
@@ -8,9 +8,9 @@ use lib.ListN.{length, drop, getElem?}
 use lib.IntN.{ℤ, pos}
 use lib.Dec.{eqb}
 use Rattle.octets.specs.internal.Bounded.{unsigned, signed}
-use Rattle.hproto_field.specs.internal.Fronts.{part}
-use Rattle.hproto_field.specs.declared.Extent.{Extent}
-use Rattle.hproto_field.specs.declared.Extent.the-variants as extent
+use Rattle.hproto_field.specs.internal.Heads.{headAt}
+use Rattle.hproto_field.specs.declared.Head.{Head}
+use Rattle.hproto_field.specs.declared.Head.the-variants as head
 use Rattle.message_calls.specs.Lookup.{lastOr}
 use Rattle.message_calls.specs.declared.outermost.Occurrence.{Occurrence}
 use Rattle.message_calls.specs.declared.outermost.Occurrence.the-variants.{Nth, Last}
@@ -23,21 +23,21 @@ pub record Span : Type 0 where
   pub start : ℕ
   pub end : ℕ
 
--- The places of the contents of the fields with a tag, from a place on, where `next` has those of the fields that follow.
-unfoldable pub afterPart : ℕ → (ℕ → List ℕ → List Span) → ℕ → List ℕ → Extent → List Span
-afterPart tag next at s extent.None = []
-afterPart tag next at s (extent.Found t size len) =
-    let later = next (at + size + len) (drop (size + len) s) in
-    cond (eqb t tag) (record { start = at + size; end = at + size + len } ∷ later) later
+-- The places of the contents of the fields with a tag, by the head of the first field, where `next` has those of the fields that follow
+-- an offset.
+unfoldable pub afterHead : ℕ → (ℕ → List Span) → Head → List Span
+afterHead tag next head.End = []
+afterHead tag next (head.Fault k) = []
+afterHead tag next (head.Field t start end) = cond (eqb t tag) (record { start = start; end = end } ∷ next end) (next end)
 
--- The same for at most `left` fields.
-unfoldable pub placesFrom : ℕ → ℕ → ℕ → List ℕ → List Span
-placesFrom tag zero at s = []
-placesFrom tag (suc left) at s = afterPart tag (placesFrom tag left) at s (part s)
+-- The places for at most `left` fields from an offset on.
+unfoldable pub placesFrom : ℕ → List ℕ → ℕ → ℕ → List Span
+placesFrom tag s zero i = []
+placesFrom tag s (suc left) i = afterHead tag (placesFrom tag s left) (headAt i (drop i s))
 
 -- The places for all fields with a tag. A field takes an octet or more, so one look more than there are octets is enough.
 unfoldable pub places : ℕ → List ℕ → List Span
-places tag s = placesFrom tag (suc (length s)) 0 s
+places tag s = placesFrom tag s (suc (length s)) 0
 
 unfoldable pub spotOf : Option Span → Spot
 spotOf none = spot.the-variants.Absent

@@ -1,14 +1,18 @@
 -- `hproto_print::lines::direct` meets its contract: the fields before i are counted.
 use native.Mathlib.Omega.{arith}
-use mathlib.Core.Path.{_≡_, _∙_}
-use Prim.Native.Nat.{_+_, _-_, _<_, _≤_}
+use mathlib.Core.Path.{_≡_, sym, _∙_}
+use Prim.Native.Nat.{ℕ, _-_}
 use lib.ListN.{length, drop}
+use lib.Seq.{take-length}
 use denote.Ref.{now}
 use borrow.Author.Needs.{needs}
 use Rattle.hproto_table.specs.Schema.{Schema}
 use Rattle.table_index.specs.internal.Cells.{indexed}
-use Rattle.hproto_field.specs.internal.Fronts.{front}
-use Rattle.hproto_print.proofs.Counting.{left-octets, Counted, none-counted, all-counted, count-ends, counted-turn}
+use Rattle.hproto_field.specs.internal.Heads.{headAt}
+use Rattle.hproto_field.specs.declared.Head.the-variants.{Field}
+use Rattle.hproto_field.proofs.Heads.{fieldless}
+use Rattle.hproto_field.proofs.Passing.{Ends}
+use Rattle.hproto_print.proofs.Counting.{Counted, none-counted, all-counted, count-ends, counted-turn}
 use Rattle.hproto_print.proofs.lines.direct.Statement.{statement}
 use Rattle.hproto_print.proofs.lines.direct.Tie as tie
 
@@ -21,66 +25,64 @@ abbrev μ-loop : tie.MeasureT-loop
 abbrev sc : tie.Start Inv-loop μ-loop → Schema
 sc b = indexed (now (b .args .cells))
 
--- The field at the front of the octets that are left, and where it ends.
-module _ (c : tie.After-field-in Inv-loop μ-loop) where
-  found : c .field-in .result ≡ front (sc (c .before .before .before .before .before)) (c .before .before .before .before .before .args .number) (drop (c .before .before .before .loop .i) (now (c .before .before .before .before .before .args .s)))
-  found = c .field-in .ensures ∙ rw (left-octets (c .before .before .before .loop .i) (now (c .before .before .before .before .before .args .s)))
+-- A field was found.
+module _ (c : tie.After-known-told Inv-loop μ-loop) where
+  abbrev b : tie.Start Inv-loop μ-loop
+  b = c .before .before .before .before .before .before
 
-  at-end : let i = c .before .before .before .loop .i in let f = c .field-in .result in
-      (i < i + f .control + f .contents) × (i + f .control + f .contents ≤ length (now (c .before .before .before .before .before .args .s)))
+  abbrev i : ℕ
+  i = c .before .before .before .before .loop .i
+
+  abbrev tag : ℕ
+  tag = c .before .end .given .0 .0
+
+  abbrev start : ℕ
+  start = c .before .end .given .0 .1 .0
+
+  abbrev stop : ℕ
+  stop = c .before .end .given .0 .1 .1 .0
+
+  found : headAt i (drop i (now (b .args .s))) ≡ Field tag start stop
+  found = rw (take-length (now (b .args .s))) at (sym (c .before .before .before .head-at .ensures) ∙ c .before .end .given .1)
+
+  at-end : Ends (sc b) 7 (b .args .number) (now (b .args .s)) i (c .before .before .before .before .loop .inv .left) tag start stop found
   at-end =
-      let b = c .before .before .before .before .before in
-      let l = c .before .before .before .loop in
-      count-ends (sc b) (b .args .number) (now (b .args .s)) (l .i) (l .n) (l .inv) (c .before .before .loop-test .taken) (c .field-in .result) found
+      let l = c .before .before .before .before .loop in
+      count-ends (sc b) (b .args .number) (now (b .args .s)) i (l .n) (l .inv) tag start stop found
 
 loop-holds : tie.Need-loop-holds Inv-loop μ-loop
 loop-holds c =
-    let b = c .before in
-    none-counted (sc b) (b .args .number) (now (b .args .s)) (b .pre)
+    let s = c .before in
+    none-counted (sc s) (s .args .number) (now (s .args .s)) (s .pre)
 
-sub-field-in : tie.Need-sub-field-in Inv-loop μ-loop
-sub-field-in c = search needs
+head-at-requires : tie.Need-head-at-requires Inv-loop μ-loop
+head-at-requires c κs = search needs
 
-part-field-in-start : tie.Need-part-field-in-start Inv-loop μ-loop
-part-field-in-start c = search needs
-
-part-field-in-end : tie.Need-part-field-in-end Inv-loop μ-loop
-part-field-in-end c = search needs
-
-field-in-requires : tie.Need-field-in-requires Inv-loop μ-loop
-field-in-requires c κs = search needs
-
-add-a : tie.Need-add-a Inv-loop μ-loop
-add-a c = let b = c .before .before .before .before .before .before in let h = at-end (c .before) .1 in let g = b .good in omega arith
-
-add-i : tie.Need-add-i Inv-loop μ-loop
-add-i c = let b = c .before .before .before .before .before .before .before in let h = at-end (c .before .before) .1 in let g = b .good in omega arith
+enum-known-end : tie.Need-enum-known-end Inv-loop μ-loop
+enum-known-end c = search needs
 
 add-n : tie.Need-add-n Inv-loop μ-loop
 add-n c =
-    let b = c .before .before .before .before .before .before .before in
-    let h = at-end (c .before .before) in
-    let k = h .1 in
-    let l = h .0 in
-    let g = b .good in
-    let w = c .before .before .before .before .before .loop .inv .few in
+    let h = at-end c in
+    let g = b c .good in
+    let w = c .before .before .before .before .loop .inv .few in
     omega arith
 
 loop-less : tie.Need-loop-less Inv-loop μ-loop
-loop-less c = let h = at-end (c .before .before) in let k = h .0 in let l = h .1 in omega arith
+loop-less c = let h = at-end c in omega arith
 
 loop-again : tie.Need-loop-again Inv-loop μ-loop
 loop-again c =
-    let d = c .before .before in
-    let b = c .before .before .before .before .before .before .before in
-    let l = c .before .before .before .before .before .loop in
-    counted-turn (sc b) (b .args .number) (now (b .args .s)) (l .i) (l .n) (l .inv) (d .before .before .loop-test .taken) (d .field-in .result) (found d)
+    let l = c .before .before .before .before .loop in
+    counted-turn (sc (b c)) (b c .args .number) (now (b c .args .s)) (i c) (l .n) (l .inv) (tag c) (start c) (stop c) (found c)
 
 returns : tie.Need-returns Inv-loop μ-loop
 returns c =
-    let b = c .before .before .before in
-    let l = c .before .loop in
-    all-counted (sc b) (b .args .number) (now (b .args .s)) (l .i) (l .n) (l .inv) (c .loop-test .left)
+    let s = c .before .before .before .before in
+    let l = c .before .before .loop in
+    let h = c .before .head-at in
+    all-counted (sc s) (s .args .number) (now (s .args .s)) (l .i) (l .n) (l .inv)
+    (h .result) (rw (take-length (now (s .args .s))) at (sym (h .ensures))) (fieldless (h .result) (c .match .keys2))
 
 pub direct-spec : {M : Type 1} → statement M
 direct-spec =
@@ -89,12 +91,8 @@ direct-spec =
     Inv-loop
     μ-loop
     loop-holds
-    sub-field-in
-    part-field-in-start
-    part-field-in-end
-    field-in-requires
-    add-a
-    add-i
+    head-at-requires
+    enum-known-end
     add-n
     loop-less
     loop-again

@@ -4,10 +4,11 @@ use borrow.Author.Needs.{needs}
 use mathlib.Core.Path.{_≡_, sym, _∙_}
 use mathlib.Core.List.{List}
 use denote.Ref.{now}
-use lib.ListN.{length, drop, length-drop}
-use lib.Seq.{take-all}
-use Rattle.hproto_field.specs.internal.Fronts.{part}
-use Rattle.hproto_field.specs.declared.Extent.the-variants.{Found}
+use lib.ListN.{length, drop}
+use lib.Seq.{take-length}
+use Rattle.hproto_field.specs.internal.Heads.{headAt}
+use Rattle.hproto_field.specs.declared.Head.the-variants.{Field}
+use Rattle.hproto_field.proofs.Heads.{fieldless}
 use Rattle.message_calls.proofs.Walking.{Onward, onward, Latest, nothing-held, settled, kept, taken}
 use Rattle.message_calls.proofs.outermost.last.Statement.{statement}
 use Rattle.message_calls.proofs.outermost.last.Tie as tie
@@ -18,77 +19,48 @@ Inv-loop s tag i₀ best₀ i best = Latest tag s i best
 abbrev μ-loop : tie.MeasureT-loop
 μ-loop s tag i₀ best₀ i best = length s - i
 
--- What the code found at the octets that are left.
-found : (c : tie.After-front Inv-loop μ-loop)
-    → c .front .result ≡ part (drop (c .before .before .loop .i) (now (c .before .before .before .before .args .s)))
-found c =
-    let s = now (c .before .before .before .before .args .s) in
-    let i = c .before .before .loop .i in
-    c .front .ensures ∙ rw (take-all (length s - i) (drop i s) (simp length-drop (omega arith)))
+-- What the code found at i.
+found : (c : tie.After-head-at Inv-loop μ-loop)
+    → c .head-at .result ≡ headAt (c .before .loop .i) (drop (c .before .loop .i) (now (c .before .before .before .args .s)))
+found c = c .head-at .ensures ∙ rw (take-length (now (c .before .before .before .args .s)))
 
 -- A field was found.
 module _ (c : tie.After-known-told Inv-loop μ-loop) where
   abbrev s : List ℕ
-  s = now (c .before .before .before .before .before .before .before .args .s)
+  s = now (c .before .before .before .before .before .before .args .s)
 
   abbrev tag : ℕ
-  tag = c .before .before .before .before .before .before .before .args .tag
+  tag = c .before .before .before .before .before .before .args .tag
 
   abbrev i : ℕ
-  i = c .before .before .before .before .before .loop .i
+  i = c .before .before .before .before .loop .i
 
   abbrev t : ℕ
   t = c .before .seen .given .0 .0
 
-  abbrev size : ℕ
-  size = c .before .seen .given .0 .1 .0
+  abbrev start : ℕ
+  start = c .before .seen .given .0 .1 .0
 
-  abbrev len : ℕ
-  len = c .before .seen .given .0 .1 .1 .0
+  abbrev end : ℕ
+  end = c .before .seen .given .0 .1 .1 .0
 
-  is : part (drop i s) ≡ Found t size len
+  is : headAt i (drop i s) ≡ Field t start end
   is = sym (found (c .before .before .before)) ∙ c .before .seen .given .1
 
-  passed : Onward tag s i (c .before .before .before .before .before .loop .inv .ahead) t size len is
-  passed = onward tag s i (c .before .before .before .before .before .loop .inv .ahead) t size len is
+  passed : Onward tag s i (c .before .before .before .before .loop .inv .ahead) t start end is
+  passed = onward tag s i (c .before .before .before .before .loop .inv .ahead) t start end is
 
-  abbrev state : Latest tag s i (c .before .before .before .before .before .loop .best)
-  state = c .before .before .before .before .before .loop .inv
+  abbrev state : Latest tag s i (c .before .before .before .before .loop .best)
+  state = c .before .before .before .before .loop .inv
 
 loop-holds : tie.Need-loop-holds Inv-loop μ-loop
 loop-holds c = nothing-held (c .before .args .tag) (now (c .before .args .s))
 
--- The slice from i on.
-sub-front : tie.Need-sub-front Inv-loop μ-loop
-sub-front c = search needs
-
-part-front-start : tie.Need-part-front-start Inv-loop μ-loop
-part-front-start c = search needs
-
-part-front-end : tie.Need-part-front-end Inv-loop μ-loop
-part-front-end c = search needs
-
-front-requires : tie.Need-front-requires Inv-loop μ-loop
-front-requires c κs = search needs
-
-enum-told : tie.Need-enum-told Inv-loop μ-loop
-enum-told c = search needs
+head-at-requires : tie.Need-head-at-requires Inv-loop μ-loop
+head-at-requires c κs = search needs
 
 enum-known-seen : tie.Need-enum-known-seen Inv-loop μ-loop
 enum-known-seen c = search needs
-
-add-first : tie.Need-add-first Inv-loop μ-loop
-add-first c = let h = passed c in let g = c .before .before .before .before .before .before .before .good in omega arith
-
-add-i : tie.Need-add-i Inv-loop μ-loop
-add-i c = let h = passed c in let g = c .before .before .before .before .before .before .before .good in omega arith
-
-returns : tie.Need-returns Inv-loop μ-loop
-returns c =
-    let f = c .before .before in
-    let a = f .before .before .before .before .args in
-    settled (a .tag) (now (a .s)) (f .before .before .loop .i) (f .before .before .loop .best) (f .before .before .loop .inv)
-    (sym (found f) ∙ c .enum-told .given .1)
 
 loop-less : tie.Need-loop-less Inv-loop μ-loop
 loop-less c = let h = passed (c .before) in omega arith
@@ -96,7 +68,7 @@ loop-less c = let h = passed (c .before) in omega arith
 loop-again : tie.Need-loop-again Inv-loop μ-loop
 loop-again c =
     let f = c .before in
-    taken (tag f) (s f) (i f) (f .before .before .before .before .before .loop .best) (state f) (t f) (size f) (len f) (is f) (c .if1 .taken)
+    taken (tag f) (s f) (i f) (f .before .before .before .before .loop .best) (state f) (t f) (start f) (end f) (is f) (c .if1 .taken)
 
 loop-less-2 : tie.Need-loop-less-2 Inv-loop μ-loop
 loop-less-2 c = let h = passed (c .before) in omega arith
@@ -104,7 +76,14 @@ loop-less-2 c = let h = passed (c .before) in omega arith
 loop-again-2 : tie.Need-loop-again-2 Inv-loop μ-loop
 loop-again-2 c =
     let f = c .before in
-    kept (tag f) (s f) (i f) (f .before .before .before .before .before .loop .best) (state f) (t f) (size f) (len f) (is f) (c .if1 .left)
+    kept (tag f) (s f) (i f) (f .before .before .before .before .loop .best) (state f) (t f) (start f) (end f) (is f) (c .if1 .left)
+
+returns : tie.Need-returns Inv-loop μ-loop
+returns c =
+    let f = c .before in
+    let a = f .before .before .before .args in
+    settled (a .tag) (now (a .s)) (f .before .loop .i) (f .before .loop .best) (f .before .loop .inv) (f .head-at .result)
+    (sym (found f)) (fieldless (f .head-at .result) (c .match .keys2))
 
 pub last-spec : {M : Type 1} → statement M
 last-spec =
@@ -113,16 +92,10 @@ last-spec =
     Inv-loop
     μ-loop
     loop-holds
-    sub-front
-    part-front-start
-    part-front-end
-    front-requires
-    enum-told
-    returns
+    head-at-requires
     enum-known-seen
-    add-first
-    add-i
     loop-less
     loop-again
     loop-less-2
-    loop-again-2)
+    loop-again-2
+    returns)

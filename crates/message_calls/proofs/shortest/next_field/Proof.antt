@@ -1,50 +1,131 @@
-use borrow.Author.Needs.{needs}
+-- `next_field` answers what the control part at the offset says, where the octets that it announces are there.
+use Prim.Native.Nat.{ℕ, _+_, _-_, _≤_, _<_}
 use native.Mathlib.Omega.{arith}
-use Prim.Native.Nat.{_/_}
-use mathlib.Core.Path.{refl}
+use mathlib.Core.Path.{_≡_, sym, _∙_}
+use mathlib.Core.List.{List}
 use denote.Ref.{now}
-use lib.Bits.{bitAnd, mask-lt}
-use lib.ListN.{getD, length}
-use borrow.Author.Tests.{ltb-true}
-use Rattle.table_index.specs.internal.Cells.{indexed}
-use Rattle.message_calls.proofs.Directs.{direct-front}
+use lib.ListN.{length, drop, length-drop, drop-of-length-le}
+use lib.Seq.{take-all}
+use borrow.Author.Needs.{needs}
+use Rattle.octets.specs.Control.{control}
+use Rattle.octets.specs.declared.Control.the-variants.{Whole}
+use Rattle.hproto_field.proofs.Fields.{size-inside}
+use Rattle.hproto_field.proofs.Heads.{head-none, head-absent, head-partial, head-past, head-field}
 use Rattle.message_calls.proofs.shortest.next_field.Statement.{statement}
 use Rattle.message_calls.proofs.shortest.next_field.Tie as tie
 
-shared-slice-read-c : tie.Need-shared-slice-read-c
-shared-slice-read-c c = search needs
+-- The control part was read.
+module _ (d : tie.After-control) where
+  abbrev s : List ℕ
+  s = now (d .before .before .before .before .args .s)
 
-cast-tag : tie.Need-cast-tag
-cast-tag c = let h = c .before .before .shared-slice-known .given 0 .fits in omega arith
+  abbrev i : ℕ
+  i = d .before .before .before .before .args .i
 
-cast-n : tie.Need-cast-n
-cast-n c = let h = mask-lt (getD (now (c .before .before .before .args .s)) 0 0) 4 in omega arith
+  before-end : i < length s
+  before-end = d .before .before .if1 .left
 
-find-requires : tie.Need-find-requires
-find-requires c κs = search needs
+  read : d .control .result ≡ control (drop i s)
+  read =
+      let h = before-end in
+      d .control .ensures ∙ rw (take-all (length s - i) (drop i s) (simp length-drop (omega arith)))
+
+  size-fits : (tag len size : ℕ) → control (drop i s) ≡ Whole tag len size → i + size ≤ length s
+  size-fits tag len size e =
+      let h = size-inside (drop i s) tag len size e in
+      let l = length-drop i s in
+      let k = before-end in
+      omega arith
+
+-- A whole control part was found.
+module _ (c : tie.After-known-told) where
+  abbrev tag : ℕ
+  tag = c .before .tag .given .0 .0
+
+  abbrev len : ℕ
+  len = c .before .tag .given .0 .1 .0
+
+  abbrev size : ℕ
+  size = c .before .tag .given .0 .1 .1 .0
+
+  is : control (drop (i (c .before .before .before)) (s (c .before .before .before))) ≡ Whole tag len size
+  is = sym (read (c .before .before .before)) ∙ c .before .tag .given .1
 
 returns : tie.Need-returns
 returns c =
-    let a = c .before .before .before .before .before .before .before .args in
-    let s = now (a .s) in
-    let x = getD s 0 0 in
-    direct-front (indexed (now (a .cells))) (a .number) s (x / 16) (bitAnd x 15) (c .find .result) refl refl
-    (c .before .before .before .if2 .taken) (ltb-true (bitAnd x 15) 12 (c .before .before .if3 .taken)) (ltb-true (bitAnd x 15) (length s) (c .before .if4 .taken)) (c .find .ensures)
+    let a = c .before .before .args in
+    head-none (a .i) (drop (a .i) (now (a .s))) (drop-of-length-le (now (a .s)) {i = a .i} (c .if1 .taken))
 
-field-in-requires : tie.Need-field-in-requires
-field-in-requires c κs = search needs
+sub-control : tie.Need-sub-control
+sub-control c = search needs
+
+part-control-start : tie.Need-part-control-start
+part-control-start c = search needs
+
+part-control-end : tie.Need-part-control-end
+part-control-end c = search needs
+
+control-requires : tie.Need-control-requires
+control-requires c κs = search needs
+
+enum-told : tie.Need-enum-told
+enum-told c = search needs
+
+enum-told-2 : tie.Need-enum-told-2
+enum-told-2 c = search needs
+
+enum-known-tag : tie.Need-enum-known-tag
+enum-known-tag c = search needs
+
+add-start : tie.Need-add-start
+add-start c =
+    let h = size-fits (c .before .before .before) (tag c) (len c) (size c) (is c) in
+    let g = c .before .before .before .before .before .before .before .good in
+    omega arith
+
+sub-left : tie.Need-sub-left
+sub-left c = size-fits (c .before .before .before) (tag c) (len c) (size c) (is c)
 
 returns-2 : tie.Need-returns-2
-returns-2 c = search needs
+returns-2 c =
+    let d = c .before .before .before .before in
+    let l = length-drop (i d) (s d) in
+    head-past (i d) (drop (i d) (s d)) (tag (c .before)) (len (c .before)) (size (c .before)) (is (c .before)) (omega arith)
+
+add-t16 : tie.Need-add-t16
+add-t16 c =
+    let h = size-fits (c .before .before .before .before) (tag (c .before)) (len (c .before)) (size (c .before)) (is (c .before)) in
+    let g = c .before .before .before .before .before .before .before .before .good in
+    omega arith
+
+returns-3 : tie.Need-returns-3
+returns-3 c = let d = c .before .before in head-absent (i d) (drop (i d) (s d)) (sym (read d) ∙ c .enum-told .given .1)
+
+returns-4 : tie.Need-returns-4
+returns-4 c = let d = c .before .before in head-partial (i d) (drop (i d) (s d)) (sym (read d) ∙ c .enum-told2 .given .1)
+
+returns-5 : tie.Need-returns-5
+returns-5 c =
+    let d = c .before .before .before .before in
+    let l = length-drop (i d) (s d) in
+    head-field (i d) (drop (i d) (s d)) (tag (c .before)) (len (c .before)) (size (c .before)) (is (c .before)) (omega arith)
 
 pub next-field-spec : {M : Type 1} → statement M
 next-field-spec =
     tie.close
     (tie.spec
-    shared-slice-read-c
-    cast-tag
-    cast-n
-    find-requires
     returns
-    field-in-requires
-    returns-2)
+    sub-control
+    part-control-start
+    part-control-end
+    control-requires
+    enum-told
+    enum-told-2
+    enum-known-tag
+    add-start
+    sub-left
+    returns-2
+    add-t16
+    returns-3
+    returns-4
+    returns-5)

@@ -1,4 +1,4 @@
--- `put_front` stores one octet for a small tag and a small length, else the control part by its widths.
+-- `put_front` stores one octet for a small tag and a small length, else calls `wide_front`.
 use native.Mathlib.Omega.{arith}
 use denote.Ref.{now}
 use borrow.Author.Tests.{ltb-true}
@@ -29,14 +29,8 @@ returns c =
     rw (c .one-octet .ensures)
     (direct-put (now (s .args .out)) (s .args .to) (s .args .tag) (s .args .n) (c .before .before .if1 .taken) (ltb-true (s .args .n) 12 (c .before .if2 .taken)) (s .pre))
 
-put-control-requires : tie.Need-put-control-requires
-put-control-requires c κs = search needs
-
-control-size-requires : tie.Need-control-size-requires
-control-size-requires c κs = search needs
-
-add-result-2 : tie.Need-add-result-2
-add-result-2 c = search needs
+wide-front-requires : tie.Need-wide-front-requires
+wide-front-requires c κs = search needs
 
 same-length-2 : tie.Need-same-length-2
 same-length-2 c = search needs
@@ -53,8 +47,6 @@ put-front-spec =
     add-result
     same-length
     returns
-    put-control-requires
-    control-size-requires
-    add-result-2
+    wide-front-requires
     same-length-2
     returns-2)

@@ -49,14 +49,11 @@ sub-move-up c =
 move-up-requires : tie.Need-move-up-requires
 move-up-requires c κs = search needs
 
-put-control-requires : tie.Need-put-control-requires
-put-control-requires c κs = search needs
+wide-front-requires : tie.Need-wide-front-requires
+wide-front-requires c κs = search needs
 
 add-result-3 : tie.Need-add-result-3
 add-result-3 c = search needs
-
-add-result-4 : tie.Need-add-result-4
-add-result-4 c = search needs
 
 same-length-2 : tie.Need-same-length-2
 same-length-2 c = search needs
@@ -65,7 +62,8 @@ returns-2 : tie.Need-returns-2
 returns-2 c =
     let k = c .before .before .before .before .before .before .before .before in
     let e = k .control-size .ensures in
-    (rw e, c .before .before .put-control .ensures ∙ rw (c .before .before .before .before .before .before .move-up .ensures, e))
+    let w = c .before .before .wide-front .ensures in
+    (rw (w .place), w .buffer ∙ rw (c .before .before .before .before .before .before .move-up .ensures, e))
 
 pub wrap-spec : {M : Type 1} → statement M
 wrap-spec =
@@ -81,8 +79,7 @@ wrap-spec =
     add-move-up
     sub-move-up
     move-up-requires
-    put-control-requires
+    wide-front-requires
     add-result-3
-    add-result-4
     same-length-2
     returns-2)

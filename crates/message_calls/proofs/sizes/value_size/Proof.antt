@@ -4,6 +4,7 @@ use mathlib.Core.Path.{_≡_, sym, _∙_}
 use denote.Ref.{now}
 use lib.ListN.{length}
 use Rattle.octets.specs.Control.{leastControl}
+use Rattle.table_index.specs.internal.Cells.{meaningOf}
 use Rattle.hproto_message.specs.Tree.{value}
 use Rattle.hproto_message.specs.Shortest.{leastContents}
 use Rattle.hproto_message.proofs.Fields.{field-length}
@@ -23,14 +24,14 @@ add-result c =
     let e = c .control-size .ensures in
     let k = control-few (s .args .tag) (c .before .least-size .result) in
     let f = c .before .least-size .ensures in
-    let l = least-few (s .args .kind) (now (s .args .s)) (s .pre .1) in
+    let l = least-few (meaningOf (s .args .code)) (now (s .args .s)) (s .pre .1) in
     omega arith
 
 returns : tie.Need-returns
 returns c =
     let s = c .before .before .before in
     let f = c .before .least-size .ensures in
-    let xs = leastContents (value (s .args .kind) (now (s .args .s))) in
+    let xs = leastContents (value (meaningOf (s .args .code)) (now (s .args .s))) in
     let e : c .control-size .result ≡ length (leastControl (s .args .tag) (length xs)) = c .control-size .ensures ∙ rw f in
     sym (field-length (s .args .tag) xs ∙ rw (e, f))
 
