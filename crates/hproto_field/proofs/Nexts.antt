@@ -191,6 +191,9 @@ module _ (cells : List ℕ) (number : ℕ) (s : List ℕ) (i : ℕ) where
     unfolding indexed meaningIn
     small-field = rw (small .found) (field-at s i (octet / 16) len 1 small-control (indexed cells) number (small .fits))
 
+    pub small-text : code ≡ 4 → text (take (i + 1 + len - (i + 1)) (drop (i + 1) s)) ≡ true → Over (i + 1 + len) ≡ nextAt i (step (indexed cells) number (drop i s))
+    small-text k t = text-at code s (i + 1) (i + 1 + len) (omega arith, small-inside) k t ∙ small-field
+
     no-wide-number : (len ≤ 8) ⊎ ((code ≡ 0) ⊎ (code ≡ 3)) → 8 < i + 1 + len - (i + 1) → (code ≡ 1) ⊎ (code ≡ 2) → ⊥
     no-wide-number (inl l) w c = omega arith
     no-wide-number (inr (inl z)) w (inl c) = omega arith

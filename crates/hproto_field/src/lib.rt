@@ -1,4 +1,4 @@
-// One step through a message: what stands at the front of octets.
+// The field at an offset of a message: its head, and a step over it or into it.
 use octets::Control;
 ghost use mathlib.Core.Path.{_≡_};
 ghost use Prim.Native.Nat.{_-_, _≤_};
@@ -84,19 +84,26 @@ fn small_code(cells: &[u32; 128], number: u64, s: &[u8], i: usize) -> u64
     table_index::code(table_index::cell(cells, number, (c >> 4) as u64))
 }
 
-// The end of the field at an offset, if its control part is one octet and its contents lie within the octets and need no look: raw octets, a
-// string or a number of at most eight octets. Else 0, and `step` says what stands there. Most fields are such. A check by steps alone took
-// a quarter more time.
+// The end of the field at an offset, if its control part is one octet, its contents lie within the octets and are allowed, and it is no
+// message. Else 0, and `step` says what stands there. Most fields are such. A check by steps alone took a quarter more time.
 pub fn quick(cells: &[u32; 128], number: u64, s: &[u8], i: usize) -> usize
     ensures { λ r. ⌜ (1 ≤ r → Next.Over r ≡ nextAt i (step-of (indexed (now (cells .entry))) number (drop i (now (s .entry))))) ⌝ }
 {
     let code = small_code(cells, number, s, i);
-    if 4 <= code {
+    if 4 < code {
         return 0;
     }
     let n = (s[i] & 15) as usize;
+    let a = i + 1;
+    let e = a + n;
+    if code == 4 {
+        if octets_text::text(&s[a..e]) {
+            return e;
+        }
+        return 0;
+    }
     if n <= 8 || code == 0 || code == 3 {
-        return i + 1 + n;
+        return e;
     }
     0
 }

@@ -11,7 +11,7 @@ use Rattle.table_index.specs.internal.Cells.{keysFrom, nextIn, chase, se
 
 -- ---- the first key of a number
 
-pub keys-small : (n : ℕ) → n < 16 → n * 65561 ≡ keysFrom n
+pub keys-small : (n : ℕ) → n < 16 → n * 65581 ≡ keysFrom n
 unfolding keysFrom
 keys-small n h = rw (lt-ltb n 16 h) refl
 

@@ -98,7 +98,7 @@ module _ (w : ℕ) (s : Small w) (i : ℕ) (low : i < 64) where
 
 -- ---- the key
 
-pub key-is : (w : ℕ) → Small w → wordKey w ≡ w / 4294967296 * 65561 + w / 65536 % 65536
+pub key-is : (w : ℕ) → Small w → wordKey w ≡ w / 4294967296 * 65581 + w / 65536 % 65536
 unfolding wordKey keyOf entry
 key-is w s = rw (← keys-small (w / 4294967296) (s .number)) refl
 

@@ -21,7 +21,7 @@ ghost use Rattle.table_index.specs.internal.Cells.{keysFrom, wordKey, ce
 fn keys_from(number: u64) -> u64
     ensures { λ r. ⌜ r ≡ keysFrom number ⌝ }
 {
-    if number < 16 { number * 65561 } else { 2097152 }
+    if number < 16 { number * 65581 } else { 2097152 }
 }
 
 fn wide(x: u32) -> u64
@@ -60,7 +60,7 @@ fn word_key(w: u64) -> u64
     requires { ⌜ inRange (entry w) ≡ true ⌝ }
     ensures { λ r. ⌜ r ≡ wordKey w ⌝ }
 {
-    (w >> 32) * 65561 + (w >> 16) % 65536
+    (w >> 32) * 65581 + (w >> 16) % 65536
 }
 
 // The cell of a word that is the i-th of its table.

@@ -14,10 +14,11 @@ use Rattle.hproto_table.specs.Valid.{allZero}
 use Rattle.hproto_table.specs.declared.Meaning.{Meaning}
 use Rattle.hproto_table.specs.declared.Meaning.the-variants.{Raw, Uint, Int, String, Text, Message}
 
--- The keys of a message number begin here. Numbers are 65,561 apart: more than there are tags, and 25 more than a multiple of 64. Of
--- the 64 remainders this one gives the shortest chains on average, in full tables whose messages have from 4 to 32 tags in a row. No cell has a key from 2^21 on.
+-- The keys of a message number begin here. Numbers are 65,581 apart, more than there are tags. Among the remainders by 64 that were
+-- counted, 45 keeps the chains short both in the bench's full table and in tables whose messages have from 4 to 32 tags in a row. No cell has
+-- a key from 2^21 on.
 unfoldable pub keysFrom : ℕ → ℕ
-keysFrom n = cond (ltb n 16) (n * 65561) (2 ^ 21)
+keysFrom n = cond (ltb n 16) (n * 65581) (2 ^ 21)
 
 -- The key of a message number and a tag, and that of the entry in a word. The remainder by 64 is the bucket.
 unfoldable pub keyOf : ℕ → ℕ → ℕ
