@@ -1,3 +1,4 @@
 pub mod Reading
+pub mod Refusals
 pub mod Checks
 pub mod internal

@@ -8,6 +8,10 @@ messageLimit = 65536
 abbrev pub depthLimit : ℕ
 depthLimit = 8
 
+-- The largest message number.
+abbrev pub lastNumber : ℕ
+lastNumber = 15
+
 -- A message that is accepted is divided into its fields; A is what the format's divisions are. Any other has a refusal's number and place.
 pub data Reading (A : Type 0) : Type 0 where
   accepted : A → Reading A

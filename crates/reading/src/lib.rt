@@ -3,6 +3,51 @@ ghost use mathlib.Core.Path.{_≡_};
 ghost use Rattle.reading.specs.Checks.{refusal};
 ghost use Rattle.reading.specs.internal.Walks.{answerBy};
 
+// The limits of document 01: the octets of a message, its depth, and the largest message number.
+pub const MESSAGE_LIMIT: usize = 65536;
+
+pub const DEPTH_LIMIT: u64 = 8;
+
+pub const LAST_NUMBER: u64 = 15;
+
+// The refusals of document 01.
+// A message or a buffer over the length limit, or announced by a frame.
+pub const TOO_LONG: u64 = 1;
+// A faulty field table, or a message number over 15.
+pub const TABLE: u64 = 2;
+// Octets that end inside a control part, header, name, size or hint.
+pub const CUT: u64 = 3;
+// Contents past the end of the message around them.
+pub const PAST_THE_END: u64 = 4;
+// A ninth message, one inside the other.
+pub const TOO_DEEP: u64 = 5;
+// A number of more than eight octets.
+pub const NUMBER_TOO_WIDE: u64 = 6;
+// Contents that are not text.
+pub const TEXT: u64 = 7;
+// A tag that the table does not have there, or of another kind.
+pub const TAG_OR_KIND: u64 = 8;
+// More octets to write than are free.
+pub const NO_ROOM: u64 = 9;
+// A writer's state that is not sound, or another buffer.
+pub const STATE: u64 = 10;
+// A close with no field open.
+pub const NOTHING_OPEN: u64 = 11;
+// A finish with a field open.
+pub const STILL_OPEN: u64 = 12;
+// Another magic number or version of a Tib message.
+pub const MAGIC: u64 = 13;
+// A Tib size that is not that of the buffer, or octets after the second frame.
+pub const SIZE: u64 = 14;
+// A bad name.
+pub const NAME: u64 = 15;
+// A type, a size or a hint against the rules.
+pub const TYPE_SIZE_OR_HINT: u64 = 16;
+// A real that cannot be read in fractions.
+pub const NOT_IN_FRACTIONS: u64 = 17;
+// No such field.
+pub const ABSENT: u64 = 18;
+
 // What a walk through a message comes to: the count of its fields and its depth, or a refusal's number and place.
 pub enum Walk {
     Accepted(u64, u64),

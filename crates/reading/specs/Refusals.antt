@@ -1,0 +1,74 @@
+-- The refusals of document 01 by number. Definitions cite them by these names.
+use Prim.Native.Nat.{ℕ}
+
+-- A message or a buffer over the length limit, or announced by a frame.
+abbrev pub tooLong : ℕ
+tooLong = 1
+
+-- A faulty field table, or a message number over 15.
+abbrev pub table : ℕ
+table = 2
+
+-- Octets that end inside a control part, header, name, size or hint.
+abbrev pub cut : ℕ
+cut = 3
+
+-- Contents past the end of the message around them.
+abbrev pub pastTheEnd : ℕ
+pastTheEnd = 4
+
+-- A ninth message, one inside the other.
+abbrev pub tooDeep : ℕ
+tooDeep = 5
+
+-- A number of more than eight octets.
+abbrev pub numberTooWide : ℕ
+numberTooWide = 6
+
+-- Contents that are not text.
+abbrev pub text : ℕ
+text = 7
+
+-- A tag that the table does not have there, or of another kind.
+abbrev pub tagOrKind : ℕ
+tagOrKind = 8
+
+-- More octets to write than are free.
+abbrev pub noRoom : ℕ
+noRoom = 9
+
+-- A writer's state that is not sound, or another buffer.
+abbrev pub state : ℕ
+state = 10
+
+-- A close with no field open.
+abbrev pub nothingOpen : ℕ
+nothingOpen = 11
+
+-- A finish with a field open.
+abbrev pub stillOpen : ℕ
+stillOpen = 12
+
+-- Another magic number or version of a Tib message.
+abbrev pub magic : ℕ
+magic = 13
+
+-- A Tib size that is not that of the buffer, or octets after the second frame.
+abbrev pub size : ℕ
+size = 14
+
+-- A bad name.
+abbrev pub name : ℕ
+name = 15
+
+-- A type, a size or a hint against the rules.
+abbrev pub typeSizeOrHint : ℕ
+typeSizeOrHint = 16
+
+-- A real that cannot be read in fractions.
+abbrev pub notInFractions : ℕ
+notInFractions = 17
+
+-- No such field.
+abbrev pub absent : ℕ
+absent = 18
