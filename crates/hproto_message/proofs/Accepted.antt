@@ -11,7 +11,7 @@ use Rattle.hproto_message.specs.declared.Step.{Step}
 use Rattle.hproto_message.specs.declared.Step.the-variants.{Done, Fault, Over, Into}
 use Rattle.hproto_message.specs.Cut.{Cut, end, leaf, nested, joined, depth, LeafField, NestedField, Allowed, Good}
 use Rattle.reading.specs.Reading.{Reading, accepted, refused, onAccepted, inOrder, depthLimit}
-use Rattle.reading.specs.internal.Walks.{IsAccepted}
+use Rattle.reading.specs.internal.Verdicts.{IsAccepted}
 use Rattle.hproto_message.specs.Reading.{step, tagAt, Inner, afterStep, fieldsFrom, messageFrom, reading}
 use Rattle.hproto_message.specs.internal.Accepts.{Accepts}
 use Rattle.hproto_message.proofs.Steps.{StepMeans, step-means, step-of-leaf, step-of-nested, step-of-end, field-tag, split-in-three, in-three}

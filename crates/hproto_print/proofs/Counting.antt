@@ -19,7 +19,7 @@ use Rattle.hproto_field.specs.declared.Head.{Head}
 use Rattle.hproto_field.specs.declared.Head.the-variants.{Field}
 use Rattle.hproto_field.proofs.Heads.{Fieldless}
 use Rattle.hproto_print.specs.Text.{direct}
-use Rattle.hproto_print.specs.internal.Walk.{ofTree, directOf}
+use Rattle.hproto_print.specs.internal.OfTree.{ofTree, directOf}
 use Rattle.hproto_field.proofs.Passing.{Left, all-left, none-left, Ends, ends, leaf-next, nested-next}
 
 -- What is made of an accepted message is made of the tree of its cut.

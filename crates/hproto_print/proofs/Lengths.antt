@@ -18,7 +18,7 @@ use Rattle.octets.proofs.ControlPart.{part-size}
 use Rattle.text_window.specs.Ascii.{ascii}
 use Rattle.text_window.specs.Digits.{decimal, fourDigits, hex, hexOrDash}
 use Rattle.hproto_print.specs.Text.{kindName, valueText, front, line, direct, lines, page, refusal}
-use Rattle.hproto_print.specs.internal.Walk.{linesOf}
+use Rattle.hproto_print.specs.internal.OfTree.{linesOf}
 use Rattle.text_window.proofs.Numbers.{decimal-length, signed-length}
 use Rattle.hproto_print.proofs.Writing.{lines-is}
 

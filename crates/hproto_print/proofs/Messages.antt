@@ -15,14 +15,14 @@ use Rattle.hproto_message.specs.Cut.{Cut}
 use Rattle.hproto_message.specs.Tree as trees
 use Rattle.hproto_message.specs.Tree.{tree}
 use Rattle.reading.specs.Reading.{accepted, messageLimit}
-use Rattle.reading.specs.internal.Walks.{IsAccepted}
+use Rattle.reading.specs.internal.Verdicts.{IsAccepted}
 use Rattle.hproto_message.specs.Reading.{reading}
 use Rattle.reading.specs.Checks as answers
 use Rattle.message_calls.specs.Check.{check, checkUnder, treeCounts}
 use Rattle.message_calls.proofs.Passed.{check-passed}
 use Rattle.reading.specs.declared.Checked.{Checked}
 use Rattle.hproto_print.specs.Text.{page, shown, refusal, readText, messageText}
-use Rattle.hproto_print.specs.internal.Walk.{ofTree, linesOf}
+use Rattle.hproto_print.specs.internal.OfTree.{ofTree, linesOf}
 
 -- What is printed for a message that was read.
 shown-is : (t : Table) (s : List ℕ) (c : Checked) → c ≡ check t 0 s → c .refusal ≡ 0 → (cut : Cut) → reading (schema t) 0 s ≡ accepted cut

@@ -24,7 +24,7 @@ use Rattle.text_window.specs.Ascii.{ascii}
 use Rattle.text_window.specs.Digits.{decimal}
 use Rattle.text_window.specs.Window.{Printed}
 use Rattle.hproto_print.specs.Text.{kindName, valueText, line, lines}
-use Rattle.hproto_print.specs.internal.Walk.{linesOf, directOf}
+use Rattle.hproto_print.specs.internal.OfTree.{linesOf, directOf}
 use Rattle.text_window.proofs.Windows.{then, printed-nothing, printed-length, same-place}
 use Rattle.hproto_field.proofs.Passing.{Left, all-left, none-left, part, Ends, ends, leaf-next, nested-next, good-deeper}
 use Rattle.hproto_print.proofs.Counting.{tree-is, direct-is}

@@ -9,7 +9,7 @@ ghost use Rattle.table_index.specs.internal.Cells.{indexed};
 ghost use Rattle.text_window.specs.Window.{window, Printed};
 ghost use Rattle.hproto_print.specs.Text.{page as page-of, refusal as refusal-of, messageText};
 ghost use Rattle.hproto_message.specs.internal.Accepts.{Accepts};
-ghost use Rattle.hproto_print.specs.internal.Walk.{linesOf};
+ghost use Rattle.hproto_print.specs.internal.OfTree.{linesOf};
 
 // The text of a message with number 0 that was checked before, its count of fields given.
 fn page(cells: &[u32; 128], fields: u64, s: &[u8], from: u64, out: &mut [u8]) -> u64

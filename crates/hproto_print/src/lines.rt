@@ -16,7 +16,7 @@ ghost use Rattle.text_window.specs.Ascii.{ascii};
 ghost use Rattle.text_window.specs.Digits.{decimal, signedDecimal};
 ghost use Rattle.text_window.specs.Window.{Printed};
 ghost use Rattle.hproto_print.specs.Text.{kindName, valueText, line};
-ghost use Rattle.hproto_print.specs.internal.Walk.{depthAndTag, directOf, linesOf};
+ghost use Rattle.hproto_print.specs.internal.OfTree.{depthAndTag, directOf, linesOf};
 
 // The name of a kind, that of raw for a message.
 fn kind_name(out: &mut [u8], from: u64, at: u64, kind: Meaning) -> u64

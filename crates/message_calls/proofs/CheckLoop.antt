@@ -18,10 +18,10 @@ use Rattle.hproto_field.specs.declared.Next.{Next}
 use Rattle.hproto_field.specs.declared.Next.the-variants.{Done, Fault, Over, Into}
 use Rattle.hproto_field.proofs.Nexts.{OverFrom, IntoFrom, NextFrom, came-from}
 use Rattle.hproto_message.proofs.Accepted.{accepted-good, depth-positive}
-use Rattle.message_calls.specs.internal.Walks.{fields, walk}
-use Rattle.reading.specs.declared.Walk.{Walk}
-use Rattle.reading.specs.declared.Walk.the-variants.{Accepted, Refused}
-use Rattle.reading.specs.internal.Walks.{walkOf}
+use Rattle.message_calls.specs.internal.Verdicts.{fields, verdict}
+use Rattle.reading.specs.declared.Verdict.{Verdict}
+use Rattle.reading.specs.declared.Verdict.the-variants.{Accepted, Refused}
+use Rattle.reading.specs.internal.Verdicts.{verdictOf}
 use Rattle.reading.proofs.Traversal as traversal
 use Rattle.reading.proofs.Traversal.{Traversal}
 
@@ -35,7 +35,7 @@ unfolding StepMeans
 step-inside-nested sc n s m k l e = let h = subst (StepMeans sc n s) e (step-means sc n s) in (h .1, h .2)
 
 module _ (sc : Schema) (inner : Inner) (n at : ℕ) (s : List ℕ) where
-  abbrev pub whole : Walk
+  abbrev pub whole : Verdict
   whole = traversal.whole fields depth (fieldsFrom sc inner n) at 0 s
 
   -- After i octets, with f fields so far of depth d.
@@ -108,11 +108,11 @@ module _ (sc : Schema) (inner : Inner) (n at : ℕ) (s : List ℕ) where
           (omega arith, omega arith, x .1)
 
       -- The answer of the code for the contents.
-      module _ (r : Walk) (v : r ≡ walk (inner m (at + i) (at + a) (take (e - a) (drop a s)))) where
+      module _ (r : Verdict) (v : r ≡ verdict (inner m (at + i) (at + a) (take (e - a) (drop a s)))) where
         abbrev message-held : Reading Cut
         message-held = inner m (at + i) (at + i + found-nested .size) (take (found-nested .len) (drop (found-nested .size) (drop i s)))
 
-        nested-octets : r ≡ walk message-held
+        nested-octets : r ≡ verdict message-held
         nested-octets =
             let w = found-nested in
             let b = w .start-is in
@@ -154,12 +154,12 @@ fields-few sc (nested tag c inside rest) n a =
     simp length-append (omega arith)
 
 -- The counts of an accepted message are small.
-pub counts-small : (sc : Schema) (levels n field at : ℕ) (s : List ℕ) (f d : ℕ) → walk (messageFrom sc levels n field at s) ≡ Accepted f d
+pub counts-small : (sc : Schema) (levels n field at : ℕ) (s : List ℕ) (f d : ℕ) → verdict (messageFrom sc levels n field at s) ≡ Accepted f d
     → (f ≤ length s) × (d ≤ levels)
-unfolding walkOf
+unfolding verdictOf
 counts-small sc levels n field at s f d e = go (messageFrom sc levels n field at s) refl e
   where
-    go : (r : Reading Cut) → messageFrom sc levels n field at s ≡ r → walk r ≡ Accepted f d → (f ≤ length s) × (d ≤ levels)
+    go : (r : Reading Cut) → messageFrom sc levels n field at s ≡ r → verdict r ≡ Accepted f d → (f ≤ length s) × (d ≤ levels)
     go (accepted cut) h w =
         let g = accepted-good sc levels n field at s cut h in
         let p : fields cut ≡ f = cc in
@@ -172,14 +172,14 @@ counts-small sc levels n field at s f d e = go (messageFrom sc levels n field at
 
 -- A message that may be one deep or more is the fields of one message.
 pub room-open : (sc : Schema) (levels n field at : ℕ) (s : List ℕ) → 1 ≤ levels
-    → whole sc (messageFrom sc (levels - 1)) n at s ≡ walk (messageFrom sc levels n field at s)
+    → whole sc (messageFrom sc (levels - 1)) n at s ≡ verdict (messageFrom sc levels n field at s)
 unfolding messageFrom
 room-open sc zero n field at s h = absurd (omega arith)
 room-open sc (suc levels) n field at s h = let k : suc levels - 1 ≡ levels = omega arith in rw (k, add-zero at)
 
 -- A nested message's counts are small against its contents and the levels.
-pub nested-small : (sc : Schema) (levels n field at a e : ℕ) (s : List ℕ) (f d : ℕ) (r : Walk) → a ≤ e → e ≤ length s
-    → r ≡ walk (messageFrom sc levels n field at (take (e - a) (drop a s))) → r ≡ Accepted f d → (f ≤ e - a) × (d ≤ levels)
+pub nested-small : (sc : Schema) (levels n field at a e : ℕ) (s : List ℕ) (f d : ℕ) (r : Verdict) → a ≤ e → e ≤ length s
+    → r ≡ verdict (messageFrom sc levels n field at (take (e - a) (drop a s))) → r ≡ Accepted f d → (f ≤ e - a) × (d ≤ levels)
 nested-small sc levels n field at a e s f d r p h w x =
     let b = take (e - a) (drop a s) in
     let c = counts-small sc levels n field at b f d (sym w ∙ x) in

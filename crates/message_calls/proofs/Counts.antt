@@ -1,4 +1,4 @@
--- The counts of a walk are those of the tree.
+-- The counts of a verdict are those of the tree.
 use Prim.Native.Nat.{ℕ, _≤_, _<_}
 use mathlib.Core.Path.{_≡_, refl, sym, ap, _∙_}
 use mathlib.Core.Bool.{true, false}
@@ -14,11 +14,11 @@ use Rattle.hproto_message.specs.Tree as trees
 use Rattle.hproto_message.specs.Tree.{tree}
 use Rattle.reading.specs.Reading.{Reading, accepted, refused, messageLimit}
 use Rattle.reading.specs.Checks.{refusal, counts}
-use Rattle.reading.specs.internal.Walks.{walkOf, answerBy}
-use Rattle.reading.specs.declared.Walk.{Walk}
+use Rattle.reading.specs.internal.Verdicts.{verdictOf, checkedBy}
+use Rattle.reading.specs.declared.Verdict.{Verdict}
 use Rattle.hproto_message.specs.Reading.{reading, messageFrom}
 use Rattle.hproto_message.proofs.Shortened.{tree-depth}
-use Rattle.message_calls.specs.internal.Walks.{fields, walk}
+use Rattle.message_calls.specs.internal.Verdicts.{fields, verdict}
 use Rattle.message_calls.specs.Check.{treeCounts, check, checkUnder}
 
 tree-fields : (sc : Schema) (cut : Cut) (n : ℕ) → trees.fields (tree sc n cut) ≡ fields cut
@@ -27,9 +27,9 @@ tree-fields sc Cut.end n = refl
 tree-fields sc (Cut.leaf tag c b rest) n = rw (tree-fields sc rest n)
 tree-fields sc (Cut.nested tag c inside rest) n = rw (tree-fields sc inside (innerOf (sc .means n tag)), tree-fields sc rest n)
 
--- The answer by the walk through a message is that by its tree.
-walked : (sc : Schema) (n : ℕ) (r : Reading Cut) → answerBy (walk r) ≡ treeCounts sc n r
-unfolding walkOf answerBy treeCounts counts
+-- The answer by the verdict through a message is that by its tree.
+walked : (sc : Schema) (n : ℕ) (r : Reading Cut) → checkedBy (verdict r) ≡ treeCounts sc n r
+unfolding verdictOf checkedBy treeCounts counts
 walked sc n (accepted cut) = rw (tree-fields sc cut n, tree-depth sc cut n)
 walked sc n (refused number place) = refl
 
@@ -61,9 +61,9 @@ module _ (sc : Schema) (n : ℕ) (s : List ℕ) where
     unfolding checkUnder
     read-under = rw (le-ltb messageLimit (length s) h, le-ltb 15 n k)
 
-    pub by-walk : (w : Walk) → w ≡ walk (messageFrom sc 8 n 0 0 s) → answerBy w ≡ checkUnder sc n s
+    pub by-walk : (w : Verdict) → w ≡ verdict (messageFrom sc 8 n 0 0 s) → checkedBy w ≡ checkUnder sc n s
     unfolding reading
-    by-walk w e = ap answerBy e ∙ walked sc n (messageFrom sc 8 n 0 0 s) ∙ sym read-under
+    by-walk w e = ap checkedBy e ∙ walked sc n (messageFrom sc 8 n 0 0 s) ∙ sym read-under
 
 module _ (t : Table) (n : ℕ) (s : List ℕ) (h : length s ≤ 65536) (v : valid t ≡ true) (k : n ≤ 15) where
   pub read-through : check t n s ≡ treeCounts (schema t) n (reading (schema t) n s)

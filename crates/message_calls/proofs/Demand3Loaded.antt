@@ -6,7 +6,7 @@ use mathlib.Core.Bool.{true}
 use mathlib.Core.List.{List, _++_}
 use lib.ListN.{length, drop}
 use Rattle.reading.specs.Reading.{depthLimit}
-use Rattle.reading.specs.internal.Walks.{IsAccepted}
+use Rattle.reading.specs.internal.Verdicts.{IsAccepted}
 use Rattle.hproto_message.specs.internal.Accepts.{Accepts}
 use Rattle.hproto_message.proofs.Accepted.{accepts-good, accepted-exactly, good-cut-unique}
 use Rattle.hproto_store.specs.Store.{stored}

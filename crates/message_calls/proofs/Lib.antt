@@ -1,7 +1,7 @@
 pub mod CheckLoop
 pub mod Counts
 pub mod Passed
-pub mod Walking
+pub mod LookupLoop
 pub mod Choosing
 pub mod Outers
 pub mod LookupAnswers

@@ -107,7 +107,7 @@ module _ (sc : Schema) (n : ℕ) (s : List ℕ) (tag : ℕ) (which : Occurrence)
       (withTag-each (Held sc 7 n s) itemOf tag (outermost sc n 0 cut)
       (each-held sc 7 n s cut 0 (sym (g .divides)) (g .allowed) (g .shallow)))
 
-  -- The walk finds its place.
+  -- The verdict finds its place.
   spot-is : (cut : Cut) → Good sc 8 n s cut → chosenSpot tag which s ≡ spotOf (Option·map placeOf (wanted cut))
   unfolding wanted
   spot-is cut g =

@@ -1,4 +1,4 @@
--- The outermost fields of a message with a good cut: where their contents stand, what these say, and that the walk by control parts
+-- The outermost fields of a message with a good cut: where their contents stand, what these say, and that the verdict by control parts
 -- finds them.
 use Prim.Native.Nat.{ℕ, zero, suc, _+_, _-_, _^_, _≤_, _<_}
 use native.Mathlib.Omega.{arith}
@@ -70,7 +70,7 @@ module _ (c b r : List ℕ) (t : ℕ) (w : WholeField t c b) where
         rest = rw (← h, ← drop-drop (length c + length b) at s, e) (p .third);
       }
 
-  -- The walk finds the field.
+  -- The verdict finds the field.
   head-is : (at : ℕ) → headAt at (c ++ b ++ r) ≡ Field t (at + length c) (at + length c + length b)
   head-is at =
       let l : length (c ++ b ++ r) ≡ length c + length b + length r = simp length-append (omega arith) in
@@ -109,7 +109,7 @@ abbrev pub placeOf : Outer → Span
 placeOf o = record { start = o .start; end = o .start + o .length }
 
 module _ (sc : Schema) (n t : ℕ) (s : List ℕ) where
-  -- The places of the outermost fields with a tag are those that the walk finds.
+  -- The places of the outermost fields with a tag are those that the verdict finds.
   found-at : (cut : Cut) (fuel at : ℕ) → drop at s ≡ joined cut → Allowed sc n cut → length (joined cut) < fuel
       → placesFrom t s fuel at ≡ map placeOf (withTag itemOf t (outermost sc n at cut))
   unfolding placesFrom afterHead headAt headFrom outermost withTag joined Allowed itemTag

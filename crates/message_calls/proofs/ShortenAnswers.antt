@@ -11,7 +11,7 @@ use Rattle.hproto_message.specs.internal.Accepts.{Accepts}
 use Rattle.hproto_table.specs.Schema.{Schema, schema}
 use Rattle.hproto_table.specs.Valid.{valid}
 use Rattle.hproto_table.specs.declared.Table.{Table}
-use Rattle.reading.specs.internal.Walks.{IsAccepted}
+use Rattle.reading.specs.internal.Verdicts.{IsAccepted}
 use Rattle.hproto_message.specs.Reading.{reading}
 use Rattle.message_calls.specs.Check.{check, checkUnder}
 use Rattle.reading.specs.declared.Checked.{Checked}

@@ -1,4 +1,4 @@
-pub mod Walks
+pub mod Verdicts
 pub mod Spots
 pub mod LookupUnder
 pub mod Stores

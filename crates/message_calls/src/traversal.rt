@@ -1,7 +1,7 @@
 // The traversal of a message: its refusal, or the count of its fields and the depth of its deepest message.
 use hproto_field::Next;
 use reading::Checked;
-use reading::Walk;
+use reading::Verdict;
 ghost use mathlib.Core.Path.{_≡_};
 ghost use Prim.Native.Nat.{_+_, _≤_};
 ghost use lib.ListN.{length};
@@ -9,17 +9,17 @@ ghost use Rattle.reading.specs.Reading.{messageLimit};
 ghost use Rattle.table_index.specs.internal.Cells.{indexed};
 ghost use Rattle.hproto_message.specs.Reading.{messageFrom};
 ghost use Rattle.message_calls.specs.Check.{checkUnder};
-ghost use Rattle.message_calls.specs.internal.Walks.{walk as walk-of};
+ghost use Rattle.message_calls.specs.internal.Verdicts.{verdict as verdict-of};
 
 // A message of number `n` whose octets start at a place, in the field that starts at `from`. `levels` is how many messages deep it may
 // be, itself counted; a nested message has one less.
-fn nested(cells: &[u32; 128], n: u64, levels: u64, from: u64, at: u64, s: &[u8]) -> Walk
+fn traverse(cells: &[u32; 128], n: u64, levels: u64, from: u64, at: u64, s: &[u8]) -> Verdict
     requires { ⌜ at + length (now s) ≤ messageLimit ⌝ }
     requires { ⌜ levels ≤ 8 ⌝ }
-    ensures { λ r. ⌜ r ≡ walk-of (messageFrom (indexed (now (cells .entry))) levels n from at (now (s .entry))) ⌝ }
+    ensures { λ r. ⌜ r ≡ verdict-of (messageFrom (indexed (now (cells .entry))) levels n from at (now (s .entry))) ⌝ }
 {
     if levels == 0 {
-        return Walk::Refused(5, from);
+        return Verdict::Refused(5, from);
     }
     let mut i: usize = 0;
     let mut fields: u64 = 0;
@@ -32,8 +32,8 @@ fn nested(cells: &[u32; 128], n: u64, levels: u64, from: u64, at: u64, s: &[u8])
             continue;
         }
         match hproto_field::step(cells, n, s, i) {
-            Next::Done => return Walk::Accepted(fields, depth),
-            Next::Fault(k) => return Walk::Refused(k, at + (i as u64)),
+            Next::Done => return Verdict::Accepted(fields, depth),
+            Next::Fault(k) => return Verdict::Refused(k, at + (i as u64)),
             Next::Over(e) => {
                 i = e;
                 fields = fields + 1;
@@ -41,13 +41,13 @@ fn nested(cells: &[u32; 128], n: u64, levels: u64, from: u64, at: u64, s: &[u8])
             Next::Into(m, a, e) => {
                 let here = at + (i as u64);
                 let inside = at + (a as u64);
-                match nested(cells, m, levels - 1, here, inside, &s[a..e]) {
-                    Walk::Accepted(f, d) => {
+                match traverse(cells, m, levels - 1, here, inside, &s[a..e]) {
+                    Verdict::Accepted(f, d) => {
                         i = e;
                         fields = fields + (1 + f);
                         depth = numbers::larger(depth, d + 1);
                     }
-                    Walk::Refused(k, p) => return Walk::Refused(k, p),
+                    Verdict::Refused(k, p) => return Verdict::Refused(k, p),
                 }
             }
         }
@@ -64,5 +64,5 @@ pub(crate) fn check_under(cells: &[u32; 128], number: u64, message: &[u8]) -> Ch
     if 15 < number {
         return reading::refused(2, 0);
     }
-    reading::answer(nested(cells, number, 8, 0, 0, message))
+    reading::answer(traverse(cells, number, 8, 0, 0, message))
 }

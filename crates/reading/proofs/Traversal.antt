@@ -5,20 +5,20 @@ use mathlib.Core.Path.{_≡_, sym, ap, ap₂, _∙_, subst}
 use mathlib.Core.List.{List}
 use lib.ListN.{length, drop, length-drop}
 use lib.Seq.{drop-drop}
-use Rattle.reading.specs.declared.Walk.{Walk}
-use Rattle.reading.specs.declared.Walk.the-variants.{Accepted, Refused}
+use Rattle.reading.specs.declared.Verdict.{Verdict}
+use Rattle.reading.specs.declared.Verdict.the-variants.{Accepted, Refused}
 use Rattle.reading.specs.Reading.{Reading, accepted, refused, onAccepted, inOrder}
-use Rattle.reading.specs.internal.Walks.{walkOf}
-use Rattle.reading.proofs.Adding.{after, after-after, after-none, walk-over, walk-into, walk-refused}
+use Rattle.reading.specs.internal.Verdicts.{verdictOf}
+use Rattle.reading.proofs.Adding.{after, after-after, after-none, verdict-over, verdict-into, verdict-refused}
 
 -- A division has a count of fields and a depth. `from` reads the fields at the front of octets, by its fuel, which bounds the fields that
 -- it looks at, and by the offset of the octets. The message s begins at offset `at`; its first field begins `first` octets later.
 module _ {A : Type 0} (fields depth : A → ℕ) (from : ℕ → ℕ → List ℕ → Reading A) (at first : ℕ) (s : List ℕ) where
   -- What the fields after i octets come to.
-  abbrev rest : ℕ → ℕ → Walk
-  rest fuel i = walkOf fields depth (from fuel (at + i) (drop i s))
+  abbrev rest : ℕ → ℕ → Verdict
+  rest fuel i = verdictOf fields depth (from fuel (at + i) (drop i s))
 
-  abbrev pub whole : Walk
+  abbrev pub whole : Verdict
   whole = rest (suc (length s)) first
 
   -- The loop invariant: after i octets, with f fields so far of depth d, what the rest comes to decides.
@@ -46,7 +46,7 @@ module _ {A : Type 0} (fields depth : A → ℕ) (from : ℕ → ℕ → List �
     abbrev pub here : Reading A
     here = from (suc (now .fuel - 1)) (at + i) (drop i s)
 
-    looked : whole ≡ after f d (walkOf fields depth here)
+    looked : whole ≡ after f d (verdictOf fields depth here)
     looked =
         let a = now .inside in
         let b = now .enough in
@@ -54,17 +54,17 @@ module _ {A : Type 0} (fields depth : A → ℕ) (from : ℕ → ℕ → List �
         now .same ∙ ap (λ (fuel : ℕ). after f d (rest fuel i)) e
 
     pub at-end : (x : A) → fields x ≡ 0 → depth x ≡ 1 → here ≡ accepted x → Accepted f d ≡ whole
-    unfolding walkOf after
+    unfolding verdictOf after
     at-end x none flat e = let h = now .deep in sym (looked ∙ rw e (ap₂ Accepted (omega arith) (omega arith)))
 
     pub at-fault : (k p : ℕ) → here ≡ refused k p → Refused k p ≡ whole
-    unfolding walkOf after
+    unfolding verdictOf after
     at-fault k p e = sym (looked ∙ rw e)
 
-    pub at-nested-fault : (h : A → A → A) (q r : Reading A) (w : Walk) (k p : ℕ) → here ≡ inOrder h q r → w ≡ walkOf fields depth q
+    pub at-nested-fault : (h : A → A → A) (q r : Reading A) (w : Verdict) (k p : ℕ) → here ≡ inOrder h q r → w ≡ verdictOf fields depth q
         → w ≡ Refused k p → Refused k p ≡ whole
     unfolding after
-    at-nested-fault h q r w k p e v a = sym (looked ∙ rw (e, walk-refused fields depth h q k p r (sym v ∙ a)))
+    at-nested-fault h q r w k p e v a = sym (looked ∙ rw (e, verdict-refused fields depth h q k p r (sym v ∙ a)))
 
     -- The field takes t octets, and the next begins after j.
     module _ (t j : ℕ) (takes : 1 ≤ t) (fits : t ≤ length (drop i s)) (place : j ≡ i + t) where
@@ -77,7 +77,7 @@ module _ {A : Type 0} (fields depth : A → ℕ) (from : ℕ → ℕ → List �
         following = from (now .fuel - 1) offset (drop t (drop i s))
 
         -- The field adds g fields of depth e.
-        stepped : (g e : ℕ) → g ≤ t → walkOf fields depth here ≡ after g e (walkOf fields depth following) → Traversal j (f + g) (max d e)
+        stepped : (g e : ℕ) → g ≤ t → verdictOf fields depth here ≡ after g e (verdictOf fields depth following) → Traversal j (f + g) (max d e)
         stepped g e b same =
             let u = now .enough in
             let v = now .few in
@@ -92,7 +92,7 @@ module _ {A : Type 0} (fields depth : A → ℕ) (from : ℕ → ℕ → List �
               same =
                   looked
                   ∙ ap (after f d) same
-                  ∙ after-after f d g e (walkOf fields depth following)
+                  ∙ after-after f d g e (verdictOf fields depth following)
                   ∙ rw (moved, drop-drop t i s, place);
             }
 
@@ -102,14 +102,14 @@ module _ {A : Type 0} (fields depth : A → ℕ) (from : ℕ → ℕ → List �
         over h counted flat e =
             let m : max d 0 ≡ d = omega arith in
             subst (Traversal j (f + 1)) m
-            (stepped 1 0 takes (ap (walkOf fields depth) e ∙ walk-over fields depth h counted flat following))
+            (stepped 1 0 takes (ap (verdictOf fields depth) e ∙ verdict-over fields depth h counted flat following))
 
         -- The field holds a message with g fields, of depth e.
         pub into : (h : A → A → A) → ((x y : A) → fields (h x y) ≡ 1 + fields x + fields y)
-            → ((x y : A) → depth (h x y) ≡ max (suc (depth x)) (depth y)) → (q : Reading A) (w : Walk) (g e m : ℕ)
-            → here ≡ inOrder h q following → w ≡ walkOf fields depth q → w ≡ Accepted g e → 1 + g ≤ t → m ≡ max d (e + 1)
+            → ((x y : A) → depth (h x y) ≡ max (suc (depth x)) (depth y)) → (q : Reading A) (w : Verdict) (g e m : ℕ)
+            → here ≡ inOrder h q following → w ≡ verdictOf fields depth q → w ≡ Accepted g e → 1 + g ≤ t → m ≡ max d (e + 1)
             → Traversal j (f + (1 + g)) m
         into h counted deeper q w g e m k v a b n =
             let c : max d (suc e) ≡ m = sym (n ∙ omega arith) in
             subst (Traversal j (f + (1 + g))) c
-            (stepped (1 + g) (suc e) b (ap (walkOf fields depth) k ∙ walk-into fields depth h counted deeper q g e following (sym v ∙ a)))
+            (stepped (1 + g) (suc e) b (ap (verdictOf fields depth) k ∙ verdict-into fields depth h counted deeper q g e following (sym v ∙ a)))

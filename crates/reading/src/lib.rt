@@ -1,7 +1,7 @@
-// What the readers of every format share: what a walk through a message comes to, and the answer of a check.
+// What the readers of every format share: what a verdict through a message comes to, and the answer of a check.
 ghost use mathlib.Core.Path.{_≡_};
 ghost use Rattle.reading.specs.Checks.{refusal};
-ghost use Rattle.reading.specs.internal.Walks.{answerBy};
+ghost use Rattle.reading.specs.internal.Verdicts.{checkedBy};
 
 // The limits of document 01: the octets of a message, its depth, and the largest message number.
 pub const MESSAGE_LIMIT: usize = 65536;
@@ -48,8 +48,8 @@ pub const NOT_IN_FRACTIONS: u64 = 17;
 // No such field.
 pub const ABSENT: u64 = 18;
 
-// What a walk through a message comes to: the count of its fields and its depth, or a refusal's number and place.
-pub enum Walk {
+// What a verdict through a message comes to: the count of its fields and its depth, or a refusal's number and place.
+pub enum Verdict {
     Accepted(u64, u64),
     Refused(u64, u64),
 }
@@ -75,17 +75,17 @@ pub fn refused(number: u64, place: u64) -> Checked
     }
 }
 
-// The answer by what the walk through the message comes to.
-pub fn answer(walk: Walk) -> Checked
-    ensures { λ r. ⌜ r ≡ answerBy walk ⌝ }
+// The answer by what the verdict through the message comes to.
+pub fn answer(verdict: Verdict) -> Checked
+    ensures { λ r. ⌜ r ≡ checkedBy verdict ⌝ }
 {
-    match walk {
-        Walk::Accepted(fields, depth) => Checked {
+    match verdict {
+        Verdict::Accepted(fields, depth) => Checked {
             refusal: 0,
             place: 0,
             fields,
             depth,
         },
-        Walk::Refused(number, place) => refused(number, place),
+        Verdict::Refused(number, place) => refused(number, place),
     }
 }

@@ -1,4 +1,4 @@
--- What the answers of a walk, a check and a field tell of the reading that they come from, and what a reading tells of its first fault.
+-- What the answers of a verdict, a check and a field tell of the reading that they come from, and what a reading tells of its first fault.
 use Prim.Native.Nat.{ℕ, _<_}
 use native.Mathlib.Omega.{arith}
 use mathlib.Core.Path.{_≡_, refl, sym, ap, _∙_}
@@ -6,9 +6,9 @@ use mathlib.Core.List.{List}
 use mathlib.Core.Logic.{_↔_}
 use mathlib.Core.Option.{Option}
 use Rattle.reading.specs.Reading.{Reading, accepted, refused}
-use Rattle.reading.specs.internal.Walks.{IsAccepted, walkOf}
+use Rattle.reading.specs.internal.Verdicts.{IsAccepted, verdictOf}
 use Rattle.reading.specs.Checks.{refusal, counts}
-use Rattle.reading.specs.declared.Walk.the-variants.{Accepted, Refused}
+use Rattle.reading.specs.declared.Verdict.the-variants.{Accepted, Refused}
 use Rattle.tib_field.specs.Refused.{refusedField}
 use Rattle.tib_field.specs.declared.Field.{Field}
 use Rattle.tib_field.specs.Kth.{answerFor, fieldOf}
@@ -18,15 +18,15 @@ pub not-accepted : {A : Type 0} (k place : ℕ) (x : A) → refused k place ≡ 
 not-accepted k place x e = let z : _≡_ {A = ℕ} 0 1 = cc in absurd (omega arith)
 
 module _ {A : Type 0} (count depth : A → ℕ) where
-  pub walk-accepted : (r : Reading A) (n d : ℕ) → walkOf count depth r ≡ Accepted n d → IsAccepted r
-  unfolding walkOf IsAccepted
-  walk-accepted (accepted x) n d e = (x, refl)
-  walk-accepted (refused m q) n d e = let z : _≡_ {A = ℕ} 0 1 = cc in absurd (omega arith)
+  pub verdict-accepted : (r : Reading A) (n d : ℕ) → verdictOf count depth r ≡ Accepted n d → IsAccepted r
+  unfolding verdictOf IsAccepted
+  verdict-accepted (accepted x) n d e = (x, refl)
+  verdict-accepted (refused m q) n d e = let z : _≡_ {A = ℕ} 0 1 = cc in absurd (omega arith)
 
   -- What a message is refused with is the answer for each of its fields.
   pub field-refused : {B : Type 0} (shown : ℕ → B → Field) (fields : A → List (ℕ × B)) (k : ℕ) (r : Reading A) (n p : ℕ)
-      → walkOf count depth r ≡ Refused n p → refusedField n p ≡ fieldOf shown fields k r
-  unfolding walkOf fieldOf
+      → verdictOf count depth r ≡ Refused n p → refusedField n p ≡ fieldOf shown fields k r
+  unfolding verdictOf fieldOf
   field-refused shown fields k (accepted x) n p e = let z : _≡_ {A = ℕ} 0 1 = cc in absurd (omega arith)
   field-refused shown fields k (refused m q) n p e = let a : m ≡ n = cc in let b : q ≡ p = cc in rw (a, b)
 

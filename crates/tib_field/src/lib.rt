@@ -1,5 +1,5 @@
 // What the two Tib formats share: the name of a field, the numbers of their sizes, the mark of a header, and what their readers answer.
-// This crate also has the definitions and laws of fields that stand one after the other, of the k-th of them, and of the walk through them.
+// This crate also has the definitions and laws of fields that stand one after the other, of the k-th of them, and of the verdict through them.
 use tib_real::types::Real;
 ghost use mathlib.Core.Path.{_≡_};
 ghost use mathlib.Core.Bool.{false, cond};

@@ -6,7 +6,7 @@ use mathlib.Core.Bool.{Bool}
 use mathlib.Core.List.{List}
 use mathlib.Core.Option.{Option, none, some}
 use lib.ListN.{length, drop}
-use Rattle.reading.specs.internal.Walks.{IsAccepted}
+use Rattle.reading.specs.internal.Verdicts.{IsAccepted}
 use Rattle.tib_field.specs.Kth.{answerFor}
 use Rattle.tib_field.specs.internal.KthOf.{kthOf}
 use Rattle.tib_field.specs.Refused.{refusedField}

@@ -4,8 +4,8 @@ use native.Mathlib.Omega.{arith}
 use mathlib.Core.Path.{_≡_, refl, ap, _∙_}
 use mathlib.Core.List.{List, [], _∷_}
 use lib.ListN.{length, drop, length-append}
-use Rattle.reading.specs.declared.Walk.{Walk}
-use Rattle.reading.specs.declared.Walk.the-variants.{Accepted, Refused}
+use Rattle.reading.specs.declared.Verdict.{Verdict}
+use Rattle.reading.specs.declared.Verdict.the-variants.{Accepted, Refused}
 use Rattle.reading.proofs.Traversal as traversal
 use Rattle.reading.proofs.Traversal.{Traversal}
 use Rattle.tib_msg_field.specs.declared.Sizes.{Sizes}
@@ -27,7 +27,7 @@ step-inside s z e =
     (omega arith, omega arith)
 
 module _ (s : List ℕ) where
-  abbrev pub whole : Walk
+  abbrev pub whole : Verdict
   whole = traversal.whole length depth fieldsFrom 0 9 s
 
   -- After i octets, with f fields so far.

@@ -1,6 +1,6 @@
 // Reading TibMsg messages: the check of a whole message, and its k-th field.
 use reading::Checked;
-use reading::Walk;
+use reading::Verdict;
 use tib_field::Field;
 use tib_msg_field::Sizes;
 use tib_msg_field::Step;
@@ -9,7 +9,7 @@ ghost use mathlib.Core.Path.{_≡_};
 ghost use Prim.Native.Nat.{suc, _+_, _≤_, _<_, _^_};
 ghost use lib.ListN.{length, getD, drop};
 ghost use Rattle.tib_msg_field.specs.Reading.{total, partsAt, fieldsFrom, reading};
-ghost use Rattle.reading.specs.internal.Walks.{IsAccepted, walkOf};
+ghost use Rattle.reading.specs.internal.Verdicts.{IsAccepted, verdictOf};
 ghost use Rattle.tib_field.specs.internal.KthOf.{kthOf};
 ghost use Rattle.tib_msg.specs.Answers.{depth, check as check-of, hintNumber, realShown, shown as shown-of, places, field as field-of};
 ghost use Rattle.tib_msg.specs.internal.Found.{foundAt};
@@ -29,16 +29,16 @@ fn past(at: usize, z: Sizes) -> usize
 }
 
 // The fields of a message after a header that is good.
-fn walk_fields(s: &[u8]) -> Walk
+fn traverse(s: &[u8]) -> Verdict
     requires { ⌜ 9 ≤ length (now s) ⌝ }
-    ensures { λ r. ⌜ r ≡ walkOf length depth (fieldsFrom (suc (length (now (s .entry)))) 9 (drop 9 (now (s .entry)))) ⌝ }
+    ensures { λ r. ⌜ r ≡ verdictOf length depth (fieldsFrom (suc (length (now (s .entry)))) 9 (drop 9 (now (s .entry)))) ⌝ }
 {
     let mut i: usize = 9;
     let mut fields: u64 = 0;
     loop {
         match tib_msg_field::next_field(&s[i..]) {
-            Step::Done => return Walk::Accepted(fields, 1),
-            Step::Fault(k) => return Walk::Refused(k, i as u64),
+            Step::Done => return Verdict::Accepted(fields, 1),
+            Step::Fault(k) => return Verdict::Refused(k, i as u64),
             Step::Over(z) => {
                 i = past(i, z);
                 fields += 1;
@@ -47,14 +47,14 @@ fn walk_fields(s: &[u8]) -> Walk
     }
 }
 
-fn refuse(number: u64) -> Walk
-    ensures { λ r. ⌜ r ≡ Walk.Refused number 0 ⌝ }
+fn refuse(number: u64) -> Verdict
+    ensures { λ r. ⌜ r ≡ Verdict.Refused number 0 ⌝ }
 {
-    Walk::Refused(number, 0)
+    Verdict::Refused(number, 0)
 }
 
-fn read(message: &[u8]) -> Walk
-    ensures { λ r. ⌜ r ≡ walkOf length depth (reading (now (message .entry))) ⌝ }
+fn read(message: &[u8]) -> Verdict
+    ensures { λ r. ⌜ r ≡ verdictOf length depth (reading (now (message .entry))) ⌝ }
 {
     let n = message.len();
     if 65536 < n {
@@ -70,7 +70,7 @@ fn read(message: &[u8]) -> Walk
     if size != (n - 9) as u64 {
         return refuse(14);
     }
-    walk_fields(message)
+    traverse(message)
 }
 
 // The check of a whole TibMsg: its refusal, or the count of its fields and the depth 1.
@@ -169,8 +169,8 @@ pub fn field(message: &[u8], k: u64) -> Field
     ensures { λ r. ⌜ r ≡ field-of (now (message .entry)) k ⌝ }
 {
     match read(message) {
-        Walk::Refused(number, place) => tib_field::refused_field(number, place),
-        Walk::Accepted(_, _) => match find(message, k) {
+        Verdict::Refused(number, place) => tib_field::refused_field(number, place),
+        Verdict::Accepted(_, _) => match find(message, k) {
             Kth::At { place, sizes } => shown(message, place, sizes),
             Kth::Absent => tib_field::refused_field(18, 0),
         },

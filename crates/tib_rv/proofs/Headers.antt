@@ -13,18 +13,18 @@ use Rattle.tib_field.specs.Mark.{begins}
 use Rattle.octets.proofs.Slices.{tail-part}
 use Rattle.octets.proofs.Number.{unsigned-is}
 use Rattle.reading.specs.Reading.{messageLimit}
-use Rattle.reading.specs.internal.Walks.{walkOf}
-use Rattle.reading.specs.declared.Walk.the-variants.{Refused}
+use Rattle.reading.specs.internal.Verdicts.{verdictOf}
+use Rattle.reading.specs.declared.Verdict.the-variants.{Refused}
 use Rattle.tib_rv_field.specs.Layout.{magic, depth}
 use Rattle.tib_rv_field.specs.Reading.{headerFault, messageFrom, reading}
 use Rattle.tib_rv.specs.Answers.{count}
 
 module _ (s : List ℕ) where
-  pub too-long : messageLimit < length s → Refused 1 0 ≡ walkOf count depth (reading s)
-  unfolding reading walkOf
+  pub too-long : messageLimit < length s → Refused 1 0 ≡ verdictOf count depth (reading s)
+  unfolding reading verdictOf
   too-long h = rw (lt-ltb messageLimit (length s) h)
 
-  pub not-too-long : length s ≤ messageLimit → walkOf count depth (messageFrom 8 0 0 s) ≡ walkOf count depth (reading s)
+  pub not-too-long : length s ≤ messageLimit → verdictOf count depth (messageFrom 8 0 0 s) ≡ verdictOf count depth (reading s)
   unfolding reading
   not-too-long h = rw (le-ltb messageLimit (length s) h)
 

@@ -6,7 +6,7 @@ use mathlib.Core.List.{List, _++_}
 use mathlib.Core.Option.{Option, none, some}
 use lib.ListN.{length, drop}
 use Rattle.tib_field.specs.declared.Field.{Field as Shown}
-use Rattle.reading.specs.internal.Walks.{IsAccepted}
+use Rattle.reading.specs.internal.Verdicts.{IsAccepted}
 use Rattle.tib_field.specs.Name.{Name}
 use Rattle.tib_field.specs.Fields.{Each, joined as joinedParts}
 use Rattle.tib_field.specs.Kth.{answerFor}

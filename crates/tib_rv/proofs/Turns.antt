@@ -9,9 +9,9 @@ use borrow.Author.Tests.{ne-eqb}
 use Rattle.tib_rv_field.specs.declared.Sizes.{Sizes}
 use Rattle.tib_rv_field.specs.declared.Step.the-variants.{Done, Fault, Over, Into}
 use Rattle.reading.specs.Reading.{Reading, accepted, refused}
-use Rattle.reading.specs.internal.Walks.{walkOf}
-use Rattle.reading.specs.declared.Walk.{Walk}
-use Rattle.reading.specs.declared.Walk.the-variants.{Accepted, Refused}
+use Rattle.reading.specs.internal.Verdicts.{verdictOf}
+use Rattle.reading.specs.declared.Verdict.{Verdict}
+use Rattle.reading.specs.declared.Verdict.the-variants.{Accepted, Refused}
 use Rattle.reading.proofs.Traversal as traversal
 use Rattle.reading.proofs.Traversal.{Traversal}
 use Rattle.tib_rv_field.specs.Layout.{Parts, octets, holder, magic, Fields, end, leaf, nested, joined, message, depth}
@@ -50,7 +50,7 @@ unfolding total lead
 lead-within z = (omega arith, omega arith)
 
 module _ (inner : Inner) (at : ℕ) (s : List ℕ) where
-  abbrev pub whole : Walk
+  abbrev pub whole : Verdict
   whole = traversal.whole count depth (fieldsFrom inner) at 8 s
 
   -- After i octets, with f fields so far of depth d.
@@ -87,12 +87,12 @@ module _ (inner : Inner) (at : ℕ) (s : List ℕ) where
         (leaf (partsAt (drop i s) z)) (λ x. refl) (λ x. refl) (rw e)
 
     -- A field that holds a message. Its octets are those from a up to e.
-    module _ (z : Sizes) (a e : ℕ) (w : Walk) (k : nextField (drop i s) ≡ Into z) (p : a ≡ i + lead z) (q : e ≡ i + total z)
-        (o : w ≡ walkOf count depth (inner (at + i) (at + a) (take (e - a) (drop a s)))) where
+    module _ (z : Sizes) (a e : ℕ) (w : Verdict) (k : nextField (drop i s) ≡ Into z) (p : a ≡ i + lead z) (q : e ≡ i + total z)
+        (o : w ≡ verdictOf count depth (inner (at + i) (at + a) (take (e - a) (drop a s)))) where
       abbrev message-held : Reading Fields
       message-held = inner (at + i) (at + i + lead z) (partsAt (drop i s) z .contents)
 
-      inner-walk : w ≡ walkOf count depth message-held
+      inner-walk : w ≡ verdictOf count depth message-held
       inner-walk = let y : at + i + lead z ≡ at + a = omega arith in rw (y, data-part s i z, ← p, ← q) o
 
       pub over-nested : (g h m : ℕ) → w ≡ Accepted g h → g ≤ e - a → m ≡ max d (h + 1) → State e (f + (1 + g)) m
@@ -132,11 +132,11 @@ fields-few (nested name size inside rest) =
     rw length-append (omega arith)
 
 -- The counts of an accepted message are small.
-pub counts-small : (levels field at : ℕ) (s : List ℕ) (f d : ℕ) → walkOf count depth (messageFrom levels field at s) ≡ Accepted f d → (f ≤ length s) × (d ≤ levels)
-unfolding walkOf message
+pub counts-small : (levels field at : ℕ) (s : List ℕ) (f d : ℕ) → verdictOf count depth (messageFrom levels field at s) ≡ Accepted f d → (f ≤ length s) × (d ≤ levels)
+unfolding verdictOf message
 counts-small levels field at s f d e = go (messageFrom levels field at s) refl e
   where
-    go : (r : Reading Fields) → messageFrom levels field at s ≡ r → walkOf count depth r ≡ Accepted f d → (f ≤ length s) × (d ≤ levels)
+    go : (r : Reading Fields) → messageFrom levels field at s ≡ r → verdictOf count depth r ≡ Accepted f d → (f ≤ length s) × (d ≤ levels)
     go (accepted fs) h w =
         let g = accepted-good levels field at s fs h in
         let p : count fs ≡ f = cc in
@@ -149,7 +149,7 @@ counts-small levels field at s f d e = go (messageFrom levels field at s) refl e
 
 -- A message whose header is good, where it is not too deep, is its fields.
 pub header-open : (levels field at : ℕ) (s : List ℕ) → (levels ≡ 0 → ⊥) → headerFault s ≡ 0
-    → walkOf count depth (fieldsFrom (messageFrom (levels - 1)) (suc (length s)) (at + 8) (drop 8 s)) ≡ walkOf count depth (messageFrom levels field at s)
+    → verdictOf count depth (fieldsFrom (messageFrom (levels - 1)) (suc (length s)) (at + 8) (drop 8 s)) ≡ verdictOf count depth (messageFrom levels field at s)
 unfolding messageFrom
 header-open zero field at s h e = absurd (h refl)
 header-open (suc levels) field at s h e =
@@ -157,11 +157,11 @@ header-open (suc levels) field at s h e =
     rw (k, e)
 
 pub header-bad : (levels field at : ℕ) (s : List ℕ) (k : ℕ) → (levels ≡ 0 → ⊥) → k ≡ headerFault s → (k ≡ 0 → ⊥)
-    → Refused k at ≡ walkOf count depth (messageFrom levels field at s)
-unfolding messageFrom walkOf
+    → Refused k at ≡ verdictOf count depth (messageFrom levels field at s)
+unfolding messageFrom verdictOf
 header-bad zero field at s k h e n = absurd (h refl)
 header-bad (suc levels) field at s k h e n = rw (← e, ne-eqb k 0 n)
 
-pub too-deep : (levels field at : ℕ) (s : List ℕ) → levels ≡ 0 → Refused 5 field ≡ walkOf count depth (messageFrom levels field at s)
-unfolding messageFrom walkOf
+pub too-deep : (levels field at : ℕ) (s : List ℕ) → levels ≡ 0 → Refused 5 field ≡ verdictOf count depth (messageFrom levels field at s)
+unfolding messageFrom verdictOf
 too-deep levels field at s e = rw e

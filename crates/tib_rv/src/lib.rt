@@ -1,6 +1,6 @@
 // Reading TibrvMsg messages: the check of a whole message, and its k-th field.
 use reading::Checked;
-use reading::Walk;
+use reading::Verdict;
 use tib_field::Field;
 use tib_rv_field::Sizes;
 use tib_rv_field::Step;
@@ -10,7 +10,7 @@ ghost use lib.ListN.{length};
 ghost use Rattle.tib_rv_field.specs.Reading.{nextField, lead as lead-of, total, headerFault, messageFrom, reading};
 ghost use Rattle.tib_rv_field.specs.Layout.{depth};
 ghost use Rattle.reading.specs.Reading.{messageLimit};
-ghost use Rattle.reading.specs.internal.Walks.{IsAccepted, walkOf};
+ghost use Rattle.reading.specs.internal.Verdicts.{IsAccepted, verdictOf};
 ghost use Rattle.tib_field.specs.internal.KthOf.{kthOf};
 ghost use Rattle.tib_rv.specs.Answers.{count, check as check-of, places, field as field-of};
 ghost use Rattle.tib_rv.specs.internal.Found.{outerOf, foundAt, shownSizes};
@@ -58,18 +58,18 @@ fn past(at: usize, z: Sizes) -> usize
     data_at(at, z) + z.contents
 }
 
-fn refused(number: u64, place: u64) -> Walk
-    ensures { λ r. ⌜ r ≡ Walk.Refused number place ⌝ }
+fn refused(number: u64, place: u64) -> Verdict
+    ensures { λ r. ⌜ r ≡ Verdict.Refused number place ⌝ }
 {
-    Walk::Refused(number, place)
+    Verdict::Refused(number, place)
 }
 
 // A message whose header starts at a place, in a field at another place. `levels` is how many messages deep it may be, itself counted; a
 // nested message has one less.
-fn message(s: &[u8], levels: u64, field: u64, at: u64) -> Walk
+fn message(s: &[u8], levels: u64, field: u64, at: u64) -> Verdict
     requires { ⌜ at + length (now s) ≤ messageLimit ⌝ }
     requires { ⌜ levels ≤ 8 ⌝ }
-    ensures { λ r. ⌜ r ≡ walkOf count depth (messageFrom levels field at (now (s .entry))) ⌝ }
+    ensures { λ r. ⌜ r ≡ verdictOf count depth (messageFrom levels field at (now (s .entry))) ⌝ }
 {
     if levels == 0 {
         return refused(5, field);
@@ -83,7 +83,7 @@ fn message(s: &[u8], levels: u64, field: u64, at: u64) -> Walk
     let mut depth: u64 = 1;
     loop {
         match tib_rv_field::next_field(&s[i..]) {
-            Step::Done => return Walk::Accepted(fields, depth),
+            Step::Done => return Verdict::Accepted(fields, depth),
             Step::Fault(k) => return refused(k, at + (i as u64)),
             Step::Over(z) => {
                 i = past(i, z);
@@ -93,8 +93,8 @@ fn message(s: &[u8], levels: u64, field: u64, at: u64) -> Walk
                 let a = data_at(i, z);
                 let e = past(i, z);
                 match message(&s[a..e], levels - 1, at + (i as u64), at + (a as u64)) {
-                    Walk::Refused(number, place) => return refused(number, place),
-                    Walk::Accepted(f, d) => {
+                    Verdict::Refused(number, place) => return refused(number, place),
+                    Verdict::Accepted(f, d) => {
                         i = e;
                         fields = fields + (1 + f);
                         depth = numbers::larger(depth, d + 1);
@@ -105,8 +105,8 @@ fn message(s: &[u8], levels: u64, field: u64, at: u64) -> Walk
     }
 }
 
-fn read(s: &[u8]) -> Walk
-    ensures { λ r. ⌜ r ≡ walkOf count depth (reading (now (s .entry))) ⌝ }
+fn read(s: &[u8]) -> Verdict
+    ensures { λ r. ⌜ r ≡ verdictOf count depth (reading (now (s .entry))) ⌝ }
 {
     if 65536 < s.len() {
         return refused(1, 0);
@@ -179,8 +179,8 @@ pub fn field(message: &[u8], k: u64) -> Field
     ensures { λ r. ⌜ r ≡ field-of (now (message .entry)) k ⌝ }
 {
     match read(message) {
-        Walk::Refused(number, place) => tib_field::refused_field(number, place),
-        Walk::Accepted(_, _) => match find(message, k) {
+        Verdict::Refused(number, place) => tib_field::refused_field(number, place),
+        Verdict::Accepted(_, _) => match find(message, k) {
             Kth::At { place, sizes } => shown(place, sizes),
             Kth::Absent => tib_field::refused_field(18, 0),
         },

@@ -6,7 +6,7 @@ use Rattle.table_index.specs.internal.Cells.{indexed}
 use Rattle.table_index.proofs.Loaded.{table-schema}
 use Rattle.text_window.proofs.Windows.{same-window, whole-printed}
 use Rattle.hproto_print.specs.Text.{page}
-use Rattle.hproto_print.specs.internal.Walk.{linesOf}
+use Rattle.hproto_print.specs.internal.OfTree.{linesOf}
 use Rattle.hproto_print.proofs.Lengths.{page-fits}
 use Rattle.hproto_print.proofs.Messages.{message-refused, message-valid, message-accepts, message-shown}
 use Rattle.hproto_print.proofs.message.Statement.{statement}

@@ -1,4 +1,4 @@
--- The walk over the outermost fields by their control parts alone, and what contents say by a kind's number. proofs/Outers.antt and
+-- The verdict over the outermost fields by their control parts alone, and what contents say by a kind's number. proofs/Outers.antt and
 -- proofs/LookupAnswers.antt show that in an accepted message these are the places and the values of Lookup.antt.
 use Prim.Native.Nat.{ℕ, zero, suc}
 use mathlib.Core.Bool.{cond}

@@ -53,12 +53,12 @@ returns-4 c =
     ∙ other-size (c .before .before .before .before .before .before .before .before .before .before .args .message .now) (c .before .before .before .before .before .before .before .before .if1 .left) (c .before .before .before .before .before .before .before .if2 .left) (sym (c .before .before .before .before .before .begins .ensures) ∙ not-false _ (c .before .before .before .before .if3 .left))
     (c .before .before .number .result) (c .before .before .number .ensures) (c .before .if4 .taken)
 
-walk-fields-requires : tie.Need-walk-fields-requires
-walk-fields-requires c κs = search needs
+traverse-requires : tie.Need-traverse-requires
+traverse-requires c κs = search needs
 
 returns-5 : tie.Need-returns-5
 returns-5 c =
-    c .walk-fields .ensures
+    c .traverse .ensures
     ∙ good-header (c .before .before .before .before .before .before .before .before .before .before .args .message .now) (c .before .before .before .before .before .before .before .before .if1 .left) (c .before .before .before .before .before .before .before .if2 .left) (sym (c .before .before .before .before .before .begins .ensures) ∙ not-false _ (c .before .before .before .before .if3 .left))
     (c .before .before .number .result) (c .before .before .number .ensures) (c .before .if4 .left)
 
@@ -80,5 +80,5 @@ read-spec =
     number-requires
     refuse-requires-4
     returns-4
-    walk-fields-requires
+    traverse-requires
     returns-5)

@@ -12,7 +12,7 @@ use Rattle.tib_rv_field.specs.declared.Step.{Step}
 use Rattle.tib_rv_field.specs.declared.Step.the-variants.{Over, Into}
 use Rattle.tib_rv_field.specs.Reading.{nextField, total, fieldsFrom, headerFault, messageFrom}
 use Rattle.reading.specs.Reading.{messageLimit}
-use Rattle.reading.specs.internal.Walks.{walkOf}
+use Rattle.reading.specs.internal.Verdicts.{verdictOf}
 use Rattle.octets.proofs.Slices.{seen}
 use Rattle.tib_rv.specs.Answers.{count}
 use Rattle.tib_rv_field.proofs.Accepted.{header-good}
@@ -106,8 +106,8 @@ module _ (t : ℕ) (c : After-next t) where
   step-is p e = seen nextField octets i (c .next-field .result) p (c .next-field .ensures) e
 
   -- What the whole message comes to, in terms of its fields.
-  opened : walkOf count depth-of (fieldsFrom (messageFrom (args .levels - 1)) (suc (length octets)) (args .at + 8) (drop 8 octets))
-      ≡ walkOf count depth-of (messageFrom (args .levels) (args .field) (args .at) octets)
+  opened : verdictOf count depth-of (fieldsFrom (messageFrom (args .levels - 1)) (suc (length octets)) (args .at + 8) (drop 8 octets))
+      ≡ verdictOf count depth-of (messageFrom (args .levels) (args .field) (args .at) octets)
   opened = let h = levels-left in header-open (args .levels) (args .field) (args .at) octets (λ e. omega arith) (c .before .before .loop .inv .1)
 
   over-ends : (z : Sizes) → c .next-field .result ≡ Over z → (i < i + total z) × (i + total z ≤ length octets)

@@ -1,7 +1,7 @@
 -- `tib_rv::field` meets its contract.
 use mathlib.Core.Path.{sym, _∙_}
 use native.Mathlib.Omega.{arith}
-use Rattle.tib_field.proofs.Answers.{walk-accepted, field-refused}
+use Rattle.tib_field.proofs.Answers.{verdict-accepted, field-refused}
 use Rattle.tib_rv_field.specs.Layout.{depth}
 use Rattle.tib_rv_field.specs.Reading.{reading}
 use Rattle.tib_rv.specs.Answers.{count, shown, places, field}
@@ -25,7 +25,7 @@ enum-told c = search needs
 find-requires : tie.Need-find-requires
 find-requires c κs =
     let r = c .before .before in
-    walk-accepted count depth (reading (r .before .before .args .message .now)) _ _ (sym (r .read .ensures) ∙ c .enum-told .given .1)
+    verdict-accepted count depth (reading (r .before .before .args .message .now)) _ _ (sym (r .read .ensures) ∙ c .enum-told .given .1)
 
 enum-known-place : tie.Need-enum-known-place
 enum-known-place c = search needs
@@ -35,7 +35,7 @@ shown-requires c κs =
     let t = c .before .before .before .before in
     let r = t .before .before in
     let a = r .before .before .args in
-    let f = field-found (a .message .now) (a .k) (walk-accepted count depth (reading (a .message .now)) _ _ (sym (r .read .ensures) ∙ t .enum-told .given .1)) _ _ (sym (c .before .before .before .find .ensures) ∙ c .before .place .given .1) .inside in
+    let f = field-found (a .message .now) (a .k) (verdict-accepted count depth (reading (a .message .now)) _ _ (sym (r .read .ensures) ∙ t .enum-told .given .1)) _ _ (sym (c .before .before .before .find .ensures) ∙ c .before .place .given .1) .inside in
     omega arith
 
 enum-told-2 : tie.Need-enum-told-2
@@ -57,7 +57,7 @@ returns-2 c =
     let r = t .before .before in
     let a = r .before .before .args in
     c .shown .ensures
-    ∙ field-found (a .message .now) (a .k) (walk-accepted count depth (reading (a .message .now)) _ _ (sym (r .read .ensures) ∙ t .enum-told .given .1)) _ _ (sym (c .before .before .before .before .find .ensures) ∙ c .before .before .place .given .1) .shows
+    ∙ field-found (a .message .now) (a .k) (verdict-accepted count depth (reading (a .message .now)) _ _ (sym (r .read .ensures) ∙ t .enum-told .given .1)) _ _ (sym (c .before .before .before .before .find .ensures) ∙ c .before .before .place .given .1) .shows
 
 returns-3 : tie.Need-returns-3
 returns-3 c =
@@ -65,7 +65,7 @@ returns-3 c =
     let r = t .before .before in
     let a = r .before .before .args in
     c .refused-field2 .ensures
-    ∙ field-absent (a .message .now) (a .k) (walk-accepted count depth (reading (a .message .now)) _ _ (sym (r .read .ensures) ∙ t .enum-told .given .1)) (sym (c .before .before .before .find .ensures) ∙ c .before .enum-told2 .given .1)
+    ∙ field-absent (a .message .now) (a .k) (verdict-accepted count depth (reading (a .message .now)) _ _ (sym (r .read .ensures) ∙ t .enum-told .given .1)) (sym (c .before .before .before .find .ensures) ∙ c .before .enum-told2 .given .1)
 
 pub field-spec : {M : Type 1} → statement M
 field-spec =

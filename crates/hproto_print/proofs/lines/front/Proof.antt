@@ -1,7 +1,7 @@
 -- `hproto_print::lines::front` meets its contract.
 use borrow.Author.Needs.{needs}
 use Rattle.text_window.specs.Ascii.{ascii}
-use Rattle.hproto_print.specs.internal.Walk.{depthAndTag}
+use Rattle.hproto_print.specs.internal.OfTree.{depthAndTag}
 use Rattle.text_window.proofs.Windows.{then}
 use Rattle.hproto_print.proofs.lines.front.Statement.{statement}
 use Rattle.hproto_print.proofs.lines.front.Tie as tie

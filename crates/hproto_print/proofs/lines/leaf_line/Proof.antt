@@ -4,7 +4,7 @@ use denote.Ref.{now}
 use Rattle.hproto_message.specs.Tree.{value}
 use Rattle.text_window.specs.Ascii.{ascii}
 use Rattle.hproto_print.specs.Text.{kindName, front, line}
-use Rattle.hproto_print.specs.internal.Walk.{depthAndTag}
+use Rattle.hproto_print.specs.internal.OfTree.{depthAndTag}
 use Rattle.hproto_print.proofs.Values.{name-is}
 use Rattle.text_window.proofs.Windows.{then, same-place}
 use Rattle.hproto_print.proofs.lines.leaf_line.Statement.{statement}

@@ -7,7 +7,7 @@ use Rattle.table_index.specs.internal.Cells.{indexed}
 use Rattle.text_window.specs.Ascii.{ascii}
 use Rattle.text_window.specs.Digits.{decimal}
 use Rattle.hproto_print.specs.Text.{front, line}
-use Rattle.hproto_print.specs.internal.Walk.{depthAndTag, directOf}
+use Rattle.hproto_print.specs.internal.OfTree.{depthAndTag, directOf}
 use Rattle.text_window.proofs.Windows.{then, same-place}
 use Rattle.hproto_print.proofs.lines.message_line.Statement.{statement}
 use Rattle.hproto_print.proofs.lines.message_line.Tie as tie

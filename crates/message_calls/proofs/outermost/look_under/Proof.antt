@@ -25,7 +25,7 @@ module _ (c : tie.After-start) where
   abbrev end : ℕ
   end = c .start .given .0 .1 .0
 
-  -- The walk found a field.
+  -- The verdict found a field.
   here : Present (indexed (b .args .cells .now)) (b .args .number) (now (b .args .message)) (b .args .tag) (b .args .which) (passed (c .before .before .before)) start end
   here =
       present (indexed (b .args .cells .now)) (b .args .number) (now (b .args .message)) (b .args .tag) (b .args .which) (passed (c .before .before .before)) start end

@@ -1,4 +1,4 @@
--- `check_under` refuses a message over the limit and a number over 15, and walks through any other.
+-- `check_under` refuses a message over the limit and a number over 15, and verdicts through any other.
 use borrow.Author.Needs.{needs}
 use mathlib.Core.Path.{_∙_}
 use denote.Ref.{now}
@@ -24,8 +24,8 @@ returns-2 c =
     c .refused2 .ensures
     ∙ bad-number (indexed (now (a .cells))) (a .number) (now (a .message)) (c .before .before .if1 .left) (c .before .if2 .taken)
 
-nested-requires : tie.Need-nested-requires
-nested-requires c κs = search needs
+traverse-requires : tie.Need-traverse-requires
+traverse-requires c κs = search needs
 
 answer-requires : tie.Need-answer-requires
 answer-requires c κs = search needs
@@ -33,11 +33,11 @@ answer-requires c κs = search needs
 returns-3 : tie.Need-returns-3
 returns-3 c =
     let a = c .before .before .before .before .before .args in
-    let n = c .before .nested in
+    let n = c .before .traverse in
     c .answer .ensures
     ∙ by-walk (indexed (now (a .cells))) (a .number) (now (a .message)) (c .before .before .before .if1 .left) (c .before .before .if2 .left) (n .result) (n .ensures)
 
 pub check-under-spec : {M : Type 1} → statement M
 check-under-spec =
     tie.close
-    (tie.spec refused-requires returns refused-requires-2 returns-2 nested-requires answer-requires returns-3)
+    (tie.spec refused-requires returns refused-requires-2 returns-2 traverse-requires answer-requires returns-3)

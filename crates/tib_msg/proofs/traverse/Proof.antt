@@ -1,4 +1,4 @@
--- `tib_msg::walk_fields` meets its contract: at each turn the fields passed stand before those of the rest.
+-- `tib_msg::traverse` meets its contract: at each turn the fields passed stand before those of the rest.
 use borrow.Author.Needs.{needs}
 use native.Mathlib.Omega.{arith}
 use Prim.Native.Nat.{_-_}
@@ -7,8 +7,8 @@ use lib.ListN.{length}
 use Rattle.octets.proofs.Slices.{seen}
 use Rattle.tib_msg_field.specs.Reading.{nextField}
 use Rattle.tib_msg.proofs.Turns.{State, start, at-end, at-fault, forward, over-field}
-use Rattle.tib_msg.proofs.walk_fields.Statement.{statement}
-use Rattle.tib_msg.proofs.walk_fields.Tie as tie
+use Rattle.tib_msg.proofs.traverse.Statement.{statement}
+use Rattle.tib_msg.proofs.traverse.Tie as tie
 
 abbrev Inv-loop : tie.InvT-loop
 Inv-loop s i₀ fields₀ i fields = State s i fields
@@ -65,8 +65,8 @@ loop-less c =
 loop-again : tie.Need-loop-again Inv-loop μ-loop
 loop-again c = over-field (c .before .before .before .before .before .before .before .before .args .s .now) (c .before .before .before .before .before .before .loop .i) (c .before .before .before .before .before .before .loop .fields) (c .before .before .before .before .before .before .loop .inv) _ _ (seen nextField (c .before .before .before .before .before .before .before .before .args .s .now) (c .before .before .before .before .before .before .loop .i) _ _ (c .before .before .before .before .next-field .ensures) (c .before .before .z .given .1)) (c .past .ensures)
 
-pub walk-fields-spec : {M : Type 1} → statement M
-walk-fields-spec =
+pub traverse-spec : {M : Type 1} → statement M
+traverse-spec =
     tie.close
     (tie.spec
     Inv-loop

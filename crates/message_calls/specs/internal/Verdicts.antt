@@ -1,8 +1,8 @@
 -- What the private function `nested` answers: what a reading comes to, with the counts of its cut.
 use Prim.Native.Nat.{ℕ, _+_}
 use Rattle.reading.specs.Reading.{Reading}
-use Rattle.reading.specs.internal.Walks.{walkOf}
-use Rattle.reading.specs.declared.Walk.{Walk}
+use Rattle.reading.specs.internal.Verdicts.{verdictOf}
+use Rattle.reading.specs.declared.Verdict.{Verdict}
 use Rattle.hproto_message.specs.Cut.{Cut, end, leaf, nested, depth}
 
 -- The count of fields of a cut, at all depths.
@@ -11,5 +11,5 @@ fields end = 0
 fields (leaf tag part contents rest) = 1 + fields rest
 fields (nested tag part inside rest) = 1 + fields inside + fields rest
 
-abbrev pub walk : Reading Cut → Walk
-walk r = walkOf fields depth r
+abbrev pub verdict : Reading Cut → Verdict
+verdict r = verdictOf fields depth r
