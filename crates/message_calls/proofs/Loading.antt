@@ -13,8 +13,8 @@ use Rattle.hproto_table.specs.Valid.{valid}
 use Rattle.hproto_table.specs.declared.Table.{Table}
 use Rattle.hproto_table.specs.declared.Loaded.{Loaded}
 use Rattle.hproto_table.proofs.Placed.{loaded-valid}
-use Rattle.table_index.specs.internal.Cells.{notedBefore, takenFrom, indexed}
-use Rattle.table_index.proofs.Loaded.{octets-accepted, octets-refused, octets-schema}
+use Rattle.table_index.specs.internal.Cells.{insertedBefore, prefixEnd, indexed}
+use Rattle.table_index.proofs.IndexLaws.{octets-accepted, octets-refused, octets-schema}
 use Rattle.message_calls.proofs.Counts.{under-valid}
 use Rattle.message_calls.proofs.ShortenAnswers.{answer-under, buffer-under}
 use Rattle.message_calls.specs.Calls.{withTable, checkOctets, shortenOctets, shortenBuffer, lookupOctets, lookupLastOctets}
@@ -44,7 +44,7 @@ module _ {A : Type 0} (octets s : List ℕ) (under : Table → A) (refuse : ℕ 
 
 -- An index of a table's octets, made in cells that were cleared.
 module _ (octets s : List ℕ) (h : length s ≤ 65536) (n : ℕ)
-    (counted : n ≡ takenFrom (λ i. wellFormed (recordAt octets i)) (wordAt octets) (replicate 128 0) 0 64) where
+    (counted : n ≡ prefixEnd (λ i. wellFormed (recordAt octets i)) (wordAt octets) (replicate 128 0) 0 64) where
   -- It has not all records: the loader refuses the one after them.
   pub index-refused : {A : Type 0} (under : Table → A) (refuse : ℕ → ℕ → A) → n * 8 < length octets → refuse 2 (n * 8) ≡ withTable octets s under refuse
   unfolding refused
@@ -54,7 +54,7 @@ module _ (octets s : List ℕ) (h : length s ≤ 65536) (n : ℕ)
       table-refused octets s under refuse h (refused (n * 8)) (sym e) (λ z. omega arith)
 
   -- It has all: the table loads, and the calls answer under the index as under the table.
-  module _ (o : Octets octets) (all : length octets ≤ n * 8) (cells : List ℕ) (noted : cells ≡ notedBefore (wordAt octets) (replicate 128 0) n) (m : ℕ) where
+  module _ (o : Octets octets) (all : length octets ≤ n * 8) (cells : List ℕ) (noted : cells ≡ insertedBefore (wordAt octets) (replicate 128 0) n) (m : ℕ) where
     whole : length octets ≤ 8 * n
     whole = omega arith
 

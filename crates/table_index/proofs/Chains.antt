@@ -26,37 +26,37 @@ module _ (cells : List ℕ) (key : ℕ) where
   next c = getD cells (64 + c % 64) 0
 
   -- The cell 0 ends a chain.
-  pub chase-zero : (room : ℕ) → chase room cells key 0 ≡ 0
+  pub chase-zero : (fuel : ℕ) → chase fuel cells key 0 ≡ 0
   unfolding chase
   chase-zero zero = refl
-  chase-zero (suc room) = rw (le-ltb (next 0 % 64) 0 (omega arith)) (go (eqb 0 key))
+  chase-zero (suc fuel) = rw (le-ltb (next 0 % 64) 0 (omega arith)) (go (eqb 0 key))
     where
       go : (t : Bool) → _≡_ {A = ℕ} (cond t 0 0) 0
       go true = refl
       go false = refl
 
-  module _ (room c : ℕ) where
-    pub chase-here : c / 2048 ≡ key → chase (suc room) cells key c ≡ c
+  module _ (fuel c : ℕ) where
+    pub chase-here : c / 2048 ≡ key → chase (suc fuel) cells key c ≡ c
     unfolding chase
     chase-here e = rw (eq-eqb (c / 2048) key e) refl
 
     module _ (other : c / 2048 ≡ key → ⊥) where
-      pub chase-ends : c % 64 ≤ next c % 64 → chase (suc room) cells key c ≡ 0
+      pub chase-ends : c % 64 ≤ next c % 64 → chase (suc fuel) cells key c ≡ 0
       unfolding chase
       chase-ends h = rw (ne-eqb (c / 2048) key other, le-ltb (next c % 64) (c % 64) h) refl
 
-      pub chase-on : next c % 64 < c % 64 → chase (suc room) cells key c ≡ chase room cells key (next c)
+      pub chase-on : next c % 64 < c % 64 → chase (suc fuel) cells key c ≡ chase fuel cells key (next c)
       unfolding chase
       chase-on h = rw (ne-eqb (c / 2048) key other, lt-ltb (next c % 64) (c % 64) h) refl
 
   -- One cell more changes nothing where there is room for the order of the first.
-  pub chase-more : (room c : ℕ) → c % 64 < room → chase room cells key c ≡ chase (suc room) cells key c
+  pub chase-more : (fuel c : ℕ) → c % 64 < fuel → chase fuel cells key c ≡ chase (suc fuel) cells key c
   unfolding chase
   chase-more zero c h = absurd (omega arith)
-  chase-more (suc room) c h = go (ltb (next c % 64) (c % 64)) refl (chase-more room (next c))
+  chase-more (suc fuel) c h = go (ltb (next c % 64) (c % 64)) refl (chase-more fuel (next c))
     where
-      go : (t : Bool) → ltb (next c % 64) (c % 64) ≡ t → (next c % 64 < room → chase room cells key (next c) ≡ chase (suc room) cells key (next c))
-          → cond (eqb (c / 2048) key) c (cond t (chase room cells key (next c)) 0) ≡ cond (eqb (c / 2048) key) c (cond t (chase (suc room) cells key (next c)) 0)
+      go : (t : Bool) → ltb (next c % 64) (c % 64) ≡ t → (next c % 64 < fuel → chase fuel cells key (next c) ≡ chase (suc fuel) cells key (next c))
+          → cond (eqb (c / 2048) key) c (cond t (chase fuel cells key (next c)) 0) ≡ cond (eqb (c / 2048) key) c (cond t (chase (suc fuel) cells key (next c)) 0)
       go true e more = rw (more (omega (arith, ltb-true (next c % 64) (c % 64) e))) refl
       go false e more = refl
 

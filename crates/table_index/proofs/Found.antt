@@ -8,7 +8,7 @@ use lib.ListN.{length, getD, set, replicate, length-set, length-replicate, getD-
 use lib.Seq.{getD-set-same, getD-set-other}
 use lib.Dec.{eqb, ltb}
 use borrow.Author.Tests.{eqb-true, eqb-false, ltb-true, ltb-false}
-use Rattle.table_index.specs.internal.Cells.{wordKey, cellOf, chase, search, fresh, linked, noted, notedBefore}
+use Rattle.table_index.specs.internal.Cells.{wordKey, cellOf, chase, search, insertable, linked, inserted, insertedBefore}
 use Rattle.table_index.proofs.Chains.{chase-zero, chase-here, chase-ends, chase-on, chase-more, search-empty}
 use Rattle.table_index.proofs.Words.{Small, cell-key, cell-order}
 
@@ -32,22 +32,22 @@ module _ (cells : List ℕ) (n bucket old new : ℕ) (head : bucket < 64) where
       getD-set-other (set cells (64 + n) old) bucket h new 0 d ∙ getD-set-other cells (64 + n) h old 0 (λ e. omega arith)
 
   -- A chain of older cells is as it was.
-  chase-kept : (key room c : ℕ) → Older n c → chase room After key c ≡ chase room cells key c
+  chase-kept : (key fuel c : ℕ) → Older n c → chase fuel After key c ≡ chase fuel cells key c
   unfolding chase
   chase-kept key zero c low = refl
-  chase-kept key (suc room) c low = by-cell (eqb c 0) refl (chase-kept key room (getD cells (64 + c % 64) 0))
+  chase-kept key (suc fuel) c low = by-cell (eqb c 0) refl (chase-kept key fuel (getD cells (64 + c % 64) 0))
     where
       next : ℕ
       next = getD cells (64 + c % 64) 0
 
-      by-order : (t : Bool) → ltb (next % 64) (c % 64) ≡ t → (Older n next → chase room After key next ≡ chase room cells key next) → c % 64 < n
-          → cond (eqb (c / 2048) key) c (cond t (chase room After key next) 0) ≡ cond (eqb (c / 2048) key) c (cond t (chase room cells key next) 0)
+      by-order : (t : Bool) → ltb (next % 64) (c % 64) ≡ t → (Older n next → chase fuel After key next ≡ chase fuel cells key next) → c % 64 < n
+          → cond (eqb (c / 2048) key) c (cond t (chase fuel After key next) 0) ≡ cond (eqb (c / 2048) key) c (cond t (chase fuel cells key next) 0)
       by-order true e rest h = rw (rest (λ d. omega (arith, ltb-true (next % 64) (c % 64) e))) refl
       by-order false e rest h = refl
 
-      by-cell : (t : Bool) → eqb c 0 ≡ t → (Older n next → chase room After key next ≡ chase room cells key next)
-          → chase (suc room) After key c ≡ chase (suc room) cells key c
-      by-cell true e rest = rw (eqb-true c 0 e) (chase-zero After key (suc room) ∙ sym (chase-zero cells key (suc room)))
+      by-cell : (t : Bool) → eqb c 0 ≡ t → (Older n next → chase fuel After key next ≡ chase fuel cells key next)
+          → chase (suc fuel) After key c ≡ chase (suc fuel) cells key c
+      by-cell true e rest = rw (eqb-true c 0 e) (chase-zero After key (suc fuel) ∙ sym (chase-zero cells key (suc fuel)))
       by-cell false e rest =
           let h = low (eqb-false c 0 e) in
           rw (link-kept (c % 64) h) (by-order (ltb (next % 64) (c % 64)) refl rest h)
@@ -129,8 +129,8 @@ standing word zero key = 0
 standing word (suc k) key = cond (eqb (wordKey (word k)) key) (cellOf (word k) k) (standing word k key)
 
 -- The cells after some words, with nothing before them.
-abbrev pub made : (ℕ → ℕ) → ℕ → List ℕ
-made word k = notedBefore word (replicate 128 0) k
+abbrev pub indexAfter : (ℕ → ℕ) → ℕ → List ℕ
+indexAfter word k = insertedBefore word (replicate 128 0) k
 
 record Stands (word : ℕ → ℕ) (k : ℕ) (cells : List ℕ) : Type 0 where
   pub long : length cells ≡ 128
@@ -147,8 +147,8 @@ module _ (word : ℕ → ℕ) where
         found = λ key. search-empty (replicate 128 0) key (getD-replicate 128 (key % 64) 0 0 (omega arith));
       }
 
-  stands-more : (k : ℕ) (cells : List ℕ) → k < 64 → Small (word k) → fresh (word k) cells ≡ true → Stands word k cells → Stands word (suc k) (noted (word k) k cells)
-  unfolding noted linked standing
+  stands-more : (k : ℕ) (cells : List ℕ) → k < 64 → Small (word k) → insertable (word k) cells ≡ true → Stands word k cells → Stands word (suc k) (inserted (word k) k cells)
+  unfolding inserted linked standing
   stands-more k cells few s new st =
       subst (λ (t : Bool). Stands word (suc k) (cond t (With (word k) k s few cells (st .long) (st .low)) cells)) (sym new)
       record {
@@ -162,12 +162,12 @@ module _ (word : ℕ → ℕ) where
       go key true e = rw (← eqb-true (wordKey (word k)) key e) (found-own (word k) k s few cells (st .long) (st .low))
       go key false e = found-other (word k) k s few cells (st .long) (st .low) key (eqb-false (wordKey (word k)) key e) ∙ st .found key
 
-  stands : (k : ℕ) → k ≤ 64 → ((j : ℕ) → j < k → Small (word j)) → ((j : ℕ) → j < k → fresh (word j) (made word j) ≡ true) → Stands word k (made word k)
-  unfolding notedBefore
+  stands : (k : ℕ) → k ≤ 64 → ((j : ℕ) → j < k → Small (word j)) → ((j : ℕ) → j < k → insertable (word j) (indexAfter word j) ≡ true) → Stands word k (indexAfter word k)
+  unfolding insertedBefore
   stands zero few small new = stands-none
   stands (suc k) few small new =
-      stands-more k (made word k) few (small k (omega arith)) (new k (omega arith)) (stands k (omega arith) (λ j l. small j (omega arith)) (λ j l. new j (omega arith)))
+      stands-more k (indexAfter word k) few (small k (omega arith)) (new k (omega arith)) (stands k (omega arith) (λ j l. small j (omega arith)) (λ j l. new j (omega arith)))
 
-  pub found-standing : (k : ℕ) → k ≤ 64 → ((j : ℕ) → j < k → Small (word j)) → ((j : ℕ) → j < k → fresh (word j) (made word j) ≡ true)
-      → (key : ℕ) → search (made word k) key ≡ standing word k key
+  pub found-standing : (k : ℕ) → k ≤ 64 → ((j : ℕ) → j < k → Small (word j)) → ((j : ℕ) → j < k → insertable (word j) (indexAfter word j) ≡ true)
+      → (key : ℕ) → search (indexAfter word k) key ≡ standing word k key
   found-standing k few small new = stands k few small new .found

@@ -4,8 +4,8 @@ pub mod Chains
 pub mod Meanings
 pub mod Words
 pub mod Zeros
-pub mod Noting
+pub mod InsertLoop
 pub mod Found
-pub mod Taken
-pub mod Loaded
-pub mod Loading
+pub mod AcceptedPrefix
+pub mod IndexLaws
+pub mod LoadLaws

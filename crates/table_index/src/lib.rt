@@ -15,7 +15,7 @@ ghost use lib.ListN.{take, drop};
 ghost use Rattle.hproto_table.specs.Entry.{entry, kindNumber};
 ghost use Rattle.hproto_table.specs.Load.{inRange, recordAt, wordAt, wellFormed, load as load-of, refused as refused-at};
 ghost use Rattle.hproto_table.specs.Valid.{allZero, valid as valid-of};
-ghost use Rattle.table_index.specs.internal.Cells.{keysFrom, wordKey, cellOf, codeIn, meaningIn, orderIn, nextIn, search as search-of, fresh, linked, noted, notedBefore, takenFrom, takenWords, notedWords, allTaken, cellFor, indexed};
+ghost use Rattle.table_index.specs.internal.Cells.{keysFrom, wordKey, cellOf, codeIn, meaningIn, orderIn, nextIn, search as search-of, insertable, linked, inserted, insertedBefore, prefixEnd, prefixLength, insertedWords, allInserted, cellFor, indexed};
 
 // The first key of a message number. There is no test of the number in a search, so that a loop over fields computes this once.
 fn keys_from(number: u64) -> u64
@@ -95,11 +95,11 @@ fn link(w: u64, i: usize, cells: &mut [u32; 128])
 }
 
 // Notes a word as the i-th of its table and answers true, where no cell has its key.
-fn note(w: u64, i: usize, cells: &mut [u32; 128]) -> bool
+fn insert(w: u64, i: usize, cells: &mut [u32; 128]) -> bool
     requires { ⌜ inRange (entry w) ≡ true ⌝ }
     requires { ⌜ i < 64 ⌝ }
-    ensures { λ r. ⌜ r ≡ fresh w (now (cells .entry)) ⌝ }
-    ensures { λ r. ⌜ now (cells .exit) ≡ noted w i (now (cells .entry)) ⌝ }
+    ensures { λ r. ⌜ r ≡ insertable w (now (cells .entry)) ⌝ }
+    ensures { λ r. ⌜ now (cells .exit) ≡ inserted w i (now (cells .entry)) ⌝ }
 {
     if !lacks(cells, word_key(w)) {
         return false;
@@ -111,8 +111,8 @@ fn note(w: u64, i: usize, cells: &mut [u32; 128]) -> bool
 // Notes the records at the front of a table's octets up to the first that is faulty, and answers how many they are. In cells that were
 // cleared, the loader accepts the table where they are all, else it refuses the record after them.
 pub fn index(table: &[u8], cells: &mut [u32; 128]) -> usize
-    ensures { λ r. ⌜ r ≡ takenFrom (λ i. wellFormed (recordAt (now (table .entry)) i)) (wordAt (now (table .entry))) (now (cells .entry)) 0 64 ⌝ }
-    ensures { λ r. ⌜ now (cells .exit) ≡ notedBefore (wordAt (now (table .entry))) (now (cells .entry)) r ⌝ }
+    ensures { λ r. ⌜ r ≡ prefixEnd (λ i. wellFormed (recordAt (now (table .entry)) i)) (wordAt (now (table .entry))) (now (cells .entry)) 0 64 ⌝ }
+    ensures { λ r. ⌜ now (cells .exit) ≡ insertedBefore (wordAt (now (table .entry))) (now (cells .entry)) r ⌝ }
 {
     let most = numbers::smaller(64, table.len() / 8);
     let mut n: usize = 0;
@@ -121,7 +121,7 @@ pub fn index(table: &[u8], cells: &mut [u32; 128]) -> usize
         let Record::Word(w) = r else {
             return n;
         };
-        if !note(w, n, cells) {
+        if !insert(w, n, cells) {
             return n;
         }
         n += 1;
@@ -131,9 +131,9 @@ pub fn index(table: &[u8], cells: &mut [u32; 128]) -> usize
 
 // The same of words, of which at most 64 are noted. The inner loop runs over the entries before a word that lie in its bucket. The first
 // entry with the word's pair ends both loops.
-fn note_words(words: &[u64], cells: &mut [u32; 128]) -> usize
-    ensures { λ r. ⌜ r ≡ takenWords (now (words .entry)) (now (cells .entry)) ⌝ }
-    ensures { λ r. ⌜ now (cells .exit) ≡ notedWords (now (words .entry)) (now (cells .entry)) ⌝ }
+fn insert_words(words: &[u64], cells: &mut [u32; 128]) -> usize
+    ensures { λ r. ⌜ r ≡ prefixLength (now (words .entry)) (now (cells .entry)) ⌝ }
+    ensures { λ r. ⌜ now (cells .exit) ≡ insertedWords (now (words .entry)) (now (cells .entry)) ⌝ }
 {
     let most = numbers::smaller(64, words.len());
     let mut n: usize = 0;
@@ -160,11 +160,11 @@ fn note_words(words: &[u64], cells: &mut [u32; 128]) -> usize
 
 // The same of the first words of a table. Of words in range the first that is not noted has a pair that stands before it.
 pub fn index_words(words: &[u64], count: usize, cells: &mut [u32; 128]) -> usize
-    ensures { λ r. ⌜ r ≡ takenWords (take count (now (words .entry))) (now (cells .entry)) ⌝ }
-    ensures { λ r. ⌜ now (cells .exit) ≡ notedWords (take count (now (words .entry))) (now (cells .entry)) ⌝ }
+    ensures { λ r. ⌜ r ≡ prefixLength (take count (now (words .entry))) (now (cells .entry)) ⌝ }
+    ensures { λ r. ⌜ now (cells .exit) ≡ insertedWords (take count (now (words .entry))) (now (cells .entry)) ⌝ }
 {
     let n = numbers::smaller(count, words.len());
-    note_words(&words[0..n], cells)
+    insert_words(&words[0..n], cells)
 }
 
 // Whether the words from n on are all 0. There is no test in the loop, so that the compiler can make it one over several words at once.
@@ -183,8 +183,8 @@ fn unused(words: &[u64], n: usize) -> bool
 // Notes the words of a table value, and answers whether they are all noted and nothing stands in the unused words. In cells that were
 // cleared this is whether the loader can give the table value.
 pub fn index_table(words: &[u64; 64], count: usize, cells: &mut [u32; 128]) -> bool
-    ensures { λ r. ⌜ r ≡ allTaken (now (words .entry)) count (now (cells .entry)) ⌝ }
-    ensures { λ r. ⌜ now (cells .exit) ≡ notedWords (take count (now (words .entry))) (now (cells .entry)) ⌝ }
+    ensures { λ r. ⌜ r ≡ allInserted (now (words .entry)) count (now (cells .entry)) ⌝ }
+    ensures { λ r. ⌜ now (cells .exit) ≡ insertedWords (take count (now (words .entry))) (now (cells .entry)) ⌝ }
 {
     let n = index_words(words, count, cells);
     if n < count {

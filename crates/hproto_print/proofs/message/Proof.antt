@@ -3,7 +3,7 @@ use borrow.Author.Needs.{needs}
 use denote.Ref.{now}
 use lib.ListN.{length}
 use Rattle.table_index.specs.internal.Cells.{indexed}
-use Rattle.table_index.proofs.Loaded.{table-schema}
+use Rattle.table_index.proofs.IndexLaws.{table-schema}
 use Rattle.text_window.proofs.Windows.{same-window, whole-printed}
 use Rattle.hproto_print.specs.Text.{page}
 use Rattle.hproto_print.specs.internal.OfTree.{linesOf}

@@ -3,7 +3,7 @@ use native.Mathlib.Omega.{arith}
 use mathlib.Core.Path.{_≡_, sym, ap, _∙_}
 use borrow.Author.Tests.{not-true, not-false}
 use Rattle.hproto_table.specs.Entry.{kindNumber, innerOf}
-use Rattle.table_index.proofs.Loaded.{table-valid, table-schema}
+use Rattle.table_index.proofs.IndexLaws.{table-valid, table-schema}
 use Rattle.hproto_state.specs.Calls.{meant}
 use Rattle.hproto_state.specs.internal.Tags.{fits}
 use Rattle.hproto_state.proofs.TagKinds.{early-other, early-unsound, early-table, early-kind, early-none, means-found, tag-refused, tag-known}

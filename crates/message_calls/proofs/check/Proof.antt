@@ -5,7 +5,7 @@ use Rattle.hproto_table.specs.declared.Table.{Table}
 use Rattle.reading.specs.Checks.{refusal}
 use Rattle.message_calls.specs.Check.{check}
 use Rattle.octets.proofs.Number.{octets-of-slice}
-use Rattle.table_index.proofs.Loaded.{octets-few}
+use Rattle.table_index.proofs.IndexLaws.{octets-few}
 use Rattle.message_calls.specs.Calls.{checkOctets}
 use Rattle.message_calls.proofs.Loading.{message-too-long, index-refused, check-by-index}
 use borrow.Author.Needs.{needs}

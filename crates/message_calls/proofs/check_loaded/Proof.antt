@@ -1,7 +1,7 @@
 -- `check_loaded` refuses a table that no loader gives, and reads under the index of any other.
 use mathlib.Core.Path.{sym, _∙_}
 use borrow.Author.Tests.{not-true, not-false}
-use Rattle.table_index.proofs.Loaded.{table-valid, table-schema}
+use Rattle.table_index.proofs.IndexLaws.{table-valid, table-schema}
 use Rattle.table_index.specs.internal.Cells.{indexed}
 use Rattle.message_calls.proofs.Counts.{too-long, bad-table, under-valid}
 use borrow.Author.Needs.{needs}

@@ -4,13 +4,13 @@ use native.Mathlib.Omega.{arith}
 use mathlib.Core.Path.{sym, _∙_}
 use borrow.Author.Tests.{not-true, not-false}
 use Rattle.hproto_table.specs.Load.{recordAt, wordAt, wellFormed}
-use Rattle.table_index.proofs.Noting.{Noting, noting-starts, octets-end, noting-bad, noting-seen, noting-more, record-wrong, record-formed, record-word, record-range}
+use Rattle.table_index.proofs.InsertLoop.{InsertLoop, insert-loop-starts, octets-end, insert-loop-bad, insert-loop-repeated, insert-loop-continues, record-wrong, record-formed, record-word, record-range}
 use borrow.Author.Needs.{needs}
 use Rattle.table_index.proofs.index.Statement.{statement}
 use Rattle.table_index.proofs.index.Tie as tie
 
 abbrev Inv-loop : tie.InvT-loop
-Inv-loop table cells₀ most n₀ cells n = Noting (λ i. wellFormed (recordAt table i)) (wordAt table) cells₀ 64 n cells
+Inv-loop table cells₀ most n₀ cells n = InsertLoop (λ i. wellFormed (recordAt table i)) (wordAt table) cells₀ 64 n cells
 
 abbrev μ-loop : tie.MeasureT-loop
 μ-loop table cells₀ most n₀ cells n = most - n
@@ -21,7 +21,7 @@ smaller-requires c κs = tt
 loop-holds : tie.Need-loop-holds Inv-loop μ-loop
 loop-holds c =
     let s = c .before .before .args .table .now in
-    noting-starts (λ i. wellFormed (recordAt s i)) (wordAt s) (c .before .before .args .cells .now) 64
+    insert-loop-starts (λ i. wellFormed (recordAt s i)) (wordAt s) (c .before .before .args .cells .now) 64
 
 mul-record-at : tie.Need-mul-record-at Inv-loop μ-loop
 mul-record-at c = omega arith
@@ -40,11 +40,11 @@ returns c =
     let a = c .before .before .before .before .before .before .before .args in
     let s = a .table .now in
     let l = c .before .before .before .before .loop in
-    noting-bad (λ i. wellFormed (recordAt s i)) (wordAt s) (a .cells .now) 64 (l .n) (l .cells) (l .inv) (omega arith)
+    insert-loop-bad (λ i. wellFormed (recordAt s i)) (wordAt s) (a .cells .now) 64 (l .n) (l .cells) (l .inv) (omega arith)
     (record-wrong s (l .n) (sym (c .enum-told .given .1) ∙ c .before .before .record-at .ensures))
 
-note-requires : tie.Need-note-requires Inv-loop μ-loop
-note-requires c κs =
+insert-requires : tie.Need-insert-requires Inv-loop μ-loop
+insert-requires c κs =
     let s = c .before .before .before .before .before .before .before .before .before .args .table .now in
     let r = c .before .before .r .given in
     (record-range s (c .before .before .before .before .before .before .loop .n) (r .0 .0) (sym (r .1) ∙ c .before .before .before .before .record-at .ensures), omega arith)
@@ -56,8 +56,8 @@ returns-2 c =
     let l = c .before .before .before .before .before .before .before .before .loop in
     let w = c .before .before .before .before .r .given .0 .0 in
     let e = sym (c .before .before .before .before .r .given .1) ∙ c .before .before .before .before .before .before .record-at .ensures in
-    let k = c .before .note in
-    noting-seen (λ i. wellFormed (recordAt s i)) (wordAt s) (a .cells .now) 64 (l .n) (l .cells) (l .inv) (omega arith) w (k .last .1 .1 .0) (k .result)
+    let k = c .before .insert in
+    insert-loop-repeated (λ i. wellFormed (recordAt s i)) (wordAt s) (a .cells .now) 64 (l .n) (l .cells) (l .inv) (omega arith) w (k .last .1 .1 .0) (k .result)
     (record-word s (l .n) w e) (k .ensures .0) (k .ensures .1) (not-true (k .result) (c .if1 .taken))
 
 add-n : tie.Need-add-n Inv-loop μ-loop
@@ -73,8 +73,8 @@ loop-again c =
     let l = c .before .before .before .before .before .before .before .before .loop in
     let w = c .before .before .before .before .r .given .0 .0 in
     let e = sym (c .before .before .before .before .r .given .1) ∙ c .before .before .before .before .before .before .record-at .ensures in
-    let k = c .before .note in
-    noting-more (λ i. wellFormed (recordAt s i)) (wordAt s) (a .cells .now) 64 (l .n) (l .cells) (l .inv) (omega arith) w (k .last .1 .1 .0) (k .result)
+    let k = c .before .insert in
+    insert-loop-continues (λ i. wellFormed (recordAt s i)) (wordAt s) (a .cells .now) 64 (l .n) (l .cells) (l .inv) (omega arith) w (k .last .1 .1 .0) (k .result)
     (record-word s (l .n) w e) (k .ensures .0) (k .ensures .1) (record-formed s (l .n) w e) (not-false (k .result) (c .if1 .left))
 
 returns-3 : tie.Need-returns-3 Inv-loop μ-loop
@@ -97,7 +97,7 @@ index-spec =
     enum-known-r
     enum-told
     returns
-    note-requires
+    insert-requires
     returns-2
     add-n
     loop-less

@@ -1,7 +1,7 @@
 -- `index_table` gives what the definition says: fewer words than the count are noted, or the unused ones decide.
 use mathlib.Core.Path.{_≡_}
 use lib.ListN.{length}
-use Rattle.table_index.proofs.Loaded.{table-short, table-rest}
+use Rattle.table_index.proofs.IndexLaws.{table-incomplete, table-rest}
 use borrow.Author.Needs.{needs}
 use Rattle.table_index.proofs.index_table.Statement.{statement}
 use Rattle.table_index.proofs.index_table.Tie as tie
@@ -14,7 +14,7 @@ returns c =
     let a = c .before .before .before .before .args in
     let size : length (a .words .now) ≡ 64 = search needs in
     let k = c .before .index-words in
-    (table-short (a .words .now) (a .count) (a .cells .now) size (k .result) (k .ensures .0) (c .if1 .taken), k .ensures .1)
+    (table-incomplete (a .words .now) (a .count) (a .cells .now) size (k .result) (k .ensures .0) (c .if1 .taken), k .ensures .1)
 
 unused-requires : tie.Need-unused-requires
 unused-requires c κs = search needs

@@ -1,6 +1,6 @@
 -- `load` gives what the definition says: the first repeated pair among the records of the right form decides, or what stands after them.
 use native.Mathlib.Omega.{arith}
-use Rattle.table_index.proofs.Loading.{repeated, faulted, loaded}
+use Rattle.table_index.proofs.LoadLaws.{repeated, faulted, loaded}
 use borrow.Author.Needs.{needs}
 use Rattle.table_index.proofs.load.Statement.{statement}
 use Rattle.table_index.proofs.load.Tie as tie

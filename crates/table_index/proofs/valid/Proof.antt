@@ -1,5 +1,5 @@
 -- `valid` gives what the definition says: its cells were cleared.
-use Rattle.table_index.proofs.Loaded.{table-valid}
+use Rattle.table_index.proofs.IndexLaws.{table-valid}
 use borrow.Author.Needs.{needs}
 use Rattle.table_index.proofs.valid.Statement.{statement}
 use Rattle.table_index.proofs.valid.Tie as tie

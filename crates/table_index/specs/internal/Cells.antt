@@ -60,16 +60,16 @@ nextIn cells c =
 -- The cell with a key in the chain that begins with a cell; 0 where there is none. Along a chain the order falls, so 64 cells are enough.
 unfoldable pub chase : ℕ → List ℕ → ℕ → ℕ → ℕ
 chase zero cells key c = 0
-chase (suc room) cells key c =
+chase (suc fuel) cells key c =
     let next = getD cells (64 + c % 64) 0 in
-    cond (eqb (c / 2 ^ 11) key) c (cond (ltb (next % 64) (c % 64)) (chase room cells key next) 0)
+    cond (eqb (c / 2 ^ 11) key) c (cond (ltb (next % 64) (c % 64)) (chase fuel cells key next) 0)
 
 unfoldable pub search : List ℕ → ℕ → ℕ
 search cells key = chase 64 cells key (getD cells (key % 64) 0)
 
 -- Whether no cell has a word's key.
-unfoldable pub fresh : ℕ → List ℕ → Bool
-fresh w cells = eqb (search cells (wordKey w)) 0
+unfoldable pub insertable : ℕ → List ℕ → Bool
+insertable w cells = eqb (search cells (wordKey w)) 0
 
 -- The cells with a word as the i-th: it is the head of its bucket, before the head that was there.
 unfoldable pub linked : ℕ → ℕ → List ℕ → List ℕ
@@ -78,35 +78,35 @@ linked w i cells =
     set (set cells (64 + i) (getD cells bucket 0)) bucket (cellOf w i)
 
 -- The same where the word is fresh.
-unfoldable pub noted : ℕ → ℕ → List ℕ → List ℕ
-noted w i cells = cond (fresh w cells) (linked w i cells) cells
+unfoldable pub inserted : ℕ → ℕ → List ℕ → List ℕ
+inserted w i cells = cond (insertable w cells) (linked w i cells) cells
 
 -- The same with the first n words noted, each given by its place.
-unfoldable pub notedBefore : (ℕ → ℕ) → List ℕ → ℕ → List ℕ
-notedBefore word cells zero = cells
-notedBefore word cells (suc n) = noted (word n) n (notedBefore word cells n)
+unfoldable pub insertedBefore : (ℕ → ℕ) → List ℕ → ℕ → List ℕ
+insertedBefore word cells zero = cells
+insertedBefore word cells (suc n) = inserted (word n) n (insertedBefore word cells n)
 
 -- Whether the word at i is good and fresh after those before it.
-unfoldable pub taken : (ℕ → Bool) → (ℕ → ℕ) → List ℕ → ℕ → Bool
-taken good word cells i = good i && fresh (word i) (notedBefore word cells i)
+unfoldable pub insertableAt : (ℕ → Bool) → (ℕ → ℕ) → List ℕ → ℕ → Bool
+insertableAt good word cells i = good i && insertable (word i) (insertedBefore word cells i)
 
 -- The place of the first word from i on that is not taken, or that is `left` words further.
-unfoldable pub takenFrom : (ℕ → Bool) → (ℕ → ℕ) → List ℕ → ℕ → ℕ → ℕ
-takenFrom good word cells i zero = i
-takenFrom good word cells i (suc left) = cond (taken good word cells i) (takenFrom good word cells (suc i) left) i
+unfoldable pub prefixEnd : (ℕ → Bool) → (ℕ → ℕ) → List ℕ → ℕ → ℕ → ℕ
+prefixEnd good word cells i zero = i
+prefixEnd good word cells i (suc remaining) = cond (insertableAt good word cells i) (prefixEnd good word cells (suc i) remaining) i
 
 -- How many words at the front are in range and fresh, 64 at most, and the cells with these noted.
-unfoldable pub takenWords : List ℕ → List ℕ → ℕ
-takenWords ws cells = takenFrom (λ i. inRange (entry (getD ws i 0))) (λ i. getD ws i 0) cells 0 (min 64 (length ws))
+unfoldable pub prefixLength : List ℕ → List ℕ → ℕ
+prefixLength ws cells = prefixEnd (λ i. inRange (entry (getD ws i 0))) (λ i. getD ws i 0) cells 0 (min 64 (length ws))
 
-unfoldable pub notedWords : List ℕ → List ℕ → List ℕ
-notedWords ws cells = notedBefore (λ i. getD ws i 0) cells (takenWords ws cells)
+unfoldable pub insertedWords : List ℕ → List ℕ → List ℕ
+insertedWords ws cells = insertedBefore (λ i. getD ws i 0) cells (prefixLength ws cells)
 
 -- Whether the words of a table value are at most 64 and all taken, and nothing stands in the unused words.
-unfoldable pub allTaken : List ℕ → ℕ → List ℕ → Bool
-allTaken words count cells =
+unfoldable pub allInserted : List ℕ → ℕ → List ℕ → Bool
+allInserted words count cells =
     let used = take count words in
-    leb count 64 && eqb (takenWords used cells) (length used) && allZero (drop count words)
+    leb count 64 && eqb (prefixLength used cells) (length used) && allZero (drop count words)
 
 -- The cell of a message number and a tag; 0 where there is none. A tag over 65,535 is in no table.
 unfoldable pub cellFor : List ℕ → ℕ → ℕ → ℕ

@@ -3,7 +3,7 @@ use native.Mathlib.Omega.{arith}
 use mathlib.Core.Path.{sym, _∙_}
 use borrow.Author.Tests.{not-true, not-false}
 use Rattle.table_index.specs.internal.Cells.{indexed}
-use Rattle.table_index.proofs.Loaded.{table-valid, table-schema}
+use Rattle.table_index.proofs.IndexLaws.{table-valid, table-schema}
 use Rattle.reading.specs.Checks as answers
 use Rattle.message_calls.proofs.Counts.{too-long, bad-table}
 use Rattle.message_calls.specs.Lookup.{refusal}

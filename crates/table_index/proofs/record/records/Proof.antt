@@ -3,12 +3,12 @@ use mathlib.Core.Path.{sym, _∙_}
 use borrow.Author.Needs.{needs}
 use Prim.Native.Nat.{_-_}
 use native.Mathlib.Omega.{arith}
-use Rattle.table_index.proofs.Loading.{Taken, taken-none, taken-more, taken-stops, taken-all}
+use Rattle.table_index.proofs.LoadLaws.{RecordsLoop, records-start, records-continue, records-stop, records-end}
 use Rattle.table_index.proofs.record.records.Statement.{statement}
 use Rattle.table_index.proofs.record.records.Tie as tie
 
 abbrev Inv-loop : tie.InvT-loop
-Inv-loop s most words₀ n₀ words n = Taken s n words
+Inv-loop s most words₀ n₀ words n = RecordsLoop s n words
 
 abbrev μ-loop : tie.MeasureT-loop
 μ-loop s most words₀ n₀ words n = most - n
@@ -17,7 +17,7 @@ smaller-requires : tie.Need-smaller-requires Inv-loop μ-loop
 smaller-requires c κs = tt
 
 loop-holds : tie.Need-loop-holds Inv-loop μ-loop
-loop-holds c = taken-none (c .before .before .args .s .now)
+loop-holds c = records-start (c .before .before .args .s .now)
 
 mul-record-at : tie.Need-mul-record-at Inv-loop μ-loop
 mul-record-at c = omega arith
@@ -36,7 +36,7 @@ enum-told c =
 returns : tie.Need-returns Inv-loop μ-loop
 returns c =
     let l = c .before .before .before .before .loop in
-    taken-stops (c .before .before .before .before .before .before .before .args .s .now) (l .n) (l .words) (l .inv)
+    records-stop (c .before .before .before .before .before .before .before .args .s .now) (l .n) (l .words) (l .inv)
     (sym (c .enum-told .given .1) ∙ c .before .before .record-at .ensures)
 
 mul-words : tie.Need-mul-words Inv-loop μ-loop
@@ -54,13 +54,13 @@ loop-less c = omega arith
 loop-again : tie.Need-loop-again Inv-loop μ-loop
 loop-again c =
     let l = c .before .before .before .before .before .loop in
-    taken-more (c .before .before .before .before .before .before .before .before .args .s .now) (l .n) (c .before .r .given .0 .0) (l .words) (l .inv) (omega arith)
+    records-continue (c .before .before .before .before .before .before .before .before .args .s .now) (l .n) (c .before .r .given .0 .0) (l .words) (l .inv) (omega arith)
     (sym (c .before .r .given .1) ∙ c .before .before .before .record-at .ensures)
 
 returns-2 : tie.Need-returns-2 Inv-loop μ-loop
 returns-2 c =
     let l = c .before .loop in
-    taken-all (c .before .before .before .before .args .s .now) (l .n) (l .words) (l .inv) (omega (arith, c .before .before .smaller .ensures))
+    records-end (c .before .before .before .before .args .s .now) (l .n) (l .words) (l .inv) (omega (arith, c .before .before .smaller .ensures))
 
 pub records-spec : {M : Type 1} → statement M
 records-spec =

@@ -15,10 +15,10 @@ use Rattle.hproto_table.specs.Repeat.{distinct}
 use Rattle.hproto_table.proofs.Bools.{and-left, and-right}
 use Rattle.hproto_table.proofs.Repeat.{seen-append, seen-one, distinct-snoc}
 use Rattle.hproto_table.proofs.Schemas.{same-schema, find-large}
-use Rattle.table_index.specs.internal.Cells.{keyOf, wordKey, cellOf, meaningIn, orderIn, search, fresh, taken, takenFrom, cellFor, indexed}
+use Rattle.table_index.specs.internal.Cells.{keyOf, wordKey, cellOf, meaningIn, orderIn, search, insertable, insertableAt, prefixEnd, cellFor, indexed}
 use Rattle.table_index.proofs.Meanings.{none}
 use Rattle.table_index.proofs.Words.{Small, cell-some, cell-order, cell-means, key-fits, key-pair}
-use Rattle.table_index.proofs.Found.{standing, made, found-standing}
+use Rattle.table_index.proofs.Found.{standing, indexAfter, found-standing}
 
 -- The first k words, each given by its place.
 unfoldable pub wordsOf : (ℕ → ℕ) → ℕ → List ℕ
@@ -106,63 +106,63 @@ module _ (word : ℕ → ℕ) where
 
 -- ---- the words that were taken
 
-pub taken-few : (good : ℕ → Bool) (word : ℕ → ℕ) (cells : List ℕ) (left i : ℕ) → takenFrom good word cells i left ≤ i + left
-unfolding takenFrom
-taken-few good word cells zero i = omega arith
-taken-few good word cells (suc left) i = go (taken good word cells i) (taken-few good word cells left (suc i))
+pub prefix-few : (good : ℕ → Bool) (word : ℕ → ℕ) (cells : List ℕ) (remaining i : ℕ) → prefixEnd good word cells i remaining ≤ i + remaining
+unfolding prefixEnd
+prefix-few good word cells zero i = omega arith
+prefix-few good word cells (suc remaining) i = go (insertableAt good word cells i) (prefix-few good word cells remaining (suc i))
   where
-    go : (a : Bool) → takenFrom good word cells (suc i) left ≤ suc i + left → cond a (takenFrom good word cells (suc i) left) i ≤ i + suc left
+    go : (a : Bool) → prefixEnd good word cells (suc i) remaining ≤ suc i + remaining → cond a (prefixEnd good word cells (suc i) remaining) i ≤ i + suc remaining
     go true h = omega arith
     go false h = omega arith
 
-taken-each : (good : ℕ → Bool) (word : ℕ → ℕ) (cells : List ℕ) (left i j : ℕ) → i ≤ j → j < takenFrom good word cells i left → taken good word cells j ≡ true
-unfolding takenFrom
-taken-each good word cells zero i j h l = absurd (omega arith)
-taken-each good word cells (suc left) i j h l = go (taken good word cells i) refl l (eqb i j) refl (λ a b. taken-each good word cells left (suc i) j a b)
+prefix-each : (good : ℕ → Bool) (word : ℕ → ℕ) (cells : List ℕ) (remaining i j : ℕ) → i ≤ j → j < prefixEnd good word cells i remaining → insertableAt good word cells j ≡ true
+unfolding prefixEnd
+prefix-each good word cells zero i j h l = absurd (omega arith)
+prefix-each good word cells (suc remaining) i j h l = go (insertableAt good word cells i) refl l (eqb i j) refl (λ a b. prefix-each good word cells remaining (suc i) j a b)
   where
-    go : (a : Bool) → taken good word cells i ≡ a → j < cond a (takenFrom good word cells (suc i) left) i → (b : Bool) → eqb i j ≡ b
-        → (suc i ≤ j → j < takenFrom good word cells (suc i) left → taken good word cells j ≡ true) → taken good word cells j ≡ true
+    go : (a : Bool) → insertableAt good word cells i ≡ a → j < cond a (prefixEnd good word cells (suc i) remaining) i → (b : Bool) → eqb i j ≡ b
+        → (suc i ≤ j → j < prefixEnd good word cells (suc i) remaining → insertableAt good word cells j ≡ true) → insertableAt good word cells j ≡ true
     go false e m b q rest = absurd (omega arith)
     go true e m true q rest = rw (← eqb-true i j q) e
     go true e m false q rest = rest (omega (arith, eqb-false i j q)) m
 
-taken-stops : (good : ℕ → Bool) (word : ℕ → ℕ) (cells : List ℕ) (left i : ℕ) → takenFrom good word cells i left < i + left
-    → taken good word cells (takenFrom good word cells i left) ≡ false
-unfolding takenFrom
-taken-stops good word cells zero i l = absurd (omega arith)
-taken-stops good word cells (suc left) i l = go (taken good word cells i) refl l (taken-stops good word cells left (suc i))
+prefix-stops : (good : ℕ → Bool) (word : ℕ → ℕ) (cells : List ℕ) (remaining i : ℕ) → prefixEnd good word cells i remaining < i + remaining
+    → insertableAt good word cells (prefixEnd good word cells i remaining) ≡ false
+unfolding prefixEnd
+prefix-stops good word cells zero i l = absurd (omega arith)
+prefix-stops good word cells (suc remaining) i l = go (insertableAt good word cells i) refl l (prefix-stops good word cells remaining (suc i))
   where
-    go : (a : Bool) → taken good word cells i ≡ a → cond a (takenFrom good word cells (suc i) left) i < i + suc left
-        → (takenFrom good word cells (suc i) left < suc i + left → taken good word cells (takenFrom good word cells (suc i) left) ≡ false)
-        → taken good word cells (cond a (takenFrom good word cells (suc i) left) i) ≡ false
+    go : (a : Bool) → insertableAt good word cells i ≡ a → cond a (prefixEnd good word cells (suc i) remaining) i < i + suc remaining
+        → (prefixEnd good word cells (suc i) remaining < suc i + remaining → insertableAt good word cells (prefixEnd good word cells (suc i) remaining) ≡ false)
+        → insertableAt good word cells (cond a (prefixEnd good word cells (suc i) remaining) i) ≡ false
     go true e m rest = rest (omega arith)
     go false e m rest = e
 
 module _ (good : ℕ → Bool) (word : ℕ → ℕ) (range : (j : ℕ) → good j ≡ true → Small (word j)) (most : ℕ) (few : most ≤ 64)
-    (k : ℕ) (count : k ≡ takenFrom good word (replicate 128 0) 0 most) where
+    (k : ℕ) (count : k ≡ prefixEnd good word (replicate 128 0) 0 most) where
   pub within : k ≤ most
-  within = omega (arith, taken-few good word (replicate 128 0) most 0)
+  within = omega (arith, prefix-few good word (replicate 128 0) most 0)
 
-  each : (j : ℕ) → j < k → taken good word (replicate 128 0) j ≡ true
-  each j l = taken-each good word (replicate 128 0) most 0 j (omega arith) (omega arith)
+  each : (j : ℕ) → j < k → insertableAt good word (replicate 128 0) j ≡ true
+  each j l = prefix-each good word (replicate 128 0) most 0 j (omega arith) (omega arith)
 
   pub each-good : (j : ℕ) → j < k → good j ≡ true
-  unfolding taken
-  each-good j l = and-left (good j) (fresh (word j) (made word j)) (each j l)
+  unfolding insertableAt
+  each-good j l = and-left (good j) (insertable (word j) (indexAfter word j)) (each j l)
 
-  each-fresh : (j : ℕ) → j < k → fresh (word j) (made word j) ≡ true
-  unfolding taken
-  each-fresh j l = and-right (good j) (fresh (word j) (made word j)) (each j l)
+  each-insertable : (j : ℕ) → j < k → insertable (word j) (indexAfter word j) ≡ true
+  unfolding insertableAt
+  each-insertable j l = and-right (good j) (insertable (word j) (indexAfter word j)) (each j l)
 
   small-before : (i : ℕ) → i ≤ k → (j : ℕ) → j < i → Small (word j)
   small-before i h j l = range j (each-good j (omega arith))
 
-  found : (i : ℕ) → i ≤ k → (key : ℕ) → search (made word i) key ≡ standing word i key
-  found i h = found-standing word i (omega (arith, within)) (small-before i h) (λ j l. each-fresh j (omega arith))
+  found : (i : ℕ) → i ≤ k → (key : ℕ) → search (indexAfter word i) key ≡ standing word i key
+  found i h = found-standing word i (omega (arith, within)) (small-before i h) (λ j l. each-insertable j (omega arith))
 
   -- A good word is fresh exactly where its pair was not seen.
-  seen-is : (i : ℕ) → i ≤ k → good i ≡ true → seen (pair (word i)) (wordsOf word i) ≡ not (fresh (word i) (made word i))
-  unfolding fresh
+  seen-is : (i : ℕ) → i ≤ k → good i ≡ true → seen (pair (word i)) (wordsOf word i) ≡ not (insertable (word i) (indexAfter word i))
+  unfolding insertable
   seen-is i h g =
       seen-standing word (word i) i (range i g) (omega (arith, within)) (small-before i h) ∙ rw (found i h (wordKey (word i))) refl
 
@@ -170,26 +170,26 @@ module _ (good : ℕ → Bool) (word : ℕ → ℕ) (range : (j : ℕ) → good 
   unfolding wordsOf distinct
   apart zero h = refl
   apart (suc i) h =
-      distinct-snoc (wordsOf word i) (word i) (apart i (omega arith)) (seen-is i (omega arith) (each-good i h) ∙ rw (each-fresh i h) refl)
+      distinct-snoc (wordsOf word i) (word i) (apart i (omega arith)) (seen-is i (omega arith) (each-good i h) ∙ rw (each-insertable i h) refl)
 
   -- The word at which it stops is not good, or its pair was seen.
   pub stopped : k < most → good k ≡ true → seen (pair (word k)) (wordsOf word k) ≡ true
-  unfolding taken
+  unfolding insertableAt
   stopped l g =
-      let e : good k && fresh (word k) (made word k) ≡ false =
-      ap (taken good word (replicate 128 0)) count ∙ taken-stops good word (replicate 128 0) most 0 (omega arith) in
-      let f : fresh (word k) (made word k) ≡ false = ap (λ (b : Bool). b && fresh (word k) (made word k)) (sym g) ∙ e in
+      let e : good k && insertable (word k) (indexAfter word k) ≡ false =
+      ap (insertableAt good word (replicate 128 0)) count ∙ prefix-stops good word (replicate 128 0) most 0 (omega arith) in
+      let f : insertable (word k) (indexAfter word k) ≡ false = ap (λ (b : Bool). b && insertable (word k) (indexAfter word k)) (sym g) ∙ e in
       seen-is k (omega arith) g ∙ rw f refl
 
   new-before : (j : ℕ) → j < k → standing word j (wordKey (word j)) ≡ 0
-  unfolding fresh
-  new-before j l = sym (found j (omega arith) (wordKey (word j))) ∙ eqb-true (search (made word j) (wordKey (word j))) 0 (each-fresh j l)
+  unfolding insertable
+  new-before j l = sym (found j (omega arith) (wordKey (word j))) ∙ eqb-true (search (indexAfter word j) (wordKey (word j))) 0 (each-insertable j l)
 
-  pub same-taken : indexed (made word k) ≡ schemaOf (map entry (wordsOf word k))
+  pub prefix-schema : indexed (indexAfter word k) ≡ schemaOf (map entry (wordsOf word k))
   unfolding indexed cellFor schemaOf
-  same-taken = same-schema (indexed (made word k)) (schemaOf (map entry (wordsOf word k))) (λ n t. go n t (ltb t 65536) refl)
+  prefix-schema = same-schema (indexed (indexAfter word k)) (schemaOf (map entry (wordsOf word k))) (λ n t. go n t (ltb t 65536) refl)
     where
-      go : (n t : ℕ) (b : Bool) → ltb t 65536 ≡ b → meaningIn (cond b (search (made word k) (keyOf n t)) 0) ≡ find (map entry (wordsOf word k)) n t
+      go : (n t : ℕ) (b : Bool) → ltb t 65536 ≡ b → meaningIn (cond b (search (indexAfter word k) (keyOf n t)) 0) ≡ find (map entry (wordsOf word k)) n t
       go n t true e =
           ap meaningIn (found k (omega arith) (keyOf n t))
           ∙ find-standing word n t (ltb-true t 65536 e) k (small-before k (omega arith)) (omega (arith, within)) new-before
@@ -199,11 +199,11 @@ module _ (good : ℕ → Bool) (word : ℕ → ℕ) (range : (j : ℕ) → good 
   abbrev Ordered : ℕ → ℕ → ℕ → Type 0
   Ordered n t c = (orderIn c < k) × (fits n t (word (orderIn c)) ≡ true)
 
-  pub order-taken : (n t : ℕ) → (cellFor (made word k) n t ≡ 0 → ⊥) → Ordered n t (cellFor (made word k) n t)
+  pub prefix-order : (n t : ℕ) → (cellFor (indexAfter word k) n t ≡ 0 → ⊥) → Ordered n t (cellFor (indexAfter word k) n t)
   unfolding cellFor orderIn
-  order-taken n t d = go (ltb t 65536) refl d
+  prefix-order n t d = go (ltb t 65536) refl d
     where
-      go : (b : Bool) → ltb t 65536 ≡ b → (cond b (search (made word k) (keyOf n t)) 0 ≡ 0 → ⊥) → Ordered n t (cond b (search (made word k) (keyOf n t)) 0)
+      go : (b : Bool) → ltb t 65536 ≡ b → (cond b (search (indexAfter word k) (keyOf n t)) 0 ≡ 0 → ⊥) → Ordered n t (cond b (search (indexAfter word k) (keyOf n t)) 0)
       go true e d =
           let f = found k (omega arith) (keyOf n t) in
           let c = standing word k (keyOf n t) in

@@ -20,26 +20,26 @@ use Rattle.hproto_table.proofs.Load.{length-words, words-take, words-at, wellFo
 use Rattle.table_index.specs.internal.Record.{recordOf}
 use Rattle.table_index.specs.declared.record.Record.the-variants.{Word, Wrong}
 use Rattle.table_index.proofs.RecordLaws.{place-is, recordOf-word, recordOf-wrong, record-cut}
-use Rattle.table_index.specs.internal.Cells.{takenWords}
-use Rattle.table_index.proofs.Loaded.{words-within, words-apart, words-stopped}
+use Rattle.table_index.specs.internal.Cells.{prefixLength}
+use Rattle.table_index.proofs.IndexLaws.{words-within, words-apart, words-stopped}
 use Rattle.table_index.specs.internal.Pass.{Passed}
 
 -- ---- the words that are read
 
 -- The state of the first pass at the record n.
-pub record Taken (s : List ℕ) (n : ℕ) (words : List ℕ) : Type 0 where
+pub record RecordsLoop (s : List ℕ) (n : ℕ) (words : List ℕ) : Type 0 where
   pub few : n ≤ 64
   pub formed : (j : ℕ) → j < n → wellFormed (recordAt s j) ≡ true
   pub filled : words ≡ wordsBefore s n ++ replicate (64 - n) 0
 
-pub taken-none : (s : List ℕ) → Taken s 0 (replicate 64 0)
+pub records-start : (s : List ℕ) → RecordsLoop s 0 (replicate 64 0)
 unfolding wordsBefore
-taken-none s = record { few = omega arith; formed = λ j h. absurd (omega arith); filled = refl }
+records-start s = record { few = omega arith; formed = λ j h. absurd (omega arith); filled = refl }
 
-pub taken-more : (s : List ℕ) (n w : ℕ) (words : List ℕ) → Taken s n words → n < 64 → Word w ≡ recordOf (take 8 (drop (n * 8) s))
-    → Taken s (n + 1) (set words n w)
+pub records-continue : (s : List ℕ) (n w : ℕ) (words : List ℕ) → RecordsLoop s n words → n < 64 → Word w ≡ recordOf (take 8 (drop (n * 8) s))
+    → RecordsLoop s (n + 1) (set words n w)
 unfolding wordsBefore wordAt
-taken-more s n w words k l e =
+records-continue s n w words k l e =
     let q : (wellFormed (recordAt s n) ≡ true) × (w ≡ number (drop 3 (recordAt s n))) = recordOf-word (recordAt s n) w (rw (← place-is s n) e) in
     let now : 64 - n ≡ suc (63 - n) = omega arith in
     let then : 64 - suc n ≡ 63 - n = omega arith in
@@ -52,8 +52,8 @@ taken-more s n w words k l e =
           ∙ rw (q .1) (sym (append-snoc (wordsBefore s n) (wordAt s n) (replicate (63 - n) 0))));
     }
 
-pub taken-stops : (s : List ℕ) (n : ℕ) (words : List ℕ) → Taken s n words → Wrong ≡ recordOf (take 8 (drop (n * 8) s)) → Passed s n words
-taken-stops s n words k e =
+pub records-stop : (s : List ℕ) (n : ℕ) (words : List ℕ) → RecordsLoop s n words → Wrong ≡ recordOf (take 8 (drop (n * 8) s)) → Passed s n words
+records-stop s n words k e =
     record {
       few = k .few;
       formed = k .formed;
@@ -61,8 +61,8 @@ taken-stops s n words k e =
       stopped = λ h. faulty-form s n (rw (← place-is s n) (recordOf-wrong (take 8 (drop (n * 8) s)) e));
     }
 
-pub taken-all : (s : List ℕ) (n : ℕ) (words : List ℕ) → Taken s n words → min 64 (length s / 8) ≤ n → Passed s n words
-taken-all s n words k l = record { few = k .few; formed = k .formed; filled = k .filled; stopped = λ h. go (ltb n 64) refl }
+pub records-end : (s : List ℕ) (n : ℕ) (words : List ℕ) → RecordsLoop s n words → min 64 (length s / 8) ≤ n → Passed s n words
+records-end s n words k l = record { few = k .few; formed = k .formed; filled = k .filled; stopped = λ h. go (ltb n 64) refl }
   where
     go : (t : Bool) → ltb n 64 ≡ t → faulty s n ≡ true
     go true e =
@@ -72,15 +72,15 @@ taken-all s n words k l = record { few = k .few; formed = k .formed; filled = k 
 
 -- ---- the whole
 
-module _ (s words : List ℕ) (n first : ℕ) (passed : Passed s n words) (taken : first ≡ takenWords (take n words) (replicate 128 0)) where
+module _ (s words : List ℕ) (n first : ℕ) (passed : Passed s n words) (counted : first ≡ prefixLength (take n words) (replicate 128 0)) where
   words-read : take n words ≡ wordsBefore s n
   words-read = rw (passed .filled) (take-at (wordsBefore s n) (replicate (64 - n) 0) n (length-words s n))
 
   size : length (wordsBefore s n) ≤ 64
   size = omega (arith, length-words s n, passed .few)
 
-  first-is : first ≡ takenWords (wordsBefore s n) (replicate 128 0)
-  first-is = taken ∙ rw words-read refl
+  first-is : first ≡ prefixLength (wordsBefore s n) (replicate 128 0)
+  first-is = counted ∙ rw words-read refl
 
   within : first ≤ n
   within = omega (arith, first-is, words-within (wordsBefore s n) size, length-words s n)

@@ -21,9 +21,9 @@ use Rattle.hproto_table.proofs.Load.{load-whole, load-fault, faulty-form, fault
 use Rattle.hproto_table.proofs.Repeat.{seen-at}
 use Rattle.hproto_table.proofs.Schemas.{words-schema}
 use Rattle.hproto_table.proofs.Valid.{range-at, parts}
-use Rattle.table_index.specs.internal.Cells.{notedBefore, takenFrom, takenWords, notedWords, allTaken, indexed}
+use Rattle.table_index.specs.internal.Cells.{insertedBefore, prefixEnd, prefixLength, insertedWords, allInserted, indexed}
 use Rattle.table_index.proofs.Words.{Small, small}
-use Rattle.table_index.proofs.Taken.{wordsOf, taken-few, within, each-good, apart, stopped, same-taken}
+use Rattle.table_index.proofs.AcceptedPrefix.{wordsOf, prefix-few, within, each-good, apart, stopped, prefix-schema}
 
 -- ---- from octets
 
@@ -32,7 +32,7 @@ unfolding wordsOf wordsBefore
 words-are s zero = refl
 words-are s (suc k) = rw (words-are s k) refl
 
-module _ (s : List ℕ) (n : ℕ) (count : n ≡ takenFrom (λ i. wellFormed (recordAt s i)) (wordAt s) (replicate 128 0) 0 64) where
+module _ (s : List ℕ) (n : ℕ) (count : n ≡ prefixEnd (λ i. wellFormed (recordAt s i)) (wordAt s) (replicate 128 0) 0 64) where
   abbrev good : ℕ → Bool
   good i = wellFormed (recordAt s i)
 
@@ -65,17 +65,17 @@ module _ (s : List ℕ) (n : ℕ) (count : n ≡ takenFrom (λ i. wellFormed (re
       by-count false e = faulty-late s n (ltb-false n 64 e)
 
   -- The index has the schema of the table.
-  pub octets-schema : (cells : List ℕ) → cells ≡ notedBefore (wordAt s) (replicate 128 0) n → length s ≤ 8 * n → indexed cells ≡ schema (load s .table)
+  pub octets-schema : (cells : List ℕ) → cells ≡ insertedBefore (wordAt s) (replicate 128 0) n → length s ≤ 8 * n → indexed cells ≡ schema (load s .table)
   unfolding accepted
   octets-schema cells e h =
-      rw (e, octets-accepted h, words-schema (wordsBefore s n), ← words-are s n) (same-taken good (wordAt s) range 64 (omega arith) n count)
+      rw (e, octets-accepted h, words-schema (wordsBefore s n), ← words-are s n) (prefix-schema good (wordAt s) range 64 (omega arith) n count)
 
 -- ---- from words
 
-words-taken : (ws : List ℕ) (k : ℕ) → k ≤ length ws → wordsOf (λ i. getD ws i 0) k ≡ take k ws
+words-prefix : (ws : List ℕ) (k : ℕ) → k ≤ length ws → wordsOf (λ i. getD ws i 0) k ≡ take k ws
 unfolding wordsOf
-words-taken ws zero h = refl
-words-taken ws (suc k) h = rw (words-taken ws k (omega arith), ← add-one k) (sym (take-more ws k (omega arith)))
+words-prefix ws zero h = refl
+words-prefix ws (suc k) h = rw (words-prefix ws k (omega arith), ← add-one k) (sym (take-more ws k (omega arith)))
 
 all-range : (ws : List ℕ) → ((j : ℕ) → j < length ws → inRange (entry (getD ws j 0)) ≡ true) → allInRange ws ≡ true
 unfolding allInRange
@@ -105,27 +105,27 @@ module _ (ws : List ℕ) (size : length ws ≤ 64) where
   most-is = omega arith
 
   abbrev n : ℕ
-  n = takenWords ws (replicate 128 0)
+  n = prefixLength ws (replicate 128 0)
 
-  taken-is : n ≡ takenFrom good-word word (replicate 128 0) 0 (length ws)
-  unfolding takenWords
-  taken-is = ap (takenFrom good-word word (replicate 128 0) 0) most-is
+  prefix-is : n ≡ prefixEnd good-word word (replicate 128 0) 0 (length ws)
+  unfolding prefixLength
+  prefix-is = ap (prefixEnd good-word word (replicate 128 0) 0) most-is
 
   small-word : (j : ℕ) → good-word j ≡ true → Small (word j)
   small-word j g = small (word j) g
 
   pub words-within : n ≤ length ws
-  words-within = within good-word word small-word (length ws) size n taken-is
+  words-within = within good-word word small-word (length ws) size n prefix-is
 
   -- The words that were taken have no pair twice; the first that was not, if it is in range, has a pair that stands before it.
   pub words-apart : distinct (take n ws) ≡ true
-  words-apart = rw (← words-taken ws n words-within) (apart good-word word small-word (length ws) size n taken-is n (omega arith))
+  words-apart = rw (← words-prefix ws n words-within) (apart good-word word small-word (length ws) size n prefix-is n (omega arith))
 
   pub words-stopped : n < length ws → good-word n ≡ true → seen (pair (word n)) (take n ws) ≡ true
-  words-stopped l e = rw (← words-taken ws n words-within) (stopped good-word word small-word (length ws) size n taken-is l e)
+  words-stopped l e = rw (← words-prefix ws n words-within) (stopped good-word word small-word (length ws) size n prefix-is l e)
 
   all-words : n ≡ length ws → wordsOf word n ≡ ws
-  all-words e = words-taken ws n words-within ∙ rw e (take-length ws)
+  all-words e = words-prefix ws n words-within ∙ rw e (take-length ws)
 
   -- All words were taken exactly where they are in range with no pair twice.
   pub words-used : eqb n (length ws) ≡ allInRange ws && distinct ws
@@ -140,33 +140,33 @@ module _ (ws : List ℕ) (size : length ws ≤ 64) where
       go true e =
           let q : n ≡ length ws = eqb-true n (length ws) e in
           let d : distinct ws ≡ true = ap distinct (sym (take-length ws) ∙ ap (λ (k : ℕ). take k ws) (sym q)) ∙ words-apart in
-          let r : allInRange ws ≡ true = all-range ws (λ j l. each-good good-word word small-word (length ws) size n taken-is j (omega arith)) in
+          let r : allInRange ws ≡ true = all-range ws (λ j l. each-good good-word word small-word (length ws) size n prefix-is j (omega arith)) in
           rw (r, d) refl
       go false e = some-bad (omega (arith, words-within, eqb-false n (length ws) e)) (good-word n) refl (allInRange ws) refl
 
-  words-schema-is : n ≡ length ws → indexed (notedWords ws (replicate 128 0)) ≡ schemaOf (map entry ws)
-  unfolding notedWords
-  words-schema-is e = same-taken good-word word small-word (length ws) size n taken-is ∙ ap (λ (l : List ℕ). schemaOf (map entry l)) (all-words e)
+  words-schema-is : n ≡ length ws → indexed (insertedWords ws (replicate 128 0)) ≡ schemaOf (map entry ws)
+  unfolding insertedWords
+  words-schema-is e = prefix-schema good-word word small-word (length ws) size n prefix-is ∙ ap (λ (l : List ℕ). schemaOf (map entry l)) (all-words e)
 
 -- ---- from a table value
 
 -- Fewer words than the count are noted, or all of them and the unused ones decide.
-module _ (words : List ℕ) (count : ℕ) (cells : List ℕ) (size : length words ≡ 64) (n : ℕ) (e : n ≡ takenWords (take count words) cells) where
+module _ (words : List ℕ) (count : ℕ) (cells : List ℕ) (size : length words ≡ 64) (n : ℕ) (e : n ≡ prefixLength (take count words) cells) where
   used-length : length (take count words) ≡ min count 64
   used-length = length-take count words ∙ rw size refl
 
-  pub table-short : n < count → false ≡ allTaken words count cells
-  unfolding allTaken
-  table-short h = rw (← e) (go (leb count 64) refl)
+  pub table-incomplete : n < count → false ≡ allInserted words count cells
+  unfolding allInserted
+  table-incomplete h = rw (← e) (go (leb count 64) refl)
     where
       go : (a : Bool) → leb count 64 ≡ a → false ≡ a && eqb n (length (take count words)) && allZero (drop count words)
       go false q = refl
       go true q = rw (ne-eqb n (length (take count words)) (λ z. omega (arith, z, used-length, leb-true count 64 q))) refl
 
-  pub table-rest : {r : Bool} → count ≤ n → r ≡ allZero (drop count words) → r ≡ allTaken words count cells
-  unfolding allTaken takenWords
+  pub table-rest : {r : Bool} → count ≤ n → r ≡ allZero (drop count words) → r ≡ allInserted words count cells
+  unfolding allInserted prefixLength
   table-rest h q =
-      let few : n ≤ min 64 (length (take count words)) = omega (arith, e, taken-few (λ i. inRange (entry (getD (take count words) i 0))) (λ i. getD (take count words) i 0) cells (min 64 (length (take count words))) 0) in
+      let few : n ≤ min 64 (length (take count words)) = omega (arith, e, prefix-few (λ i. inRange (entry (getD (take count words) i 0))) (λ i. getD (take count words) i 0) cells (min 64 (length (take count words))) 0) in
       q ∙ rw (← e, le-leb count 64 (omega arith), eq-eqb n (length (take count words)) (omega (arith, used-length))) refl
 
 module _ (t : Table) where
@@ -177,21 +177,21 @@ module _ (t : Table) where
   used-few h = omega (arith, length-take (t .count) (t .words))
 
   -- All words are taken exactly where the loader can give the table value.
-  pub table-valid : {r : Bool} → r ≡ allTaken (t .words) (t .count) (replicate 128 0) → r ≡ valid t
-  unfolding allTaken valid
+  pub table-valid : {r : Bool} → r ≡ allInserted (t .words) (t .count) (replicate 128 0) → r ≡ valid t
+  unfolding allInserted valid
   table-valid e = e ∙ go (leb (t .count) 64) refl
     where
       go : (a : Bool) → leb (t .count) 64 ≡ a
-          → a && eqb (takenWords used (replicate 128 0)) (length used) && allZero (drop (t .count) (t .words))
+          → a && eqb (prefixLength used (replicate 128 0)) (length used) && allZero (drop (t .count) (t .words))
           ≡ a && allInRange used && distinct used && allZero (drop (t .count) (t .words))
       go false q = refl
       go true q = rw (words-used used (used-few (leb-true (t .count) 64 q))) refl
 
   -- Then the index has its schema.
-  pub table-schema : {cells : List ℕ} → valid t ≡ true → cells ≡ notedWords used (replicate 128 0) → indexed cells ≡ schema t
+  pub table-schema : {cells : List ℕ} → valid t ≡ true → cells ≡ insertedWords used (replicate 128 0) → indexed cells ≡ schema t
   unfolding schema entries
   table-schema v e =
       let p = parts t v in
-      let n = takenWords used (replicate 128 0) in
+      let n = prefixLength used (replicate 128 0) in
       let all : n ≡ length used = eqb-true n (length used) (words-used used (used-few (p .few)) ∙ and-both (allInRange used) (distinct used) (p .range) (p .apart)) in
       ap indexed e ∙ words-schema-is used (used-few (p .few)) all

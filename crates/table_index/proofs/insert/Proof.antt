@@ -1,9 +1,9 @@
 -- `note` changes the cells only where the key is new.
 use borrow.Author.Tests.{not-true, not-false}
-use Rattle.table_index.proofs.Noting.{note-seen, note-fresh}
+use Rattle.table_index.proofs.InsertLoop.{insert-repeated, insert-new}
 use borrow.Author.Needs.{needs}
-use Rattle.table_index.proofs.note.Statement.{statement}
-use Rattle.table_index.proofs.note.Tie as tie
+use Rattle.table_index.proofs.insert.Statement.{statement}
+use Rattle.table_index.proofs.insert.Tie as tie
 
 word-key-requires : tie.Need-word-key-requires
 word-key-requires c κs = search needs
@@ -14,7 +14,7 @@ lacks-requires c κs = search needs
 returns : tie.Need-returns
 returns c =
     let a = c .before .before .before .before .args in
-    note-seen (a .w) (a .i) (a .cells .now) (c .before .before .word-key .ensures) (c .before .lacks .ensures) (not-true (c .before .lacks .result) (c .if1 .taken))
+    insert-repeated (a .w) (a .i) (a .cells .now) (c .before .before .word-key .ensures) (c .before .lacks .ensures) (not-true (c .before .lacks .result) (c .if1 .taken))
 
 link-requires : tie.Need-link-requires
 link-requires c κs = search needs
@@ -22,8 +22,8 @@ link-requires c κs = search needs
 returns-2 : tie.Need-returns-2
 returns-2 c =
     let a = c .before .before .before .before .before .before .args in
-    note-fresh (a .w) (a .i) (a .cells .now) (c .before .before .before .before .word-key .ensures) (c .before .before .before .lacks .ensures)
+    insert-new (a .w) (a .i) (a .cells .now) (c .before .before .before .before .word-key .ensures) (c .before .before .before .lacks .ensures)
     (not-false (c .before .before .before .lacks .result) (c .before .before .if1 .left)) (c .link .ensures)
 
-pub note-spec : {M : Type 1} → statement M
-note-spec = tie.close (tie.spec word-key-requires lacks-requires returns link-requires returns-2)
+pub insert-spec : {M : Type 1} → statement M
+insert-spec = tie.close (tie.spec word-key-requires lacks-requires returns link-requires returns-2)

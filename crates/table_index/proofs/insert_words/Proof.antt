@@ -1,4 +1,4 @@
--- `note_words` notes the words one by one, up to the first that is not taken. Before each turn of the inner loop the rest of the chain
+-- `insert_words` notes the words one by one, up to the first that is not taken. Before each turn of the inner loop the rest of the chain
 -- decides whether the word is fresh.
 use Prim.Native.Nat.{_+_, _*_, _-_, _%_, min}
 use native.Mathlib.Omega.{arith}
@@ -6,9 +6,9 @@ use mathlib.Core.Path.{_≡_, sym, ap, _∙_}
 use borrow.Author.Tests.{not-true, not-false}
 use Rattle.table_index.specs.internal.Cells.{chase, search}
 use Rattle.table_index.proofs.Chains.{chase-next, next-less}
-use Rattle.table_index.proofs.Noting.{NotingWords, words-start, words-end, words-bad, words-seen, words-more}
-use Rattle.table_index.proofs.note_words.Statement.{statement}
-use Rattle.table_index.proofs.note_words.Tie as tie
+use Rattle.table_index.proofs.InsertLoop.{InsertWordsLoop, words-start, words-end, words-bad, words-repeated, words-continue}
+use Rattle.table_index.proofs.insert_words.Statement.{statement}
+use Rattle.table_index.proofs.insert_words.Tie as tie
 
 abbrev Inv-loop : tie.InvT-loop
 Inv-loop words cells most n w key c₀ c = search cells key ≡ chase 64 cells key c
@@ -17,7 +17,7 @@ abbrev μ-loop : tie.MeasureT-loop
 μ-loop words cells most n w key c₀ c = c % 64 * 2 + min c 1
 
 abbrev Inv-words : tie.InvT-words
-Inv-words words cells₀ most n₀ cells n = NotingWords words cells₀ n cells
+Inv-words words cells₀ most n₀ cells n = InsertWordsLoop words cells₀ n cells
 
 abbrev μ-words : tie.MeasureT-words
 μ-words words cells₀ most n₀ cells n = most - n
@@ -80,7 +80,7 @@ words-again c =
     let a = c .before .before .before .before .before .before .before .before .before .before .before .before .before .before .args in
     let o = c .before .before .before .before .before .before .before .before .before .before .before .words in
     let l = c .before .before .before .loop in
-    words-more (a .words .now) (a .cells .now) (o .n) (o .cells) (o .inv) (omega (arith, c .before .before .before .before .before .before .before .before .before .before .before .before .smaller .ensures)) (c .before .before .before .before .before .before .word-key .ensures) (l .c) (l .inv)
+    words-continue (a .words .now) (a .cells .now) (o .n) (o .cells) (o .inv) (omega (arith, c .before .before .before .before .before .before .before .before .before .before .before .before .smaller .ensures)) (c .before .before .before .before .before .before .word-key .ensures) (l .c) (l .inv)
     (sym (c .before .before .before .before .before .before .before .before .in-range .ensures) ∙ not-false (c .before .before .before .before .before .before .before .before .in-range .result) (c .before .before .before .before .before .before .before .if2 .left)) (c .before .before .loop-test .left) (c .link .ensures)
 
 returns : tie.Need-returns Inv-loop μ-loop Inv-words μ-words
@@ -100,10 +100,10 @@ returns-3 c =
     let a = c .before .before .before .before .before .before .before .before .before .before .before .before .before .args in
     let o = c .before .before .before .before .before .before .before .before .before .before .words in
     let l = c .before .before .loop in
-    words-seen (a .words .now) (a .cells .now) (o .n) (o .cells) (o .inv) (omega (arith, c .before .before .before .before .before .before .before .before .before .before .before .smaller .ensures)) (c .before .before .before .before .before .word-key .ensures) (l .c) (l .inv) (c .before .loop-test .taken) (c .if3 .taken)
+    words-repeated (a .words .now) (a .cells .now) (o .n) (o .cells) (o .inv) (omega (arith, c .before .before .before .before .before .before .before .before .before .before .before .smaller .ensures)) (c .before .before .before .before .before .word-key .ensures) (l .c) (l .inv) (c .before .loop-test .taken) (c .if3 .taken)
 
-pub note-words-spec : {M : Type 1} → statement M
-note-words-spec =
+pub insert-words-spec : {M : Type 1} → statement M
+insert-words-spec =
     tie.close
     (tie.spec
     Inv-loop
