@@ -1,4 +1,4 @@
--- An index in cells that were cleared shows the words that were taken.
+-- An index built in cleared cells has the schema of the accepted prefix.
 use Prim.Native.Nat.{ℕ, zero, suc, _+_, _%_, _≤_, _<_}
 use native.Mathlib.Omega.{arith}
 use mathlib.Core.Path.{_≡_, refl, sym, ap, _∙_}
@@ -104,7 +104,7 @@ module _ (word : ℕ → ℕ) where
           (omega (arith, o), rw o (eqb-true (wordKey (word k)) key p))
       go false p d rest = (omega (arith, rest d .0), rest d .1)
 
--- ---- the words that were taken
+-- ---- the accepted prefix
 
 pub prefix-few : (good : ℕ → Bool) (word : ℕ → ℕ) (cells : List ℕ) (remaining i : ℕ) → prefixEnd good word cells i remaining ≤ i + remaining
 unfolding prefixEnd
@@ -160,7 +160,7 @@ module _ (good : ℕ → Bool) (word : ℕ → ℕ) (range : (j : ℕ) → good 
   found : (i : ℕ) → i ≤ k → (key : ℕ) → search (indexAfter word i) key ≡ standing word i key
   found i h = found-standing word i (omega (arith, within)) (small-before i h) (λ j l. each-insertable j (omega arith))
 
-  -- A good word is fresh exactly where its pair was not seen.
+  -- A good word is insertable exactly if its pair was not seen.
   seen-is : (i : ℕ) → i ≤ k → good i ≡ true → seen (pair (word i)) (wordsOf word i) ≡ not (insertable (word i) (indexAfter word i))
   unfolding insertable
   seen-is i h g =

@@ -1,4 +1,4 @@
--- What a search finds in cells in which words were noted: the cell of the last word with the key.
+-- After inserting words, a search finds the cell of the last word with the key.
 use Prim.Native.Nat.{ℕ, zero, suc, _+_, _*_, _/_, _%_, _≤_, _<_}
 use native.Mathlib.Omega.{arith}
 use mathlib.Core.Path.{_≡_, refl, sym, ap, subst, _∙_}
@@ -128,7 +128,7 @@ unfoldable pub standing : (ℕ → ℕ) → ℕ → ℕ → ℕ
 standing word zero key = 0
 standing word (suc k) key = cond (eqb (wordKey (word k)) key) (cellOf (word k) k) (standing word k key)
 
--- The cells after some words, with nothing before them.
+-- The cells after inserting the first k words into cleared cells.
 abbrev pub indexAfter : (ℕ → ℕ) → ℕ → List ℕ
 indexAfter word k = insertedBefore word (replicate 128 0) k
 

@@ -1,4 +1,4 @@
--- What an index in cells that were cleared says of its table: the loader's answer, the table's schema, and the order of each entry.
+-- What an index built in cleared cells tells of its table: the loader's result and the table's schema.
 use Prim.Native.Nat.{ℕ, zero, suc, _*_, _≤_, _<_, min}
 use native.Mathlib.Numerals.{add-one}
 use native.Mathlib.Omega.{arith}
@@ -48,11 +48,11 @@ module _ (s : List ℕ) (n : ℕ) (count : n ≡ prefixEnd (λ i. wellFormed (re
   no-repeat : distinct (wordsBefore s n) ≡ true
   no-repeat = rw (← words-are s n) (apart good (wordAt s) range 64 (omega arith) n count n (omega arith))
 
-  -- The octets end after the records that were taken: the loader accepts them.
+  -- If the octets end after the accepted prefix, the loader accepts them.
   pub octets-accepted : length s ≤ 8 * n → load s ≡ accepted (wordsBefore s n)
   octets-accepted h = load-whole s n octets-few formed no-repeat h
 
-  -- They do not: the loader refuses the record after those.
+  -- Otherwise the loader rejects the record after it.
   pub octets-refused : 8 * n < length s → load s ≡ refused (8 * n)
   octets-refused h = load-fault s n octets-few formed no-repeat h (by-count (ltb n 64) refl)
     where
@@ -117,7 +117,7 @@ module _ (ws : List ℕ) (size : length ws ≤ 64) where
   pub words-within : n ≤ length ws
   words-within = within good-word word small-word (length ws) size n prefix-is
 
-  -- The words that were taken have no pair twice; the first that was not, if it is in range, has a pair that stands before it.
+  -- The accepted prefix has no pair twice. The word after it, if it is in range, repeats an earlier pair.
   pub words-apart : distinct (take n ws) ≡ true
   words-apart = rw (← words-prefix ws n words-within) (apart good-word word small-word (length ws) size n prefix-is n (omega arith))
 
@@ -127,7 +127,7 @@ module _ (ws : List ℕ) (size : length ws ≤ 64) where
   all-words : n ≡ length ws → wordsOf word n ≡ ws
   all-words e = words-prefix ws n words-within ∙ rw e (take-length ws)
 
-  -- All words were taken exactly where they are in range with no pair twice.
+  -- All words are inserted exactly if they are in range with no pair twice.
   pub words-used : eqb n (length ws) ≡ allInRange ws && distinct ws
   words-used = go (eqb n (length ws)) refl
     where
@@ -150,7 +150,7 @@ module _ (ws : List ℕ) (size : length ws ≤ 64) where
 
 -- ---- from a table value
 
--- Fewer words than the count are noted, or all of them and the unused ones decide.
+-- Fewer words than the count are inserted, or all of them and the unused ones decide.
 module _ (words : List ℕ) (count : ℕ) (cells : List ℕ) (size : length words ≡ 64) (n : ℕ) (e : n ≡ prefixLength (take count words) cells) where
   used-length : length (take count words) ≡ min count 64
   used-length = length-take count words ∙ rw size refl
@@ -176,7 +176,7 @@ module _ (t : Table) where
   used-few : t .count ≤ 64 → length used ≤ 64
   used-few h = omega (arith, length-take (t .count) (t .words))
 
-  -- All words are taken exactly where the loader can give the table value.
+  -- All words are inserted exactly if the loader can return the table value.
   pub table-valid : {r : Bool} → r ≡ allInserted (t .words) (t .count) (replicate 128 0) → r ≡ valid t
   unfolding allInserted valid
   table-valid e = e ∙ go (leb (t .count) 64) refl

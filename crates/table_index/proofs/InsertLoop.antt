@@ -1,4 +1,4 @@
--- Noting words, one by one.
+-- The loop invariant of inserting words one by one.
 use Prim.Native.Nat.{ℕ, suc, _+_, _*_, _-_, _/_, _≤_, _<_, min}
 use native.Mathlib.Numerals.{add-one}
 use native.Mathlib.Omega.{arith}
@@ -36,7 +36,7 @@ module _ (w i : ℕ) (cells : List ℕ) {key : ℕ} {lacked : Bool} (known : key
       let z : insertable w cells ≡ true = insertable-is ∙ e in
       (sym z, rw z f)
 
--- Whether a word is fresh, by the last cell of its chain that was looked at.
+-- Whether a word is insertable, by the last cell of its chain that was compared.
 module _ (w i : ℕ) (cells : List ℕ) {key : ℕ} (known : key ≡ wordKey w) (c : ℕ) (remaining : search cells key ≡ chase 64 cells key c) where
   pub chain-repeated : (c ≡ 0 → ⊥) → c / 2048 ≡ key → (false ≡ insertable w cells) × (cells ≡ inserted w i cells)
   chain-repeated d h = insert-repeated w i cells known (sym (ne-eqb (search cells key) 0 (λ z. d (sym (remaining ∙ chase-here cells key 63 c h) ∙ z)))) refl
@@ -47,7 +47,7 @@ module _ (w i : ℕ) (cells : List ℕ) {key : ℕ} (known : key ≡ wordKey w) 
 
 -- ---- word after word
 
--- The cells after the first n words, and how many of `most` words will be taken.
+-- The loop invariant: the cells after the first n words, and the end of the accepted prefix of `most` words.
 pub record InsertLoop (good : ℕ → Bool) (word : ℕ → ℕ) (cells₀ : List ℕ) (most n : ℕ) (cells : List ℕ) : Type 0 where
   pub few : n ≤ most
   pub rest : prefixEnd good word cells₀ 0 most ≡ prefixEnd good word cells₀ n (most - n)
@@ -105,7 +105,7 @@ module _ (good : ℕ → Bool) (word : ℕ → ℕ) (cells₀ : List ℕ) (most 
 
 -- ---- the words of a list
 
--- The same of the words of a list, of which at most 64 are taken.
+-- The same for the words of a list, of which at most 64 are inserted.
 abbrev pub InsertWordsLoop : List ℕ → List ℕ → ℕ → List ℕ → Type 0
 InsertWordsLoop ws cells₀ n cells = InsertLoop (λ i. inRange (entry (getD ws i 0))) (λ i. getD ws i 0) cells₀ (min 64 (length ws)) n cells
 
@@ -170,7 +170,7 @@ module _ (s : List ℕ) (n : ℕ) where
 
 -- ---- the records of octets
 
--- All whole records were taken, or the first 64.
+-- All whole records were inserted, or the first 64.
 pub octets-end : (s cells₀ : List ℕ) (n : ℕ) (cells : List ℕ) → InsertLoop (λ i. wellFormed (recordAt s i)) (wordAt s) cells₀ 64 n cells → min 64 (length s / 8) ≤ n
     → (n ≡ prefixEnd (λ i. wellFormed (recordAt s i)) (wordAt s) cells₀ 0 64) × (cells ≡ insertedBefore (wordAt s) cells₀ n)
 octets-end s cells₀ n cells k h = go (ltb n 64) refl

@@ -1,4 +1,4 @@
--- The words of a table that are filled from records, and what the first fault among them decides.
+-- The loop invariant of `records`, and the result of `load` by the first repeated pair or the end of the records.
 use Prim.Native.Nat.{ℕ, suc, _+_, _*_, _-_, _/_, _≤_, _<_, min}
 use native.Mathlib.Nat.{mul-comm}
 use native.Mathlib.Numerals.{add-one}
@@ -26,7 +26,7 @@ use Rattle.table_index.specs.internal.Pass.{Passed}
 
 -- ---- the words that are read
 
--- The state of the first pass at the record n.
+-- The loop invariant of `records`: the first n records are well-formed and their words are stored.
 pub record RecordsLoop (s : List ℕ) (n : ℕ) (words : List ℕ) : Type 0 where
   pub few : n ≤ 64
   pub formed : (j : ℕ) → j < n → wellFormed (recordAt s j) ≡ true
@@ -85,7 +85,7 @@ module _ (s words : List ℕ) (n first : ℕ) (passed : Passed s n words) (count
   within : first ≤ n
   within = omega (arith, first-is, words-within (wordsBefore s n) size, length-words s n)
 
-  -- The words before the first that is not taken have no pair twice.
+  -- The accepted prefix has no pair twice.
   apart : distinct (wordsBefore s first) ≡ true
   apart = rw (← words-take s first n within, first-is) (words-apart (wordsBefore s n) size)
 

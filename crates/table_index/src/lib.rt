@@ -1,6 +1,5 @@
-// The index of a field table: for each message number and tag the kind and the inner number, found at once for any tag. Entries lie in 64
-// buckets by a hash of number and tag. A search compares the whole key, so that a bucket with several entries is slower and never wrong.
-// The loader finds a repeated pair by an index.
+// Loads a field table and builds its index: a hash table from message number and tag to kind and inner number. The index has 64 buckets.
+// A search compares the whole key, so a bucket with several entries is slower but never wrong. The loader finds repeated pairs by an index.
 mod record;
 
 use hproto_table::Loaded;
@@ -17,20 +16,21 @@ ghost use Rattle.hproto_table.specs.Load.{inRange, recordAt, wordAt, wellFormed
 ghost use Rattle.hproto_table.specs.Valid.{allZero, valid as valid-of};
 ghost use Rattle.table_index.specs.internal.Cells.{keysFrom, wordKey, cellOf, codeIn, meaningIn, orderIn, nextIn, search as search-of, insertable, linked, inserted, insertedBefore, prefixEnd, prefixLength, insertedWords, allInserted, cellFor, indexed};
 
-// The first key of a message number. There is no test of the number in a search, so that a loop over fields computes this once.
+// Returns the first key of a message number. A search does not test the number, so a loop over fields computes this only once.
 fn keys_from(number: u64) -> u64
     ensures { λ r. ⌜ r ≡ keysFrom number ⌝ }
 {
     if number < 16 { number * 65581 } else { 2097152 }
 }
 
+// Returns the same number with 64 bits.
 fn wide(x: u32) -> u64
     ensures { λ r. ⌜ r ≡ x ⌝ }
 {
     x as u64
 }
 
-// The cell after one in its chain, 0 at the end. In cells that no table gave a chain ends where the order does not fall.
+// Returns the next cell of a chain, 0 at its end. The order falls along a chain. Arbitrary cells may break this: there the chain ends.
 fn next(cells: &[u32; 128], c: u64) -> u64
     ensures { λ r. ⌜ r ≡ nextIn (now (cells .entry)) c ⌝ }
 {
@@ -41,7 +41,7 @@ fn next(cells: &[u32; 128], c: u64) -> u64
     n
 }
 
-// The cell with a key, 0 where there is none.
+// Returns the cell with a key, or 0 if there is none.
 fn search(cells: &[u32; 128], key: u64) -> u64
     ensures { λ r. ⌜ r ≡ search-of (now (cells .entry)) key ⌝ }
 {
@@ -55,7 +55,7 @@ fn search(cells: &[u32; 128], key: u64) -> u64
     c
 }
 
-// The key of the entry in a word.
+// Returns the key of the entry in a word.
 fn word_key(w: u64) -> u64
     requires { ⌜ inRange (entry w) ≡ true ⌝ }
     ensures { λ r. ⌜ r ≡ wordKey w ⌝ }
@@ -63,7 +63,7 @@ fn word_key(w: u64) -> u64
     (w >> 32) * 65581 + (w >> 16) % 65536
 }
 
-// The cell of a word that is the i-th of its table.
+// Returns the cell of a word that is the i-th of its table.
 fn cell_of(w: u64, i: usize) -> u32
     requires { ⌜ inRange (entry w) ≡ true ⌝ }
     requires { ⌜ i < 64 ⌝ }
@@ -73,7 +73,7 @@ fn cell_of(w: u64, i: usize) -> u32
     ((word_key(w) * 32 + code) * 64 + (i as u64)) as u32
 }
 
-// Whether no cell has a key. Most buckets are empty while a table is noted, so that case is tested first.
+// Returns whether no cell has a key. Most buckets are empty while a table is inserted, so that case is tested first.
 fn lacks(cells: &[u32; 128], key: u64) -> bool
     ensures { λ r. ⌜ r ≡ eqb (search-of (now (cells .entry)) key) 0 ⌝ }
 {
@@ -83,7 +83,7 @@ fn lacks(cells: &[u32; 128], key: u64) -> bool
     search(cells, key) == 0
 }
 
-// Puts the cell of a word that is the i-th of its table before the cells of its bucket.
+// Makes the cell of a word, the i-th of its table, the head of its bucket.
 fn link(w: u64, i: usize, cells: &mut [u32; 128])
     requires { ⌜ inRange (entry w) ≡ true ⌝ }
     requires { ⌜ i < 64 ⌝ }
@@ -94,7 +94,7 @@ fn link(w: u64, i: usize, cells: &mut [u32; 128])
     cells[bucket] = cell_of(w, i);
 }
 
-// Notes a word as the i-th of its table and answers true, where no cell has its key.
+// Inserts a word as the i-th of its table and returns true. If a cell already has its key, nothing changes and the result is false.
 fn insert(w: u64, i: usize, cells: &mut [u32; 128]) -> bool
     requires { ⌜ inRange (entry w) ≡ true ⌝ }
     requires { ⌜ i < 64 ⌝ }
@@ -108,8 +108,8 @@ fn insert(w: u64, i: usize, cells: &mut [u32; 128]) -> bool
     true
 }
 
-// Notes the records at the front of a table's octets up to the first that is faulty, and answers how many they are. In cells that were
-// cleared, the loader accepts the table where they are all, else it refuses the record after them.
+// Inserts the records of a table's octets up to the first faulty one and returns their count. If the cells were cleared before, this
+// decides what the loader does: it accepts the table if the octets end there, and else rejects the next record.
 pub fn index(table: &[u8], cells: &mut [u32; 128]) -> usize
     ensures { λ r. ⌜ r ≡ prefixEnd (λ i. wellFormed (recordAt (now (table .entry)) i)) (wordAt (now (table .entry))) (now (cells .entry)) 0 64 ⌝ }
     ensures { λ r. ⌜ now (cells .exit) ≡ insertedBefore (wordAt (now (table .entry))) (now (cells .entry)) r ⌝ }
@@ -129,8 +129,8 @@ pub fn index(table: &[u8], cells: &mut [u32; 128]) -> usize
     n
 }
 
-// The same of words, of which at most 64 are noted. The inner loop runs over the entries before a word that lie in its bucket. The first
-// entry with the word's pair ends both loops.
+// Does the same for words, of which it inserts at most 64. The inner loop runs over the earlier entries in the bucket of a word. The
+// first one with the same pair ends both loops.
 fn insert_words(words: &[u64], cells: &mut [u32; 128]) -> usize
     ensures { λ r. ⌜ r ≡ prefixLength (now (words .entry)) (now (cells .entry)) ⌝ }
     ensures { λ r. ⌜ now (cells .exit) ≡ insertedWords (now (words .entry)) (now (cells .entry)) ⌝ }
@@ -158,7 +158,7 @@ fn insert_words(words: &[u64], cells: &mut [u32; 128]) -> usize
     }
 }
 
-// The same of the first words of a table. Of words in range the first that is not noted has a pair that stands before it.
+// Does the same for the first `count` words. If all words are in range, the first one that is not inserted repeats an earlier pair.
 pub fn index_words(words: &[u64], count: usize, cells: &mut [u32; 128]) -> usize
     ensures { λ r. ⌜ r ≡ prefixLength (take count (now (words .entry))) (now (cells .entry)) ⌝ }
     ensures { λ r. ⌜ now (cells .exit) ≡ insertedWords (take count (now (words .entry))) (now (cells .entry)) ⌝ }
@@ -167,7 +167,7 @@ pub fn index_words(words: &[u64], count: usize, cells: &mut [u32; 128]) -> usize
     insert_words(&words[0..n], cells)
 }
 
-// Whether the words from n on are all 0. There is no test in the loop, so that the compiler can make it one over several words at once.
+// Returns whether the words from n on are all 0. The loop has no test inside, so the compiler can vectorize it.
 fn unused(words: &[u64], n: usize) -> bool
     ensures { λ r. ⌜ r ≡ allZero (drop n (now (words .entry))) ⌝ }
 {
@@ -180,8 +180,8 @@ fn unused(words: &[u64], n: usize) -> bool
     bits == 0
 }
 
-// Notes the words of a table value, and answers whether they are all noted and nothing stands in the unused words. In cells that were
-// cleared this is whether the loader can give the table value.
+// Inserts the words of a table value. Returns whether all were inserted and the unused words are 0. If the cells were cleared before,
+// this tells whether the loader can return the table value.
 pub fn index_table(words: &[u64; 64], count: usize, cells: &mut [u32; 128]) -> bool
     ensures { λ r. ⌜ r ≡ allInserted (now (words .entry)) count (now (cells .entry)) ⌝ }
     ensures { λ r. ⌜ now (cells .exit) ≡ insertedWords (take count (now (words .entry))) (now (cells .entry)) ⌝ }
@@ -193,7 +193,7 @@ pub fn index_table(words: &[u64; 64], count: usize, cells: &mut [u32; 128]) -> b
     unused(words, count)
 }
 
-// Whether the loader can give a table value.
+// Returns whether the loader can return a table value.
 pub fn valid(t: Table) -> bool
     ensures { λ r. ⌜ r ≡ valid-of t ⌝ }
 {
@@ -201,11 +201,12 @@ pub fn valid(t: Table) -> bool
     index_table(&t.words, t.count, &mut cells)
 }
 
+// Returns the refusal of a table whose fault is at a place.
 fn refused(place: u64) -> Loaded
     ensures { λ r. ⌜ r ≡ refused-at place ⌝ }
 {
     Loaded {
-        refusal: 2,
+        refusal: reading::TABLE,
         place,
         table: Table {
             count: 0,
@@ -214,7 +215,8 @@ fn refused(place: u64) -> Loaded
     }
 }
 
-// The first faulty record decides. A repeat among the records of the right form stands before the record at which they end.
+// Loads a table from its octets, or rejects it at its first faulty record. A repeated pair among the well-formed records comes before the
+// record at which they end, so it is tested first.
 pub fn load(s: &[u8]) -> Loaded
     ensures { λ r. ⌜ r ≡ load-of (now (s .entry)) ⌝ }
 {
@@ -235,7 +237,7 @@ pub fn load(s: &[u8]) -> Loaded
     }
 }
 
-// The cell of a message number and a tag, 0 where there is none.
+// Returns the cell of a message number and a tag, or 0 if there is none.
 pub fn cell(cells: &[u32; 128], number: u64, tag: u64) -> u64
     ensures { λ r. ⌜ r ≡ cellFor (now (cells .entry)) number tag ⌝ }
 {
@@ -245,14 +247,14 @@ pub fn cell(cells: &[u32; 128], number: u64, tag: u64) -> u64
     search(cells, keys_from(number) + tag)
 }
 
-// The code of what a cell means: 0 to 4 for raw, uint, int, string and text, 5 + m for a message of number m.
+// Returns the code of a cell's kind: 0 to 4 for raw, uint, int, string and text, 5 + m for a message with the number m.
 pub fn code(cell: u64) -> u64
     ensures { λ r. ⌜ r ≡ codeIn cell ⌝ }
 {
     (cell >> 6) % 32
 }
 
-// What a cell means.
+// Returns the kind in a cell.
 pub fn meaning(cell: u64) -> Meaning
     ensures { λ r. ⌜ r ≡ meaningIn cell ⌝ }
 {
@@ -267,21 +269,21 @@ pub fn meaning(cell: u64) -> Meaning
     }
 }
 
-// The order in the table of the entry in a cell, from 0.
+// Returns the order, counted from 0, in which the entry of a cell stands in the table.
 pub fn order(cell: u64) -> u64
     ensures { λ r. ⌜ r ≡ orderIn cell ⌝ }
 {
     cell % 64
 }
 
-// What a tag means in messages of a number.
+// Returns the kind that a tag has in messages of a number.
 pub fn find(cells: &[u32; 128], number: u64, tag: u64) -> Meaning
     ensures { λ r. ⌜ r ≡ indexed (now (cells .entry)) .means number tag ⌝ }
 {
     meaning(cell(cells, number, tag))
 }
 
-// The number of a kind, 0 for raw.
+// Returns the number of a kind, 0 for raw.
 pub fn kind_number(kind: Meaning) -> u64
     ensures { λ r. ⌜ r ≡ kindNumber kind ⌝ }
 {

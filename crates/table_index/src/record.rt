@@ -1,4 +1,4 @@
-// The records of a field table's octets.
+// Reads the records in the octets of a field table.
 use hproto_table::Table;
 ghost use mathlib.Core.Path.{_≡_};
 ghost use Prim.Native.Nat.{_+_, _≤_, _<_};
@@ -9,20 +9,20 @@ ghost use Rattle.hproto_table.specs.Load.{inRange};
 ghost use Rattle.table_index.specs.internal.Pass.{Passed};
 ghost use Rattle.table_index.specs.internal.Record.{recordOf};
 
-// A record's word, or that the record is not of the right form.
+// The word of a record, or `Wrong` for a record that is not well-formed.
 pub(crate) enum Record {
     Word(u64),
     Wrong,
 }
 
-// Whether the entry in a word is in range. An inner number of 0 is in range whatever the kind; any other only with kind 5.
+// Returns whether the entry in a word is in range. The inner number is 0 for every kind but 5, which allows 0 to 15.
 pub(crate) fn in_range(w: u64) -> bool
     ensures { λ r. ⌜ r ≡ inRange (entry w) ⌝ }
 {
     let number = w / 4294967296;
     let kind = w / 256 % 256;
     let inner = w % 256;
-    if 15 < number {
+    if reading::LAST_NUMBER < number {
         return false;
     }
     if inner != 0 {
@@ -37,7 +37,7 @@ pub(crate) fn in_range(w: u64) -> bool
     kind < 6
 }
 
-// The octet at a place, as a number.
+// Returns the octet at an offset.
 fn octet_at(s: &[u8], at: usize) -> u64
     requires { ⌜ at < length (now s) ⌝ }
     ensures { λ r. ⌜ (r ≡ getD (now (s .entry)) at 0) × (r < 256) ⌝ }
@@ -45,7 +45,7 @@ fn octet_at(s: &[u8], at: usize) -> u64
     numbers::wide(s[at])
 }
 
-// The number that the five octets from a place on hold.
+// Returns the number in the five octets from an offset on, the most significant octet first.
 fn five(s: &[u8], at: usize) -> u64
     requires { ⌜ at + 5 ≤ length (now s) ⌝ }
     ensures { λ r. ⌜ r ≡ number (take 5 (drop at (now (s .entry)))) ⌝ }
@@ -56,7 +56,7 @@ fn five(s: &[u8], at: usize) -> u64
     c * 256 + octet_at(s, at + 4)
 }
 
-// The record at a place.
+// Returns the record at an offset.
 pub(crate) fn record_at(s: &[u8], at: usize) -> Record
     requires { ⌜ at + 8 ≤ length (now s) ⌝ }
     ensures { λ r. ⌜ r ≡ recordOf (take 8 (drop at (now (s .entry)))) ⌝ }
@@ -78,7 +78,7 @@ pub(crate) fn record_at(s: &[u8], at: usize) -> Record
     }
 }
 
-// The table of the records before the first one that is not of the right form, or before the 65th.
+// Returns the table of the records before the first one that is not well-formed, and of at most 64.
 pub(crate) fn records(s: &[u8]) -> Table
     ensures { λ r. ⌜ Passed (now (s .entry)) (r .count) (r .words) ⌝ }
 {

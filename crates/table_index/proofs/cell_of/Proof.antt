@@ -1,4 +1,4 @@
--- `cell_of` gives what the definition says: the key is below 2^21, the code below 32.
+-- `cell_of` returns what its definition says: the key is below 2^21, the code below 32.
 use native.Mathlib.Omega.{arith}
 use Rattle.table_index.specs.internal.Cells.{cellOf}
 use Rattle.hproto_table.specs.Entry.{entry}

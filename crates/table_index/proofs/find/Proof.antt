@@ -1,4 +1,4 @@
--- `find` gives the meaning of the cell.
+-- `find` returns the meaning of the cell.
 use mathlib.Core.Path.{ap, _∙_}
 use Rattle.table_index.specs.internal.Cells.{meaningIn, indexed}
 use borrow.Author.Needs.{needs}

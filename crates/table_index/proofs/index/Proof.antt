@@ -1,4 +1,4 @@
--- `index` notes the records one by one, up to the first that is not taken.
+-- `index` inserts the records one by one, up to the first faulty one.
 use Prim.Native.Nat.{_-_}
 use native.Mathlib.Omega.{arith}
 use mathlib.Core.Path.{sym, _∙_}

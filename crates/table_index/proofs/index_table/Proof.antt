@@ -1,4 +1,4 @@
--- `index_table` gives what the definition says: fewer words than the count are noted, or the unused ones decide.
+-- `index_table` returns what its definition says: fewer words than the count are inserted, or the unused ones decide.
 use mathlib.Core.Path.{_≡_}
 use lib.ListN.{length}
 use Rattle.table_index.proofs.IndexLaws.{table-incomplete, table-rest}

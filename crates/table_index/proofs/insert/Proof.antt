@@ -1,4 +1,4 @@
--- `note` changes the cells only where the key is new.
+-- `insert` changes the cells only if the key is new.
 use borrow.Author.Tests.{not-true, not-false}
 use Rattle.table_index.proofs.InsertLoop.{insert-repeated, insert-new}
 use borrow.Author.Needs.{needs}

@@ -1,5 +1,5 @@
--- `insert_words` notes the words one by one, up to the first that is not taken. Before each turn of the inner loop the rest of the chain
--- decides whether the word is fresh.
+-- `insert_words` inserts the words one by one, up to the first that is not insertable. Before each iteration of the inner loop the rest of
+-- the chain decides whether the word is insertable.
 use Prim.Native.Nat.{_+_, _*_, _-_, _%_, min}
 use native.Mathlib.Omega.{arith}
 use mathlib.Core.Path.{_≡_, sym, ap, _∙_}

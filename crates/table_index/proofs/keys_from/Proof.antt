@@ -1,4 +1,4 @@
--- `keys_from` gives what the definition says, by the size of the number.
+-- `keys_from` returns what its definition says, by the size of the number.
 use native.Mathlib.Omega.{arith}
 use Rattle.table_index.proofs.Chains.{keys-small, keys-large}
 use borrow.Author.Needs.{needs}

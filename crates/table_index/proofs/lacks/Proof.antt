@@ -1,4 +1,4 @@
--- `lacks` gives what the definition says: in an empty bucket the search finds nothing.
+-- `lacks` returns what its definition says: in an empty bucket the search finds nothing.
 use mathlib.Core.Path.{refl, ap}
 use lib.Dec.{eqb}
 use Prim.Native.Nat.{ℕ}

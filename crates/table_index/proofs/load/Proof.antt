@@ -1,4 +1,4 @@
--- `load` gives what the definition says: the first repeated pair among the records of the right form decides, or what stands after them.
+-- `load` returns what its definition says: the first repeated pair among the well-formed records decides, or what follows them.
 use native.Mathlib.Omega.{arith}
 use Rattle.table_index.proofs.LoadLaws.{repeated, faulted, loaded}
 use borrow.Author.Needs.{needs}

@@ -1,4 +1,4 @@
--- `meaning` gives what the definition says, by the code in the cell.
+-- `meaning` returns what its definition says, by the code in the cell.
 use native.Mathlib.Omega.{arith}
 use mathlib.Core.Path.{ap, _∙_}
 use Rattle.table_index.specs.internal.Cells.{meaningOf, meaningIn}

@@ -1,4 +1,4 @@
--- `next` gives what the definition says.
+-- `next` returns what its definition says.
 use Rattle.table_index.proofs.Chains.{next-ends, next-on}
 use borrow.Author.Needs.{needs}
 use Rattle.table_index.proofs.next.Statement.{statement}

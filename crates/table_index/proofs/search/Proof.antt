@@ -1,4 +1,4 @@
--- `search` gives what the definition says: at each turn the chain from the present cell decides.
+-- `search` returns what its definition says: in each iteration the chain from the current cell decides.
 use native.Mathlib.Omega.{arith}
 use Prim.Native.Nat.{_+_, _*_, _%_, min}
 use mathlib.Core.Path.{_≡_, sym, ap, _∙_}

@@ -1,4 +1,4 @@
--- `unused` gives what the definition says: the bits of the words passed, and what is left of the words, decide.
+-- `unused` returns what its definition says: the bits of the words so far and the remaining words decide.
 use Prim.Native.Nat.{_-_}
 use native.Mathlib.Omega.{arith}
 use mathlib.Core.Path.{_≡_, refl, sym, _∙_}

@@ -1,4 +1,4 @@
--- `valid` gives what the definition says: its cells were cleared.
+-- `valid` returns what its definition says: its cells were cleared.
 use Rattle.table_index.proofs.IndexLaws.{table-valid}
 use borrow.Author.Needs.{needs}
 use Rattle.table_index.proofs.valid.Statement.{statement}

@@ -1,4 +1,4 @@
--- `word_key` gives what the definition says, since the message number is below 16.
+-- `word_key` returns what its definition says, since the message number is below 16.
 use mathlib.Core.Path.{sym}
 use Rattle.table_index.proofs.Words.{small, key-is}
 use borrow.Author.Needs.{needs}

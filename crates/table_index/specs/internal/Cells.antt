@@ -1,7 +1,7 @@
 -- The index of a field table: 128 cells of 32 bits. A cell holds an entry's key (21 bits), its kind and inner number as one number (5 bits)
 -- and its order in the table (6 bits). The first 64 cells are the heads of as many buckets; the cell 64 + i holds what was the head of its
--- bucket before the entry i. It serves the code: what the calls answer is said of the schema of a table, and proofs/Loaded.antt shows that
--- an index has the same one.
+-- bucket before the entry i. Contracts of calls speak of the schema of a table, not of the index; proofs/IndexLaws.antt shows that an index
+-- has the schema of its table.
 use Prim.Native.Nat.{ℕ, zero, suc, _+_, _*_, _-_, _/_, _%_, _^_, min}
 use mathlib.Core.Bool.{Bool, cond, _&&_}
 use mathlib.Core.List.{List}
@@ -31,7 +31,7 @@ wordKey w = keyOf (entry w .number) (entry w .tag)
 unfoldable pub cellOf : ℕ → ℕ → ℕ
 cellOf w i = (wordKey w * 32 + (entry w .kind + entry w .inner)) * 64 + i
 
--- The kind and the inner number in a cell as one number, and what that means.
+-- The code of a cell: its kind and inner number as one number. Then the kind for a code.
 unfoldable pub codeIn : ℕ → ℕ
 codeIn c = c / 64 % 32
 
@@ -43,7 +43,7 @@ meaningOf code =
     (cond (eqb code 3) String
     (cond (eqb code 4) Text (Message (code - 5))))))
 
--- What a cell means.
+-- The kind in a cell.
 unfoldable pub meaningIn : ℕ → Meaning
 meaningIn c = meaningOf (codeIn c)
 
@@ -51,13 +51,13 @@ meaningIn c = meaningOf (codeIn c)
 unfoldable pub orderIn : ℕ → ℕ
 orderIn c = c % 64
 
--- The cell after one in its chain; 0 at the end, which is where the order does not fall.
+-- The next cell of a chain; 0 at its end, which is where the order does not fall.
 unfoldable pub nextIn : List ℕ → ℕ → ℕ
 nextIn cells c =
     let next = getD cells (64 + c % 64) 0 in
     cond (ltb (next % 64) (c % 64)) next 0
 
--- The cell with a key in the chain that begins with a cell; 0 where there is none. Along a chain the order falls, so 64 cells are enough.
+-- The cell with a key in the chain that begins with a cell; 0 if there is none. Along a chain the order falls, so a fuel of 64 is enough.
 unfoldable pub chase : ℕ → List ℕ → ℕ → ℕ → ℕ
 chase zero cells key c = 0
 chase (suc fuel) cells key c =
@@ -67,42 +67,42 @@ chase (suc fuel) cells key c =
 unfoldable pub search : List ℕ → ℕ → ℕ
 search cells key = chase 64 cells key (getD cells (key % 64) 0)
 
--- Whether no cell has a word's key.
+-- Whether a word can be inserted: no cell has its key.
 unfoldable pub insertable : ℕ → List ℕ → Bool
 insertable w cells = eqb (search cells (wordKey w)) 0
 
--- The cells with a word as the i-th: it is the head of its bucket, before the head that was there.
+-- The cells with a word linked as the i-th: it becomes the head of its bucket and points to the old head.
 unfoldable pub linked : ℕ → ℕ → List ℕ → List ℕ
 linked w i cells =
     let bucket = wordKey w % 64 in
     set (set cells (64 + i) (getD cells bucket 0)) bucket (cellOf w i)
 
--- The same where the word is fresh.
+-- The cells after an attempt to insert a word as the i-th. A word that is not insertable changes nothing.
 unfoldable pub inserted : ℕ → ℕ → List ℕ → List ℕ
 inserted w i cells = cond (insertable w cells) (linked w i cells) cells
 
--- The same with the first n words noted, each given by its place.
+-- The cells after inserting the first n words, each given by its index.
 unfoldable pub insertedBefore : (ℕ → ℕ) → List ℕ → ℕ → List ℕ
 insertedBefore word cells zero = cells
 insertedBefore word cells (suc n) = inserted (word n) n (insertedBefore word cells n)
 
--- Whether the word at i is good and fresh after those before it.
+-- Whether the word at i is good and insertable after those before it.
 unfoldable pub insertableAt : (ℕ → Bool) → (ℕ → ℕ) → List ℕ → ℕ → Bool
 insertableAt good word cells i = good i && insertable (word i) (insertedBefore word cells i)
 
--- The place of the first word from i on that is not taken, or that is `left` words further.
+-- The end of the accepted prefix: the index of the first word from i on that is not insertable, at most i + `remaining`.
 unfoldable pub prefixEnd : (ℕ → Bool) → (ℕ → ℕ) → List ℕ → ℕ → ℕ → ℕ
 prefixEnd good word cells i zero = i
 prefixEnd good word cells i (suc remaining) = cond (insertableAt good word cells i) (prefixEnd good word cells (suc i) remaining) i
 
--- How many words at the front are in range and fresh, 64 at most, and the cells with these noted.
+-- The length of the accepted prefix (words in range that are insertable, at most 64), and the cells after inserting it.
 unfoldable pub prefixLength : List ℕ → List ℕ → ℕ
 prefixLength ws cells = prefixEnd (λ i. inRange (entry (getD ws i 0))) (λ i. getD ws i 0) cells 0 (min 64 (length ws))
 
 unfoldable pub insertedWords : List ℕ → List ℕ → List ℕ
 insertedWords ws cells = insertedBefore (λ i. getD ws i 0) cells (prefixLength ws cells)
 
--- Whether the words of a table value are at most 64 and all taken, and nothing stands in the unused words.
+-- Whether a table value has at most 64 words, all are inserted, and the unused words are 0.
 unfoldable pub allInserted : List ℕ → ℕ → List ℕ → Bool
 allInserted words count cells =
     let used = take count words in

@@ -1,4 +1,4 @@
--- What the private function `records` answers: the records up to the first that is not of the right form.
+-- What the private function `records` returns: the records up to the first one that is not well-formed.
 use Prim.Native.Nat.{ℕ, _*_, _-_, _≤_, _<_}
 use mathlib.Core.Path.{_≡_}
 use mathlib.Core.Bool.{true}
@@ -6,7 +6,7 @@ use mathlib.Core.List.{List, _++_}
 use lib.ListN.{length, replicate}
 use Rattle.hproto_table.specs.Load.{recordAt, wellFormed, wordsBefore, faulty}
 
--- n records of the right form and the words of their table. What stands after them, if anything, is a faulty record.
+-- The first n records are well-formed and `words` are the words of their table. If octets follow them, the next record is faulty.
 pub record Passed (s : List ℕ) (n : ℕ) (words : List ℕ) : Type 0 where
   pub few : n ≤ 64
   pub formed : (j : ℕ) → j < n → wellFormed (recordAt s j) ≡ true

@@ -1,4 +1,4 @@
--- What a record of a field table says.
+-- The result of reading one record of a field table.
 use Prim.Native.Nat.{ℕ}
 use mathlib.Core.Bool.{cond}
 use mathlib.Core.List.{List}
@@ -8,6 +8,6 @@ use Rattle.hproto_table.specs.Load.{wellFormed}
 use Rattle.table_index.specs.declared.record.Record.{Record}
 use Rattle.table_index.specs.declared.record.Record.the-variants.{Word, Wrong}
 
--- A record's word, where the record is of the right form.
+-- The word of a well-formed record, or `Wrong`.
 unfoldable pub recordOf : List ℕ → Record
 recordOf r = cond (wellFormed r) (Word (number (drop 3 r))) Wrong

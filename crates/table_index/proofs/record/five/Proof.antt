@@ -1,4 +1,4 @@
--- `five` gives the number that the five octets hold, made of them one by one.
+-- `five` returns the number in five octets, computed octet by octet.
 use Rattle.table_index.proofs.RecordLaws.{five-read}
 use borrow.Author.Needs.{needs}
 use Rattle.table_index.proofs.record.five.Statement.{statement}

@@ -1,4 +1,4 @@
--- `in_range` gives what the definition says, at each return by the tests before it.
+-- `in_range` returns what its definition says, at each return by the tests before it.
 use native.Mathlib.Omega.{arith}
 use Rattle.table_index.proofs.Ranges.{high, unwanted, inner, none, plain}
 use Rattle.table_index.proofs.record.in_range.Statement.{statement}

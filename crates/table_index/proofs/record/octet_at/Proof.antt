@@ -1,4 +1,4 @@
--- `octet_at` gives the octet at a place, which is below 256 as every octet is.
+-- `octet_at` returns the octet at a place, which is below 256 as every octet is.
 use native.Mathlib.Omega.{arith}
 use borrow.Author.Needs.{needs}
 use Rattle.table_index.proofs.record.octet_at.Statement.{statement}

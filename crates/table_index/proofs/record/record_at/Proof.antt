@@ -1,4 +1,4 @@
--- `record_at` gives what the definition says, at each return by the octets looked at before it.
+-- `record_at` returns what its definition says, at each return by the octets looked at before it.
 use native.Mathlib.Omega.{arith}
 use mathlib.Core.Path.{sym, _∙_}
 use Rattle.table_index.proofs.RecordLaws.{wrong-tag, wrong-high, wrong-low, right, wrong-range}

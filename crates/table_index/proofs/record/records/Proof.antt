@@ -1,4 +1,4 @@
--- `records` fills the words in the order of the records, up to the first that is not of the right form.
+-- `records` stores the words in the order of the records, up to the first that is not well-formed.
 use mathlib.Core.Path.{sym, _∙_}
 use borrow.Author.Needs.{needs}
 use Prim.Native.Nat.{_-_}
