@@ -1,11 +1,11 @@
--- Laws of tests that the laws of this crate and of the crates above share.
+-- Laws of Boolean tests that this crate and its users share.
 use mathlib.Core.Path.{_≡_, refl, sym}
 use mathlib.Core.Bool.{Bool, true, false, not, _&&_, _||_, true≢false, false≢true}
 use Prim.Native.Nat.{ℕ}
 use lib.Dec.{eqb}
 use borrow.Author.Tests.{eqb-true, eq-eqb}
 
--- What a conjunction that holds says of its parts, and the other way.
+-- A conjunction is true exactly if both sides are.
 pub and-left : (a b : Bool) → a && b ≡ true → a ≡ true
 and-left true b e = refl
 and-left false b e = e
@@ -23,7 +23,7 @@ and-four a b c d e =
 pub and-both : (a b : Bool) → a ≡ true → b ≡ true → a && b ≡ true
 and-both a b p q = rw (p, q) refl
 
--- What a disjunction that does not hold says of its parts, and the other way.
+-- A disjunction is false exactly if both sides are.
 pub or-left : (a b : Bool) → a || b ≡ false → a ≡ false
 or-left true b e = e
 or-left false b e = refl
@@ -45,14 +45,14 @@ or-second false b p = p
 pub not-of-false : (a : Bool) → a ≡ false → not a ≡ true
 not-of-false a p = rw p refl
 
--- Two tests of which each holds where the other does.
+-- Two tests are equal if each implies the other.
 same-test : (a b : Bool) → (a ≡ true → b ≡ true) → (b ≡ true → a ≡ true) → a ≡ b
 same-test true true p q = refl
 same-test true false p q = sym (p refl)
 same-test false true p q = q refl
 same-test false false p q = refl
 
--- Equality of numbers goes both ways.
+-- Equality of numbers is symmetric.
 pub eqb-swap : (m n : ℕ) → eqb m n ≡ eqb n m
 eqb-swap m n =
     same-test (eqb m n) (eqb n m) (λ e. eq-eqb n m (sym (eqb-true m n e))) (λ e. eq-eqb m n (sym (eqb-true n m e)))

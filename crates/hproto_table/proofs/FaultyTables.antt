@@ -41,7 +41,7 @@ record Before (s : List ℕ) (i : ℕ) : Type 0 where
   pub good : IsTable (recordsFor (wordsBefore s i)) (wordsBefore s i)
 
 module _ (s : List ℕ) (i : ℕ) where
-  -- A record that is not faulty goes on the table,
+  -- A record that is not faulty continues the table,
   next-before : Before s i → faulty s i ≡ false → Before s (suc i)
   unfolding wordsBefore faulty
   next-before b e =
@@ -64,7 +64,7 @@ module _ (s : List ℕ) (i : ℕ) where
       sym (take-append-drop 8 (drop (8 * i) s))
       ∙ ap (λ (r : List ℕ). r ++ drop 8 (drop (8 * i) s)) (wellFormed-record (recordAt s i) (record-octets s i o) (wellFormed-of s i e))
 
-  -- A record of a word that goes on the table is not faulty.
+  -- A record of a word that continues the table is not faulty.
   not-faulty : (w : ℕ) (later : List ℕ) → drop (8 * i) s ≡ recordFor w ++ later
       → IsTable (recordsFor (wordsBefore s i ++ (w ∷ []))) (wordsBefore s i ++ (w ∷ [])) → faulty s i ≡ false
   unfolding faulty wordAt recordAt recordFor
@@ -88,7 +88,7 @@ accepted-not ws p e = let z : _≡_ {A = ℕ} 0 2 = ap (λ (l : Loaded). l .refu
 
 -- ---- what is refused is a faulty table
 
--- A loader's answer: the words of records, or the place at which the octets are a faulty table.
+-- A loader's result: the words of records, or the place at which the octets are a faulty table.
 data Outcome (s : List ℕ) (l : Loaded) : Type 0 where
   loads : (ws : List ℕ) → l ≡ accepted ws → Outcome s l
   refuses : (place : ℕ) → l ≡ refused place → FaultyTable s place → Outcome s l
@@ -106,13 +106,13 @@ module _ (s : List ℕ) (o : Octets s) where
         at = ap (λ (n : ℕ). 8 * n) (sym (length-words s i));
       }
 
-  outcome-from : (left i : ℕ) → i + left ≡ 65 → Before s i → Outcome s (loadFrom left i s)
+  outcome-from : (fuel i : ℕ) → i + fuel ≡ 65 → Before s i → Outcome s (loadFrom fuel i s)
   unfolding loadFrom
   outcome-from zero i few b = let h = b .good .few in absurd (omega (arith, length-words s i))
-  outcome-from (suc left) i few b = go (leb (length s) (8 * i)) (faulty s i) refl refl (outcome-from left (suc i) (omega arith))
+  outcome-from (suc fuel) i few b = go (leb (length s) (8 * i)) (faulty s i) refl refl (outcome-from fuel (suc i) (omega arith))
     where
-      go : (x y : Bool) → leb (length s) (8 * i) ≡ x → faulty s i ≡ y → (Before s (suc i) → Outcome s (loadFrom left (suc i) s))
-          → Outcome s (cond x (accepted (wordsBefore s i)) (cond y (refused (8 * i)) (loadFrom left (suc i) s)))
+      go : (x y : Bool) → leb (length s) (8 * i) ≡ x → faulty s i ≡ y → (Before s (suc i) → Outcome s (loadFrom fuel (suc i) s))
+          → Outcome s (cond x (accepted (wordsBefore s i)) (cond y (refused (8 * i)) (loadFrom fuel (suc i) s)))
       go true y p q on = loads (wordsBefore s i) refl
       go false true p q on = refuses (8 * i) refl (faulty-here i b (leb-false (length s) (8 * i) p) q)
       go false false p q on = on (next-before s i b q)
@@ -127,7 +127,7 @@ module _ (s : List ℕ) (o : Octets s) where
 
 -- ---- a faulty table is refused
 
--- What follows octets does not change the records that lie within them.
+-- Octets appended after records do not change these records.
 record-front : (a b : List ℕ) (i : ℕ) → 8 * i + 8 ≤ length a → recordAt (a ++ b) i ≡ recordAt a i
 unfolding recordAt
 record-front a b i h =

@@ -1,4 +1,4 @@
--- Laws of loading: what the records before the first fault say of the whole.
+-- Laws of loading: the records before the first fault decide the result.
 use Prim.Native.Nat.{ℕ, zero, suc, _+_, _*_, _-_, _≤_, _<_}
 use native.Mathlib.Nat.{zero-add}
 use native.Mathlib.Omega.{arith}
@@ -49,7 +49,7 @@ words-at s j (suc n) h = go (ltb j n) refl (words-at s j n)
         let q : j ≡ n = omega (arith, ltb-false j n e) in
         rw q (getD-at (wordsBefore s n) (wordAt s n) [] 0 n (length-words s n))
 
--- What a well-formed record is, part by part.
+-- The conditions of a well-formed record, one by one.
 pub record Form (r : List ℕ) : Type 0 where
   pub whole : length r ≡ 8
   pub tag : getD r 0 0 ≡ 1
@@ -76,27 +76,27 @@ pub wellFormed-range : (s : List ℕ) (i : ℕ) → wellFormed (recordAt s i) �
 unfolding wordAt
 wellFormed-range s i e = form (recordAt s i) e .range
 
--- Of a record of the right form that is not the 65th, the pair decides.
+-- A well-formed record that is not the 65th is faulty exactly if its pair was seen.
 faulty-pair : (s : List ℕ) (i : ℕ) → i < 64 → wellFormed (recordAt s i) ≡ true → faulty s i ≡ seen (pair (wordAt s i)) (wordsBefore s i)
 unfolding faulty
 faulty-pair s i h e = rw (e, lt-leb 64 i h) (or-false (seen (pair (wordAt s i)) (wordsBefore s i)))
 
-load-on : (s : List ℕ) (left i : ℕ) → i < 64 → wellFormed (recordAt s i) ≡ true
-    → loadFrom (suc left) i s ≡ cond (seen (pair (wordAt s i)) (wordsBefore s i)) (refused (8 * i)) (loadFrom left (suc i) s)
+load-on : (s : List ℕ) (fuel i : ℕ) → i < 64 → wellFormed (recordAt s i) ≡ true
+    → loadFrom (suc fuel) i s ≡ cond (seen (pair (wordAt s i)) (wordsBefore s i)) (refused (8 * i)) (loadFrom fuel (suc i) s)
 unfolding loadFrom
-load-on s left i h e = rw (lt-leb (length s) (8 * i) (omega (arith, wellFormed-whole s i e)), faulty-pair s i h e) refl
+load-on s fuel i h e = rw (lt-leb (length s) (8 * i) (omega (arith, wellFormed-whole s i e)), faulty-pair s i h e) refl
 
 module _ (s : List ℕ) where
-  -- The records before the one at n have the right form and no pair twice: what stands at n decides.
-  load-runs : (n left : ℕ) → n ≤ 64 → ((j : ℕ) → j < n → wellFormed (recordAt s j) ≡ true) → distinct (wordsBefore s n) ≡ true
-      → loadFrom (n + left) 0 s ≡ loadFrom left n s
+  -- If the records before the one at n are well-formed with no pair twice, loading continues at n.
+  load-runs : (n fuel : ℕ) → n ≤ 64 → ((j : ℕ) → j < n → wellFormed (recordAt s j) ≡ true) → distinct (wordsBefore s n) ≡ true
+      → loadFrom (n + fuel) 0 s ≡ loadFrom fuel n s
   unfolding wordsBefore
-  load-runs zero left few formed apart = ap (λ (k : ℕ). loadFrom k 0 s) (zero-add left)
-  load-runs (suc n) left few formed apart =
-      let fuel : suc n + left ≡ n + suc left = omega arith in
-      ap (λ (k : ℕ). loadFrom k 0 s) fuel
-      ∙ load-runs n (suc left) (omega arith) (λ j h. formed j (omega arith)) (distinct-before (wordsBefore s n) (wordAt s n) apart)
-      ∙ load-on s left n (omega arith) (formed n (omega arith))
+  load-runs zero fuel few formed apart = ap (λ (k : ℕ). loadFrom k 0 s) (zero-add fuel)
+  load-runs (suc n) fuel few formed apart =
+      let shift : suc n + fuel ≡ n + suc fuel = omega arith in
+      ap (λ (k : ℕ). loadFrom k 0 s) shift
+      ∙ load-runs n (suc fuel) (omega arith) (λ j h. formed j (omega arith)) (distinct-before (wordsBefore s n) (wordAt s n) apart)
+      ∙ load-on s fuel n (omega arith) (formed n (omega arith))
       ∙ rw (distinct-last (wordsBefore s n) (wordAt s n) apart) refl
 
   module _ (n : ℕ) (few : n ≤ 64) (formed : (j : ℕ) → j < n → wellFormed (recordAt s j) ≡ true) (apart : distinct (wordsBefore s n) ≡ true) where
@@ -116,7 +116,7 @@ module _ (s : List ℕ) where
     unfolding loadFrom
     load-fault h b = at-end ∙ rw (lt-leb (length s) (8 * n) h, b) refl
 
--- A record of a wrong form is faulty, and so is the 65th.
+-- A record that is not well-formed is faulty, and so is the 65th.
 pub faulty-form : (s : List ℕ) (i : ℕ) → wellFormed (recordAt s i) ≡ false → faulty s i ≡ true
 unfolding faulty
 faulty-form s i e = rw e refl

@@ -1,4 +1,4 @@
--- The loader's answer where it refuses nothing, and where it refuses.
+-- The loader's place is 0 if it accepts, and its only refusal is 2.
 use Prim.Native.Nat.{ℕ, zero, suc, _*_}
 use native.Mathlib.Omega.{arith}
 use mathlib.Core.Path.{_≡_, refl, sym, _∙_, subst}
@@ -12,24 +12,24 @@ use Rattle.hproto_table.specs.Valid.{valid}
 use Rattle.hproto_table.specs.declared.Loaded.{Loaded}
 use Rattle.hproto_table.proofs.Valid.{loadable-valid}
 
--- What holds of each refusal and of each table that is accepted holds of the loader's answer.
+-- A property of every refusal and of every accepted table is a property of the loader's result.
 module _ (P : Loaded → Type 0) (refuses : (place : ℕ) → P (refused place)) (accepts : (ws : List ℕ) → P (accepted ws)) where
   either : (b : Bool) (x y : Loaded) → P x → P y → P (cond b x y)
   either true x y p q = p
   either false x y p q = q
 
-  from-each : (left i : ℕ) (s : List ℕ) → P (loadFrom left i s)
+  from-each : (fuel i : ℕ) (s : List ℕ) → P (loadFrom fuel i s)
   unfolding loadFrom
   from-each zero i s = refuses (8 * i)
-  from-each (suc left) i s =
-      either (leb (length s) (8 * i)) (accepted (wordsBefore s i)) (cond (faulty s i) (refused (8 * i)) (loadFrom left (suc i) s)) (accepts (wordsBefore s i))
-      (either (faulty s i) (refused (8 * i)) (loadFrom left (suc i) s) (refuses (8 * i)) (from-each left (suc i) s))
+  from-each (suc fuel) i s =
+      either (leb (length s) (8 * i)) (accepted (wordsBefore s i)) (cond (faulty s i) (refused (8 * i)) (loadFrom fuel (suc i) s)) (accepts (wordsBefore s i))
+      (either (faulty s i) (refused (8 * i)) (loadFrom fuel (suc i) s) (refuses (8 * i)) (from-each fuel (suc i) s))
 
   load-each : (s : List ℕ) → P (load s)
   unfolding load
   load-each s = from-each 65 0 s
 
--- An answer that is no refusal has place 0.
+-- A result without a refusal has place 0.
 unfoldable Placed : Loaded → Type 0
 Placed l = l .refusal ≡ 0 → l ≡ record { refusal = 0; place = 0; table = l .table }
 
@@ -47,7 +47,7 @@ loaded-valid octets l o e z =
     let f = subst Placed (sym e) (load-each Placed refused-placed accepted-placed octets) in
     loadable-valid (l .table) (octets, o, sym e ∙ f z)
 
--- The loader refuses with 2 alone.
+-- The only refusal of the loader is 2.
 unfoldable Two : Loaded → Type 0
 Two l = (l .refusal ≡ 0 → ⊥) → l .refusal ≡ 2
 

@@ -1,4 +1,4 @@
--- The loader accepts octets exactly where they are the records of words, and gives just these words. A record has its entry's numbers in
+-- The loader accepts octets exactly if they are the records of words, and returns these words. A record has its entry's numbers in
 -- document 01's order, and a table that is loaded has the entries of its words.
 use Prim.Native.Nat.{ℕ, zero, suc, _+_, _*_, _-_, _/_, _%_, _^_, _≤_, _<_}
 use native.Mathlib.Omega.{arith}
@@ -87,7 +87,7 @@ wellFormed-front s o (suc n) h =
     (ap₂ (λ (a b : List ℕ). a ++ b) (wellFormed-front s o n (λ i k. h i (omega arith))) (wellFormed-record (recordAt s n) (record-octets s n o) (h n (omega arith)))
     ∙ sym (records-snoc (wordsBefore s n) (wordAt s n)))
 
--- Where the loader accepts, the octets end after records that are well-formed, and it gives their words.
+-- If the loader accepts, the octets end after well-formed records, and it returns their words.
 record Ended (s ws : List ℕ) : Type 0 where
   pub count : ℕ
   pub limit : count ≤ 64
@@ -102,17 +102,17 @@ accepted-words a b e =
     ∙ ap (λ (l : Loaded). take (l .table .count) (l .table .words)) e
     ∙ take-at b (replicate (64 - length b) 0) (length b) refl
 
-accepted-ended : (s ws : List ℕ) (left i : ℕ) → i + left ≤ 65 → WellFormedBefore s i → loadFrom left i s ≡ accepted ws → Ended s ws
+accepted-ended : (s ws : List ℕ) (fuel i : ℕ) → i + fuel ≤ 65 → WellFormedBefore s i → loadFrom fuel i s ≡ accepted ws → Ended s ws
 unfolding loadFrom refused accepted
 accepted-ended s ws zero i few h e = let z : _≡_ {A = ℕ} 2 0 = ap (λ (l : Loaded). l .refusal) e in absurd (omega arith)
-accepted-ended s ws (suc left) i few h e = go (leb (length s) (8 * i)) (faulty s i) refl refl e (accepted-ended s ws left (suc i) (omega arith))
+accepted-ended s ws (suc fuel) i few h e = go (leb (length s) (8 * i)) (faulty s i) refl refl e (accepted-ended s ws fuel (suc i) (omega arith))
   where
     more : faulty s i ≡ false → WellFormedBefore s (suc i)
     more f j k = below-more (λ (x : ℕ). wellFormed (recordAt s x) ≡ true) i h (wellFormed-of s i f) j (omega arith)
 
     go : (a b : Bool) → leb (length s) (8 * i) ≡ a → faulty s i ≡ b
-        → cond a (accepted (wordsBefore s i)) (cond b (refused (8 * i)) (loadFrom left (suc i) s)) ≡ accepted ws
-        → (WellFormedBefore s (suc i) → loadFrom left (suc i) s ≡ accepted ws → Ended s ws) → Ended s ws
+        → cond a (accepted (wordsBefore s i)) (cond b (refused (8 * i)) (loadFrom fuel (suc i) s)) ≡ accepted ws
+        → (WellFormedBefore s (suc i) → loadFrom fuel (suc i) s ≡ accepted ws → Ended s ws) → Ended s ws
     go true b p f q on =
         record {
           count = i;

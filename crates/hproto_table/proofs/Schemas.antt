@@ -13,7 +13,7 @@ use Rattle.hproto_table.specs.declared.Meaning.{Meaning}
 use Rattle.hproto_table.specs.declared.Meaning.the-variants.{Raw}
 use Rattle.hproto_table.proofs.Records.{loaded-entries}
 
--- Schemas in which every tag means the same are one schema.
+-- Schemas that give every tag the same kind are equal.
 pub same-schema : (a b : Schema) → ((n tag : ℕ) → a .means n tag ≡ b .means n tag) → a ≡ b
 same-schema a b h = ap (λ (f : ℕ → ℕ → Meaning). record { means = f }) (fun-ext (λ n. fun-ext (h n)))
 

@@ -1,4 +1,4 @@
--- The table values that `valid` accepts are the ones that the loader can give.
+-- The table values that `valid` accepts are those that the loader can return.
 use Prim.Native.Nat.{ℕ, zero, suc, _+_, _*_, _-_, _/_, _^_, _≤_, _<_}
 use native.Mathlib.Omega.{arith}
 use mathlib.Core.Path.{_≡_, refl, sym, ap, subst, _∙_}
@@ -73,15 +73,15 @@ accepted-table : (ws : List ℕ) (t : Table) → accepted ws ≡ record { refusa
 unfolding accepted
 accepted-table ws t e = ap (λ (l : Loaded). l .table) e
 
-loaded-valid : (s : List ℕ) (t : Table) (left i : ℕ) → i + left ≤ 65 → allInRange (wordsBefore s i) ≡ true → distinct (wordsBefore s i) ≡ true
-    → loadFrom left i s ≡ record { refusal = 0; place = 0; table = t } → valid t ≡ true
+loaded-valid : (s : List ℕ) (t : Table) (fuel i : ℕ) → i + fuel ≤ 65 → allInRange (wordsBefore s i) ≡ true → distinct (wordsBefore s i) ≡ true
+    → loadFrom fuel i s ≡ record { refusal = 0; place = 0; table = t } → valid t ≡ true
 unfolding loadFrom wordsBefore
 loaded-valid s t zero i few r d e = absurd (refused-not (8 * i) t e)
-loaded-valid s t (suc left) i few r d e = go (leb (length s) (8 * i)) (faulty s i) refl e (loaded-valid s t left (suc i) (omega arith))
+loaded-valid s t (suc fuel) i few r d e = go (leb (length s) (8 * i)) (faulty s i) refl e (loaded-valid s t fuel (suc i) (omega arith))
   where
     go : (a b : Bool) → faulty s i ≡ b
-        → cond a (accepted (wordsBefore s i)) (cond b (refused (8 * i)) (loadFrom left (suc i) s)) ≡ record { refusal = 0; place = 0; table = t }
-        → (allInRange (wordsBefore s (suc i)) ≡ true → distinct (wordsBefore s (suc i)) ≡ true → loadFrom left (suc i) s ≡ record { refusal = 0; place = 0; table = t } → valid t ≡ true)
+        → cond a (accepted (wordsBefore s i)) (cond b (refused (8 * i)) (loadFrom fuel (suc i) s)) ≡ record { refusal = 0; place = 0; table = t }
+        → (allInRange (wordsBefore s (suc i)) ≡ true → distinct (wordsBefore s (suc i)) ≡ true → loadFrom fuel (suc i) s ≡ record { refusal = 0; place = 0; table = t } → valid t ≡ true)
         → valid t ≡ true
     go true b p q on =
         let same : tableOf (wordsBefore s i) ≡ t = accepted-table (wordsBefore s i) t q in
@@ -163,7 +163,7 @@ zeros-are (x ∷ l) e =
 
 -- ---- the law
 
--- What a valid table is, part by part.
+-- The conditions of a valid table, one by one.
 pub record Parts (t : Table) : Type 0 where
   pub few : t .count ≤ 64
   pub range : allInRange (take (t .count) (t .words)) ≡ true
@@ -191,11 +191,11 @@ module _ (t : Table) where
       let p = parts t v in
       let few : n ≤ 64 = p .few in
       let len : length used ≡ n = length-take-le n (t .words) (omega arith) in
-      let left : length rest ≡ 64 - n = rw (length-drop n (t .words), size) refl in
+      let rest-length : length rest ≡ 64 - n = rw (length-drop n (t .words), size) refl in
       let filled : used ++ replicate (64 - n) 0 ≡ t .words =
-      rw (← left, ← zeros-are rest (p .unused)) (take-append-drop n (t .words)) in
+      rw (← rest-length, ← zeros-are rest (p .unused)) (take-append-drop n (t .words)) in
       (recordsFor used, records-octets used, load-records used (p .range) (omega arith) (p .apart) ∙ rw (len, filled) refl)
 
-  -- A table value is valid exactly when the loader can give it. Every table value of the code has 64 words, so that premise limits nothing.
+  -- A table value is valid exactly if the loader can return it. Every table value of the code has 64 words, so that premise limits nothing.
   pub valid-exactly : length (t .words) ≡ 64 → (valid t ≡ true) ↔ Loadable t
   valid-exactly size = (valid-loadable size, loadable-valid)

@@ -1,4 +1,4 @@
--- Entries of a field table, and what a tag means under them.
+-- Entries of a field table, and the kind of a tag under them.
 use Prim.Native.Nat.{ℕ, _/_, _%_, _^_}
 use mathlib.Core.Bool.{cond, _&&_}
 use mathlib.Core.List.{List, [], _∷_, map}
@@ -8,14 +8,14 @@ use Rattle.hproto_table.specs.declared.Meaning.{Meaning}
 use Rattle.hproto_table.specs.declared.Meaning.the-variants.{Raw, Uint, Int, String, Text, Message}
 use Rattle.hproto_table.specs.declared.Table.{Table}
 
--- In messages of this number, this tag has this kind; a nested message has the inner number.
+-- In messages of this number, this tag has this kind. If the kind is message, `inner` is the nested message's number.
 pub record Entry : Type 0 where
   pub number : ℕ
   pub tag : ℕ
   pub kind : ℕ
   pub inner : ℕ
 
--- The kinds' numbers: 1 uint, 2 int, 3 string, 4 text, 5 message. No table that is loaded has another; it would mean raw.
+-- The numbers of the kinds: 1 uint, 2 int, 3 string, 4 text, 5 message. The loader rejects any other number; here it gives raw.
 unfoldable pub meaning : Entry → Meaning
 meaning e =
     cond (eqb (e .kind) 1) Uint
@@ -24,7 +24,7 @@ meaning e =
     (cond (eqb (e .kind) 4) Text
     (cond (eqb (e .kind) 5) (Message (e .inner)) Raw))))
 
--- The number of a kind; 0 for a tag that the table does not have.
+-- The number of a kind; 0 for raw.
 unfoldable pub kindNumber : Meaning → ℕ
 kindNumber Raw = 0
 kindNumber Uint = 1
@@ -33,7 +33,7 @@ kindNumber String = 3
 kindNumber Text = 4
 kindNumber (Message m) = 5
 
--- The number of the message that a kind holds; 0 where it holds none.
+-- The number of the nested message; 0 for other kinds.
 unfoldable pub innerOf : Meaning → ℕ
 innerOf Raw = 0
 innerOf Uint = 0
@@ -42,7 +42,7 @@ innerOf String = 0
 innerOf Text = 0
 innerOf (Message m) = m
 
--- What a tag means in messages of a number.
+-- The kind of a tag in messages of a number: that of the first entry for both, or raw.
 unfoldable pub find : List Entry → ℕ → ℕ → Meaning
 find [] number tag = Raw
 find (e ∷ es) number tag = cond (eqb (e .number) number && eqb (e .tag) tag) (meaning e) (find es number tag)

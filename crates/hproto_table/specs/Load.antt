@@ -1,4 +1,4 @@
--- Loading a field table from octets: records of 8 octets, each a record's tag (01), its length (00 05) and an entry.
+-- Loading a field table from octets. A table is a sequence of records of 8 octets: the tag 01, the length 00 05 and an entry.
 use Prim.Native.Nat.{ℕ, zero, suc, _*_, _-_, _/_, _^_}
 use mathlib.Core.Path.{_≡_}
 use mathlib.Core.Bool.{Bool, false, cond, not, _&&_, _||_}
@@ -22,7 +22,7 @@ recordAt s i = take 8 (drop (8 * i) s)
 unfoldable pub wordAt : List ℕ → ℕ → ℕ
 wordAt s i = number (drop 3 (recordAt s i))
 
--- Whether a record is whole, its tag and length are right and its entry is in range.
+-- Whether a record is complete, its tag and length are right and its entry is in range.
 unfoldable pub wellFormed : List ℕ → Bool
 wellFormed r = eqb (length r) 8 && eqb (getD r 0 0) 1 && eqb (number (take 2 (drop 1 r))) 5 && inRange (entry (number (drop 3 r)))
 
@@ -40,7 +40,7 @@ unfoldable pub seen : ℕ → List ℕ → Bool
 seen p [] = false
 seen p (w ∷ ws) = eqb (pair w) p || seen p ws
 
--- Whether the record at i is faulty: of a wrong form, or with a pair seen before, or the 65th.
+-- Whether the record at i is faulty: not well-formed, or with a pair seen before, or the 65th.
 unfoldable pub faulty : List ℕ → ℕ → Bool
 faulty s i = not (wellFormed (recordAt s i)) || seen (pair (wordAt s i)) (wordsBefore s i) || leb 64 i
 
@@ -48,24 +48,24 @@ faulty s i = not (wellFormed (recordAt s i)) || seen (pair (wordAt s i)) (wordsB
 unfoldable pub tableOf : List ℕ → Table
 tableOf ws = record { count = length ws; words = ws ++ replicate (64 - length ws) 0 }
 
--- The answer for a table that is accepted, and for one whose fault is in the record at a place.
+-- The result for a table that is accepted, and for one whose fault is in the record at a place.
 unfoldable pub accepted : List ℕ → Loaded
 accepted ws = record { refusal = 0; place = 0; table = tableOf ws }
 
 unfoldable pub refused : ℕ → Loaded
 refused place = record { refusal = 2; place = place; table = tableOf [] }
 
--- The answer is a refusal at the first record that is faulty, from the one at i on. `left` bounds the records still looked at.
+-- Loading from the record at i on: the first faulty record is rejected. `fuel` bounds the number of records.
 unfoldable pub loadFrom : ℕ → ℕ → List ℕ → Loaded
 loadFrom zero i s = refused (8 * i)
-loadFrom (suc left) i s =
-    let rest = loadFrom left (suc i) s in
+loadFrom (suc fuel) i s =
+    let rest = loadFrom fuel (suc i) s in
     cond (leb (length s) (8 * i)) (accepted (wordsBefore s i)) (cond (faulty s i) (refused (8 * i)) rest)
 
--- What loading octets gives. The 65th record is faulty, so 65 looks are enough.
+-- The result of loading octets. The 65th record is faulty, so a fuel of 65 is enough.
 unfoldable pub load : List ℕ → Loaded
 load s = loadFrom 65 0 s
 
--- A table value that the loader can give.
+-- A table value that the loader can return.
 unfoldable pub Loadable : Table → Type 0
 Loadable t = (s : List ℕ) × Octets s × (load s ≡ record { refusal = 0; place = 0; table = t })

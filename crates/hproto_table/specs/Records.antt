@@ -1,5 +1,5 @@
--- What a table is (document 01, Field table), apart from how it is loaded: one record for each entry. No contract cites it;
--- proofs/Records.antt shows that the loader accepts just these octets and gives just these entries.
+-- What a table is (document 01, Field table), independent of the loader: one record for each entry. No contract cites it;
+-- proofs/Records.antt shows that the loader accepts exactly these octets and returns exactly these entries.
 use Prim.Native.Nat.{ℕ, _≤_}
 use mathlib.Core.Path.{_≡_}
 use mathlib.Core.Bool.{true}

@@ -1,15 +1,15 @@
--- The schema of messages: what each tag means. Everything about messages is over a schema; a field table gives one.
+-- Schemas: which kind each tag has. Definitions about messages depend on a schema, and a field table gives one.
 use Prim.Native.Nat.{ℕ}
 use mathlib.Core.List.{List}
 use Rattle.hproto_table.specs.Entry.{Entry, entries, find}
 use Rattle.hproto_table.specs.declared.Meaning.{Meaning}
 use Rattle.hproto_table.specs.declared.Table.{Table}
 
--- What a tag means in messages of a number: the number first, then the tag.
+-- The kind of a tag in messages of a number: `means number tag`.
 pub record Schema : Type 0 where
   pub means : ℕ → ℕ → Meaning
 
--- The schema that entries give, and that of a table.
+-- The schema of a list of entries, and of a table.
 unfoldable pub schemaOf : List Entry → Schema
 schemaOf es = record { means = find es }
 

@@ -1,4 +1,4 @@
--- Which table values the loader can give. proofs/Valid.antt shows that these are the loadable ones.
+-- Which table values the loader can return. proofs/Valid.antt shows that these are the loadable ones.
 use Prim.Native.Nat.{ℕ}
 use mathlib.Core.Bool.{Bool, true, _&&_}
 use mathlib.Core.List.{List, [], _∷_}

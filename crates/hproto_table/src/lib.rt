@@ -1,15 +1,15 @@
-// Field tables: which kind a tag has in a message of a given number. This crate has the types, the definitions (specs/) and the laws
-// about them (proofs/); the functions are in the crates above.
+// The types of field tables. A field table tells which kind a tag has in messages of a given number. This crate also has the definitions
+// (specs/) and the laws about them (proofs/). The functions are in table_index.
 
-// The entries of a field table, in the order in which they were loaded. The lowest 40 bits of a word are an entry's message number
-// (8 bits), tag (16 bits), kind (8 bits) and inner message number (8 bits), in this order from the top. The loader leaves 0 in the words
-// beyond the count.
+// The entries of a field table, in the order in which they were loaded. The lowest 40 bits of a word are, from the highest to the lowest,
+// an entry's message number (8 bits), tag (16 bits), kind (8 bits) and inner message number (8 bits). The loader sets the words beyond the
+// count to 0.
 pub struct Table {
     pub count: usize,
     pub words: [u64; 64],
 }
 
-// What a tag means in a message of a given number. A tag that the table does not have there is raw.
+// The kind of a tag in messages of a given number. A tag without an entry in the table is raw.
 pub enum Meaning {
     Raw,
     Uint,
@@ -19,8 +19,7 @@ pub enum Meaning {
     Message(u64),
 }
 
-// The loader's answer: a refusal number (0 where the table is accepted), the place of the fault, and the table, which is empty in a
-// refusal.
+// The loader's result: a refusal (0 if the table is accepted), the place of the fault, and the table, which is empty after a refusal.
 pub struct Loaded {
     pub refusal: u64,
     pub place: u64,
