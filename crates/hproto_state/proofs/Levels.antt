@@ -5,7 +5,7 @@ use mathlib.Core.Bool.{Bool, true, false}
 use mathlib.Core.List.{List}
 use lib.ListN.{length, take, drop, getD}
 use borrow.Author.Tests.{le-leb, lt-leb}
-use Rattle.hproto_table.proofs.Lists.{front, front-end}
+use Rattle.hproto_table.proofs.Lists.{rest-at, rest-end}
 use Rattle.hproto_state.specs.Sound.{falling, small, sound}
 use Rattle.hproto_state.specs.declared.State.{State}
 
@@ -15,32 +15,32 @@ module _ (marks : List ℕ) (n i : ℕ) (within : n ≤ length marks) where
 
   pub fall-ends : (low high : ℕ) → n ≤ i → falling low high (drop i (take n marks)) ≡ true
   unfolding falling
-  fall-ends low high l = rw (front-end marks n i within l) refl
+  fall-ends low high l = rw (rest-end marks n i within l) refl
 
   pub fall-low : (low high : ℕ) → i < n → M < low → falling low high (drop i (take n marks)) ≡ false
   unfolding falling
-  fall-low low high l h = rw (front marks n i within l, lt-leb low M h) refl
+  fall-low low high l h = rw (rest-at marks n i within l, lt-leb low M h) refl
 
   pub fall-high : (low high : ℕ) → i < n → low ≤ M → high < M → falling low high (drop i (take n marks)) ≡ false
   unfolding falling
-  fall-high low high l h k = rw (front marks n i within l, le-leb low M h, lt-leb M high k) refl
+  fall-high low high l h k = rw (rest-at marks n i within l, le-leb low M h, lt-leb M high k) refl
 
   pub fall-moves : (low high : ℕ) → i < n → low ≤ M → M ≤ high
       → falling low high (drop i (take n marks)) ≡ falling low M (drop (i + 1) (take n marks))
   unfolding falling
-  fall-moves low high l h k = rw (front marks n i within l, le-leb low M h, le-leb M high k) refl
+  fall-moves low high l h k = rw (rest-at marks n i within l, le-leb low M h, le-leb M high k) refl
 
   pub small-ends : n ≤ i → small (drop i (take n marks)) ≡ true
   unfolding small
-  small-ends l = rw (front-end marks n i within l) refl
+  small-ends l = rw (rest-end marks n i within l) refl
 
   pub small-over : i < n → 15 < M → small (drop i (take n marks)) ≡ false
   unfolding small
-  small-over l h = rw (front marks n i within l, lt-leb M 15 h) refl
+  small-over l h = rw (rest-at marks n i within l, lt-leb M 15 h) refl
 
   pub small-moves : i < n → M ≤ 15 → small (drop i (take n marks)) ≡ small (drop (i + 1) (take n marks))
   unfolding small
-  small-moves l h = rw (front marks n i within l, le-leb M 15 h) refl
+  small-moves l h = rw (rest-at marks n i within l, le-leb M 15 h) refl
 
 module _ (s : State) where
   pub sound-long : 65536 < s .length → false ≡ sound s

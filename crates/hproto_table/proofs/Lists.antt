@@ -11,14 +11,14 @@ use lib.ListN.{length, take, drop, getD, drop-of-length-le}
 use lib.Seq.{drop-cons, take-suc, getD-take, length-take-le, take-all, take-length}
 
 -- The first n words without i of them: the word at i, and the rest.
-pub front : (words : List ℕ) (n i : ℕ) → n ≤ length words → i < n → drop i (take n words) ≡ getD words i 0 ∷ drop (i + 1) (take n words)
-front words n i h l =
+pub rest-at : (words : List ℕ) (n i : ℕ) → n ≤ length words → i < n → drop i (take n words) ≡ getD words i 0 ∷ drop (i + 1) (take n words)
+rest-at words n i h l =
     let e : length (take n words) ≡ n = length-take-le n words h in
     drop-cons (take n words) i 0 (omega arith) ∙ rw (getD-take n words i 0 l, add-one i) refl
 
 -- At the end nothing remains.
-pub front-end : (words : List ℕ) (n i : ℕ) → n ≤ length words → n ≤ i → drop i (take n words) ≡ []
-front-end words n i h l =
+pub rest-end : (words : List ℕ) (n i : ℕ) → n ≤ length words → n ≤ i → drop i (take n words) ≡ []
+rest-end words n i h l =
     let e : length (take n words) ≡ n = length-take-le n words h in
     drop-of-length-le (take n words) {i = i} (omega arith)
 

@@ -6,6 +6,7 @@ use mathlib.Core.List.{List, [], _∷_, _++_}
 use lib.ListN.{length, take, drop, replicate, getD}
 use lib.Dec.{eqb, leb, ltb}
 use Rattle.octets.specs.Number.{number, Octets}
+use Rattle.reading.specs.Refusals as refusals
 use Rattle.hproto_table.specs.Entry.{Entry, entry}
 use Rattle.hproto_table.specs.declared.Table.{Table}
 use Rattle.hproto_table.specs.declared.Loaded.{Loaded}
@@ -53,7 +54,7 @@ unfoldable pub accepted : List ℕ → Loaded
 accepted ws = record { refusal = 0; place = 0; table = tableOf ws }
 
 unfoldable pub refused : ℕ → Loaded
-refused place = record { refusal = 2; place = place; table = tableOf [] }
+refused place = record { refusal = refusals.table; place = place; table = tableOf [] }
 
 -- Loading from the record at i on: the first faulty record is rejected. `fuel` bounds the number of records.
 unfoldable pub loadFrom : ℕ → ℕ → List ℕ → Loaded

@@ -10,7 +10,7 @@ use Rattle.hproto_table.specs.Load.{load}
 use Rattle.hproto_table.specs.Schema.{schema}
 use Rattle.hproto_table.specs.Valid.{valid}
 use Rattle.hproto_table.specs.declared.Table.{Table}
-use Rattle.hproto_table.proofs.Placed.{loaded-valid, load-two}
+use Rattle.hproto_table.proofs.LoadResults.{loaded-valid, load-refusal}
 use Rattle.reading.specs.Checks.{refusal, counts}
 use Rattle.hproto_message.proofs.Accepted.{accepted-exactly, good-cut-unique}
 use Rattle.hproto_message.proofs.FirstFault.{refused-exactly, first-fault-unique, cut-or-fault, cut-no-fault}
@@ -51,7 +51,7 @@ demand-1 =
       too-long = λ table n s h. sym (message-too-long table s (λ (t : Table). check t n s) refusal h);
       bad-table = λ table n s h ne.
           sym (table-refused table s (λ (t : Table). check t n s) refusal h (load table) refl ne)
-          ∙ ap (λ (k : ℕ). refusal k (load table .place)) (load-two table ne);
+          ∙ ap (λ (k : ℕ). refusal k (load table .place)) (load-refusal table ne);
       bad-number = λ table n s h z k. check-as-loaded table s z h n ∙ number-refused (load table .table) n s h k;
       otherwise = λ table n s h z k to o.
           let t = load table .table in

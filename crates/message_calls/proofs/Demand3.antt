@@ -12,7 +12,7 @@ use Rattle.hproto_table.specs.Schema.{schema}
 use Rattle.hproto_table.specs.Valid.{valid}
 use Rattle.hproto_table.specs.declared.Table.{Table}
 use Rattle.hproto_table.specs.declared.Loaded.{Loaded}
-use Rattle.hproto_table.proofs.Placed.{loaded-valid}
+use Rattle.hproto_table.proofs.LoadResults.{loaded-valid}
 use Rattle.reading.specs.Reading.{messageLimit}
 use Rattle.reading.specs.Checks as answers
 use Rattle.reading.specs.declared.Checked.{Checked}

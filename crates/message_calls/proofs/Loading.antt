@@ -12,7 +12,7 @@ use Rattle.hproto_table.specs.Load.{recordAt, wordAt, wellFormed, accepted, ref
 use Rattle.hproto_table.specs.Valid.{valid}
 use Rattle.hproto_table.specs.declared.Table.{Table}
 use Rattle.hproto_table.specs.declared.Loaded.{Loaded}
-use Rattle.hproto_table.proofs.Placed.{loaded-valid}
+use Rattle.hproto_table.proofs.LoadResults.{loaded-valid}
 use Rattle.table_index.specs.internal.Cells.{insertedBefore, prefixEnd, indexed}
 use Rattle.table_index.proofs.IndexLaws.{octets-accepted, octets-refused, octets-schema}
 use Rattle.message_calls.proofs.Counts.{under-valid}

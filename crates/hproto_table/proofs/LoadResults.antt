@@ -1,4 +1,4 @@
--- The loader's place is 0 if it accepts, and its only refusal is 2.
+-- The loader returns a valid table or the refusal `table`.
 use Prim.Native.Nat.{ℕ, zero, suc, _*_}
 use native.Mathlib.Omega.{arith}
 use mathlib.Core.Path.{_≡_, refl, sym, _∙_, subst}
@@ -7,6 +7,7 @@ use mathlib.Core.List.{List}
 use lib.ListN.{length}
 use lib.Dec.{leb}
 use Rattle.octets.specs.Number.{Octets}
+use Rattle.reading.specs.Refusals as refusals
 use Rattle.hproto_table.specs.Load.{load, loadFrom, accepted, refused, faulty, wordsBefore, Loadable}
 use Rattle.hproto_table.specs.Valid.{valid}
 use Rattle.hproto_table.specs.declared.Loaded.{Loaded}
@@ -30,35 +31,35 @@ module _ (P : Loaded → Type 0) (refuses : (place : ℕ) → P (refused place))
   load-each s = from-each 65 0 s
 
 -- A result without a refusal has place 0.
-unfoldable Placed : Loaded → Type 0
-Placed l = l .refusal ≡ 0 → l ≡ record { refusal = 0; place = 0; table = l .table }
+unfoldable PlaceZero : Loaded → Type 0
+PlaceZero l = l .refusal ≡ 0 → l ≡ record { refusal = 0; place = 0; table = l .table }
 
-refused-placed : (place : ℕ) → Placed (refused place)
-unfolding Placed refused
-refused-placed place e = absurd (omega arith)
+refused-place : (place : ℕ) → PlaceZero (refused place)
+unfolding PlaceZero refused
+refused-place place e = absurd (omega arith)
 
-accepted-placed : (ws : List ℕ) → Placed (accepted ws)
-unfolding Placed accepted
-accepted-placed ws e = refl
+accepted-place : (ws : List ℕ) → PlaceZero (accepted ws)
+unfolding PlaceZero accepted
+accepted-place ws e = refl
 
 pub loaded-valid : (octets : List ℕ) (l : Loaded) → Octets octets → l ≡ load octets → l .refusal ≡ 0 → valid (l .table) ≡ true
-unfolding Loadable Placed
+unfolding Loadable PlaceZero
 loaded-valid octets l o e z =
-    let f = subst Placed (sym e) (load-each Placed refused-placed accepted-placed octets) in
+    let f = subst PlaceZero (sym e) (load-each PlaceZero refused-place accepted-place octets) in
     loadable-valid (l .table) (octets, o, sym e ∙ f z)
 
--- The only refusal of the loader is 2.
-unfoldable Two : Loaded → Type 0
-Two l = (l .refusal ≡ 0 → ⊥) → l .refusal ≡ 2
+-- The only refusal of the loader is `table`.
+unfoldable TableRefusal : Loaded → Type 0
+TableRefusal l = (l .refusal ≡ 0 → ⊥) → l .refusal ≡ refusals.table
 
-refused-two : (place : ℕ) → Two (refused place)
-unfolding Two refused
-refused-two place ne = refl
+refused-table : (place : ℕ) → TableRefusal (refused place)
+unfolding TableRefusal refused
+refused-table place ne = refl
 
-accepted-two : (ws : List ℕ) → Two (accepted ws)
-unfolding Two accepted
-accepted-two ws ne = absurd (ne refl)
+accepted-table : (ws : List ℕ) → TableRefusal (accepted ws)
+unfolding TableRefusal accepted
+accepted-table ws ne = absurd (ne refl)
 
-pub load-two : (table : List ℕ) → (load table .refusal ≡ 0 → ⊥) → load table .refusal ≡ 2
-unfolding Two
-load-two table ne = load-each Two refused-two accepted-two table ne
+pub load-refusal : (table : List ℕ) → (load table .refusal ≡ 0 → ⊥) → load table .refusal ≡ refusals.table
+unfolding TableRefusal
+load-refusal table ne = load-each TableRefusal refused-table accepted-table table ne
