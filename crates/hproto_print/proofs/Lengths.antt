@@ -1,4 +1,4 @@
--- The output is no longer than a number of 64 bits can say.
+-- The length of the output fits 64 bits.
 use Prim.Native.Nat.{ℕ, suc, _+_, _*_, _^_, _≤_, _<_}
 use native.Mathlib.Omega.{arith}
 use mathlib.Core.Path.{_≡_, refl, ap}
@@ -17,10 +17,10 @@ use Rattle.hproto_table.specs.declared.Meaning.the-variants.{Raw, Uint, Int, St
 use Rattle.octets.proofs.ControlPart.{part-size}
 use Rattle.text_window.specs.Ascii.{ascii}
 use Rattle.text_window.specs.Digits.{decimal, fourDigits, hex, hexOrDash}
-use Rattle.hproto_print.specs.Text.{kindName, valueText, front, line, direct, lines, page, refusal}
+use Rattle.hproto_print.specs.Text.{kindName, valueText, lineStart, line, direct, lines, page, refusalText}
 use Rattle.hproto_print.specs.internal.OfTree.{linesOf}
 use Rattle.text_window.proofs.Numbers.{decimal-length, signed-length}
-use Rattle.hproto_print.proofs.Writing.{lines-is}
+use Rattle.hproto_print.proofs.WriteLoop.{lines-is}
 
 hex-length : (s : List ℕ) → length (hex s) ≡ 2 * length s
 unfolding hex
@@ -54,10 +54,10 @@ unfolding ascii
 message-length = omega arith
 
 line-length : (depth tag : ℕ) (kind v : List ℕ) → length kind ≤ 7 → length (line depth tag kind v) ≤ 35 + length v
-unfolding line front ascii fourDigits
+unfolding line lineStart ascii fourDigits
 line-length depth tag kind v h = let d = decimal-length depth in simp length-append (omega arith)
 
--- A field takes an octet or more, and its line not many more than its octets. The tree may be that under any number.
+-- A field has at least one octet, and its lines at most 60 times as many. The tree may be read under any message number.
 lines-length : (sc : Schema) (cut : Cut) (n k depth : ℕ) → Allowed sc k cut → length (lines depth (tree sc n cut)) ≤ 60 * length (joined cut)
 unfolding lines tree joined Allowed
 lines-length sc end n k depth a = omega arith
@@ -77,7 +77,7 @@ lines-length sc (nested tag c inside rest) n k depth a =
     let h = lines-length sc rest n k depth (a .1) in
     simp length-append (omega arith)
 
--- What is printed for a message within the limit, and for a refusal, has a place for each octet.
+-- The text of a message within the length limit, and of a refusal, is shorter than 2 ^ 64 octets.
 pub page-fits : (sc : Schema) (n : ℕ) (s : List ℕ) (count : ℕ) → length s ≤ 65536 → Accepts sc 8 n s → length (page (linesOf sc 8 n s) count (length s)) < 2 ^ 64
 unfolding page ascii
 page-fits sc n s count h a =
@@ -89,9 +89,9 @@ page-fits sc n s count h a =
     let y = decimal-length (length s) in
     simp length-append (omega arith)
 
-pub refusal-fits : (number place : ℕ) → length (refusal number place) < 2 ^ 64
-unfolding refusal ascii
-refusal-fits number place =
-    let x = decimal-length number in
+pub refusal-fits : (refusal place : ℕ) → length (refusalText refusal place) < 2 ^ 64
+unfolding refusalText ascii
+refusal-fits refusal place =
+    let x = decimal-length refusal in
     let y = decimal-length place in
     simp length-append (omega arith)

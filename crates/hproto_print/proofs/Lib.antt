@@ -1,5 +1,5 @@
 pub mod Values
-pub mod Counting
-pub mod Writing
+pub mod CountLoop
+pub mod WriteLoop
 pub mod Lengths
-pub mod Messages
+pub mod MessageText

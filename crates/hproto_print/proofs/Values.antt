@@ -1,4 +1,4 @@
--- What is printed of a value, by its kind.
+-- The text of a value by its kind.
 use native.Mathlib.Omega.{arith}
 use mathlib.Core.Path.{_≡_, refl}
 use mathlib.Core.Logic.{inl, inr}

@@ -1,4 +1,4 @@
--- A message as text, field by field, and a refusal as text.
+-- The text of a message, field by field, and of a refusal.
 use Prim.Native.Nat.{ℕ, suc}
 use mathlib.Core.Bool.{cond}
 use mathlib.Core.List.{List, [], _++_}
@@ -23,7 +23,7 @@ kindName (int z) = ascii "int"
 kindName (string s) = ascii "string"
 kindName (text s) = ascii "text"
 
--- A value: numbers are decimal, octets hex.
+-- The text of a value: numbers in decimal, octets in hex.
 unfoldable pub valueText : Value → List ℕ
 valueText (raw s) = hexOrDash s
 valueText (uint v) = decimal v
@@ -31,15 +31,15 @@ valueText (int z) = signedDecimal z
 valueText (string s) = hexOrDash s
 valueText (text s) = hexOrDash s
 
--- What stands before the value in a field's line: the depth of its message, its tag and its kind.
-unfoldable pub front : ℕ → ℕ → List ℕ → List ℕ
-front depth tag kind = decimal depth ++ ascii " " ++ fourDigits tag ++ ascii " " ++ kind ++ ascii " "
+-- The start of a field's line, up to its value: the depth of its message, its tag and its kind.
+unfoldable pub lineStart : ℕ → ℕ → List ℕ → List ℕ
+lineStart depth tag kind = decimal depth ++ ascii " " ++ fourDigits tag ++ ascii " " ++ kind ++ ascii " "
 
 -- A field's line.
 unfoldable pub line : ℕ → ℕ → List ℕ → List ℕ → List ℕ
-line depth tag kind value = front depth tag kind ++ value ++ ascii "\n"
+line depth tag kind value = lineStart depth tag kind ++ value ++ ascii "\n"
 
--- How many fields a message has itself, those of nested messages not counted.
+-- The count of a message's direct fields, without those of nested messages.
 unfoldable pub direct : Tree → ℕ
 direct t = length (items t)
 
@@ -50,26 +50,26 @@ lines depth (leaf tag v rest) = line depth tag (kindName v) (valueText v) ++ lin
 lines depth (nested tag inside rest) =
     line depth tag (ascii "message") (decimal (direct inside)) ++ lines (suc depth) inside ++ lines depth rest
 
--- The heading, the lines of a message, and the last line with its count of fields at all depths and of octets.
+-- The whole text: the heading, the lines of a message, and a last line with the count of its fields at all depths and of its octets.
 unfoldable pub page : List ℕ → ℕ → ℕ → List ℕ
 page body count size =
     ascii "depth tag kind value\n" ++ body ++ ascii "fields " ++ decimal count ++ ascii " octets " ++ decimal size ++ ascii "\n"
 
--- A message of so many octets.
+-- The text of a message with a given tree and a given length in octets.
 unfoldable pub shown : Tree → ℕ → List ℕ
 shown t size = page (lines 1 t) (fields t) size
 
--- A refusal.
-unfoldable pub refusal : ℕ → ℕ → List ℕ
-refusal number place = ascii "refused " ++ decimal number ++ ascii " at " ++ decimal place ++ ascii "\n"
+-- The text of a refusal.
+unfoldable pub refusalText : ℕ → ℕ → List ℕ
+refusalText refusal place = ascii "refused " ++ decimal refusal ++ ascii " at " ++ decimal place ++ ascii "\n"
 
--- A message by what reading it comes to.
+-- The text of a message by the result of reading it.
 unfoldable pub readText : Table → List ℕ → Reading Cut → List ℕ
 readText t message (accepted cut) = shown (tree (schema t) 0 cut) (length message)
-readText t message (refused number place) = refusal number place
+readText t message (refused refusal place) = refusalText refusal place
 
--- The refusal of the check of a message with number 0, or the message.
+-- The text of a message with number 0, or of the refusal of its check.
 unfoldable pub messageText : Table → List ℕ → List ℕ
 messageText t message =
     let c = check t 0 message in
-    cond (eqb (c .refusal) 0) (readText t message (reading (schema t) 0 message)) (refusal (c .refusal) (c .place))
+    cond (eqb (c .refusal) 0) (readText t message (reading (schema t) 0 message)) (refusalText (c .refusal) (c .place))

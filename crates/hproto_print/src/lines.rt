@@ -1,5 +1,5 @@
-// The lines of a message that was checked before. Like those of text_window, each function that puts text puts a piece at `at` and answers
-// the place after it.
+// Prints the lines of a message. Internal: the caller has checked the message. As in text_window, each function prints a piece of the text
+// at the offset `at` and returns the offset after it.
 use hproto_field::Head;
 use hproto_table::Meaning;
 ghost use mathlib.Core.Path.{_≡_};
@@ -18,7 +18,7 @@ ghost use Rattle.text_window.specs.Window.{Printed};
 ghost use Rattle.hproto_print.specs.Text.{kindName, valueText, line};
 ghost use Rattle.hproto_print.specs.internal.OfTree.{depthAndTag, directOf, linesOf};
 
-// The name of a kind, that of raw for a message.
+// Prints the name of a kind. The callers pass no message; for one it would print `raw`.
 fn kind_name(out: &mut [u8], from: u64, at: u64, kind: Meaning) -> u64
     ensures { λ r. ⌜ Printed (now (out .entry)) from at (kindName (value-of kind [])) r (now (out .exit)) ⌝ }
 {
@@ -31,8 +31,8 @@ fn kind_name(out: &mut [u8], from: u64, at: u64, kind: Meaning) -> u64
     }
 }
 
-// What stands before the kind in a field's line.
-fn front(out: &mut [u8], from: u64, at: u64, depth: u64, tag: u64) -> u64
+// Prints the start of a field's line, up to the kind.
+fn depth_and_tag(out: &mut [u8], from: u64, at: u64, depth: u64, tag: u64) -> u64
     ensures { λ r. ⌜ Printed (now (out .entry)) from at (depthAndTag depth tag) r (now (out .exit)) ⌝ }
 {
     let a = text_window::decimal(out, from, at, depth);
@@ -41,6 +41,7 @@ fn front(out: &mut [u8], from: u64, at: u64, depth: u64, tag: u64) -> u64
     text_window::put(out, from, c, b' ')
 }
 
+// Prints the value of a uint.
 fn uint(out: &mut [u8], from: u64, at: u64, s: &[u8]) -> u64
     requires { ⌜ length (now s) ≤ 8 ⌝ }
     ensures { λ r. ⌜ Printed (now (out .entry)) from at (decimal (number-of (now (s .entry)))) r (now (out .exit)) ⌝ }
@@ -49,6 +50,7 @@ fn uint(out: &mut [u8], from: u64, at: u64, s: &[u8]) -> u64
     text_window::decimal(out, from, at, v)
 }
 
+// Prints the value of an int.
 fn int(out: &mut [u8], from: u64, at: u64, s: &[u8]) -> u64
     requires { ⌜ length (now s) ≤ 8 ⌝ }
     ensures { λ r. ⌜ Printed (now (out .entry)) from at (signedDecimal (integer (now (s .entry)))) r (now (out .exit)) ⌝ }
@@ -57,7 +59,7 @@ fn int(out: &mut [u8], from: u64, at: u64, s: &[u8]) -> u64
     text_window::signed(out, from, at, v)
 }
 
-// The value of a field that is no message.
+// Prints the value of a field that is not a message.
 fn value(out: &mut [u8], from: u64, at: u64, kind: Meaning, s: &[u8]) -> u64
     requires { ⌜ Contents kind (now s) ⌝ }
     ensures { λ r. ⌜ Printed (now (out .entry)) from at (valueText (value-of kind (now (s .entry)))) r (now (out .exit)) ⌝ }
@@ -69,7 +71,7 @@ fn value(out: &mut [u8], from: u64, at: u64, kind: Meaning, s: &[u8]) -> u64
     }
 }
 
-// The line of a field that is no message.
+// Prints the line of a field that is not a message.
 fn leaf_line(
     out: &mut [u8],
     from: u64,
@@ -82,14 +84,14 @@ fn leaf_line(
     requires { ⌜ Contents kind (now s) ⌝ }
     ensures { λ r. ⌜ Printed (now (out .entry)) from at (line depth tag (kindName (value-of kind (now (s .entry)))) (valueText (value-of kind (now (s .entry))))) r (now (out .exit)) ⌝ }
 {
-    let a = front(out, from, at, depth, tag);
+    let a = depth_and_tag(out, from, at, depth, tag);
     let b = kind_name(out, from, a, kind);
     let c = text_window::put(out, from, b, b' ');
     let d = value(out, from, c, kind, s);
     text_window::put(out, from, d, b'\n')
 }
 
-// How many fields a message has itself.
+// Returns the count of a message's direct fields.
 fn direct(cells: &[u32; 128], number: u64, s: &[u8]) -> u64
     requires { ⌜ Accepts (indexed (now cells)) 8 number (now s) ⌝ }
     ensures { λ r. ⌜ r ≡ directOf (indexed (now (cells .entry))) number (now (s .entry)) ⌝ }
@@ -111,7 +113,7 @@ fn direct(cells: &[u32; 128], number: u64, s: &[u8]) -> u64
     }
 }
 
-// The line of a field that holds a message of a number. The count of its fields stands in the line, before their own lines.
+// Prints the line of a field that holds a message of a number. Its value is the count of that message's direct fields.
 fn message_line(
     cells: &[u32; 128],
     number: u64,
@@ -126,14 +128,14 @@ fn message_line(
     ensures { λ r. ⌜ Printed (now (out .entry)) from at (line depth tag (ascii "message") (decimal (directOf (indexed (now (cells .entry))) number (now (s .entry))))) r (now (out .exit)) ⌝ }
 {
     let n = direct(cells, number, s);
-    let a = front(out, from, at, depth, tag);
+    let a = depth_and_tag(out, from, at, depth, tag);
     let b = text_window::octets(out, from, a, b"message ");
     let c = text_window::decimal(out, from, b, n);
     text_window::put(out, from, c, b'\n')
 }
 
-// The lines of a message of a number that may be `levels` messages deep, itself counted. A nested message's lines follow the line of
-// its field.
+// Prints the lines of a message of a number that may be `levels` messages deep, itself included. The lines of a nested message follow the
+// line of its field.
 pub(crate) fn write(
     cells: &[u32; 128],
     number: u64,

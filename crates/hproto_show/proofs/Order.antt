@@ -1,4 +1,4 @@
--- The order of the refusals, case by case.
+-- The text of the output, case by case in the order of the tests.
 use Prim.Native.Nat.{ℕ, suc, _+_, _-_, _≤_, _<_}
 use native.Mathlib.Omega.{arith}
 use mathlib.Core.Path.{_≡_, refl, sym, ap, _∙_}
@@ -7,13 +7,15 @@ use mathlib.Core.List.{List, [], _∷_}
 use lib.ListN.{length, take, drop}
 use lib.Dec.{ltb}
 use borrow.Author.Tests.{ltb-false, lt-ltb, le-ltb, eq-eqb, ne-eqb}
+use Rattle.reading.specs.Reading.{messageLimit}
+use Rattle.reading.specs.Refusals as refusals
 use Rattle.octets.specs.Control.{following, coded}
 use Rattle.hproto_table.specs.Load.{load}
 use Rattle.hproto_table.specs.declared.Table.{Table}
 use Rattle.hproto_table.specs.declared.Loaded.{Loaded}
 use Rattle.hproto_frame.specs.Frame.{frameCode, readRefused, readAccepted, announced, prefixed, frontRead, frameRead, messagePart}
 use Rattle.hproto_frame.specs.declared.FrameRead.{FrameRead}
-use Rattle.hproto_print.specs.Text.{refusal, messageText}
+use Rattle.hproto_print.specs.Text.{refusalText, messageText}
 use Rattle.hproto_show.specs.Output.{secondText, tableText, firstText, output}
 
 -- A frame that is accepted lies within the octets.
@@ -26,16 +28,16 @@ frame-inside s f e z =
     Inside : FrameRead → Type 0
     Inside r = (r .start ≤ r .end) × (r .end ≤ length s)
 
-    past : (n size left : ℕ) (b : Bool) → ltb left size ≡ b → n + left ≤ length s
+    past : (n size rest : ℕ) (b : Bool) → ltb rest size ≡ b → n + rest ≤ length s
         → cond b (readRefused 4) (readAccepted n (n + size)) .refusal ≡ 0 → Inside (cond b (readRefused 4) (readAccepted n (n + size)))
-    past n size left true t h z = absurd (omega arith)
-    past n size left false t h z = let k = ltb-false left size t in (omega arith, omega arith)
+    past n size rest true t h z = absurd (omega arith)
+    past n size rest false t h z = let k = ltb-false rest size t in (omega arith, omega arith)
 
-    large : (n size left : ℕ) (b : Bool) → n + left ≤ length s
-        → cond b (readRefused 1) (cond (ltb left size) (readRefused 4) (readAccepted n (n + size))) .refusal ≡ 0
-        → Inside (cond b (readRefused 1) (cond (ltb left size) (readRefused 4) (readAccepted n (n + size))))
-    large n size left true h z = absurd (omega arith)
-    large n size left false h z = past n size left (ltb left size) refl h z
+    large : (n size rest : ℕ) (b : Bool) → n + rest ≤ length s
+        → cond b (readRefused 1) (cond (ltb rest size) (readRefused 4) (readAccepted n (n + size))) .refusal ≡ 0
+        → Inside (cond b (readRefused 1) (cond (ltb rest size) (readRefused 4) (readAccepted n (n + size))))
+    large n size rest true h z = absurd (omega arith)
+    large n size rest false h z = past n size rest (ltb rest size) refl h z
 
     cut : (x : ℕ) (r : List ℕ) (b : Bool) → ltb (length r) (following frameCode x) ≡ b → suc (length r) ≡ length s
         → cond b (readRefused 3) (announced (1 + following frameCode x) (coded frameCode x (take (following frameCode x) r)) (length r - following frameCode x)) .refusal ≡ 0
@@ -44,7 +46,7 @@ frame-inside s f e z =
     cut x r false t h z =
         let k = ltb-false (length r) (following frameCode x) t in
         large (1 + following frameCode x) (coded frameCode x (take (following frameCode x) r)) (length r - following frameCode x)
-        (ltb 65536 (coded frameCode x (take (following frameCode x) r))) (omega arith) z
+        (ltb messageLimit (coded frameCode x (take (following frameCode x) r))) (omega arith) z
 
     empty : (r : List ℕ) → length r ≡ length s → frontRead r .refusal ≡ 0 → Inside (frontRead r)
     empty [] h z = absurd (omega arith)
@@ -56,11 +58,11 @@ frame-inside s f e z =
 
 -- The second frame.
 module _ (t : Table) (s : List ℕ) (f : FrameRead) (e : f ≡ frameRead s) where
-  pub second-refused : (f .refusal ≡ 0 → ⊥) → refusal (f .refusal) (f .place) ≡ secondText t s (frameRead s)
+  pub second-refused : (f .refusal ≡ 0 → ⊥) → refusalText (f .refusal) (f .place) ≡ secondText t s (frameRead s)
   unfolding secondText
   second-refused ne = rw (← e, ne-eqb (f .refusal) 0 ne)
 
-  pub second-followed : f .refusal ≡ 0 → (f .end ≡ length s → ⊥) → refusal 14 0 ≡ secondText t s (frameRead s)
+  pub second-followed : f .refusal ≡ 0 → (f .end ≡ length s → ⊥) → refusalText refusals.size 0 ≡ secondText t s (frameRead s)
   unfolding secondText
   second-followed z ne = rw (← e, eq-eqb (f .refusal) 0 z, ne-eqb (f .end) (length s) ne)
 
@@ -71,12 +73,12 @@ module _ (t : Table) (s : List ℕ) (f : FrameRead) (e : f ≡ frameRead s) wher
 
 -- The first frame.
 module _ (s : List ℕ) (f : FrameRead) (e : f ≡ frameRead s) where
-  pub first-refused : (f .refusal ≡ 0 → ⊥) → refusal (f .refusal) (f .place) ≡ firstText s (frameRead s)
+  pub first-refused : (f .refusal ≡ 0 → ⊥) → refusalText (f .refusal) (f .place) ≡ firstText s (frameRead s)
   unfolding firstText
   first-refused ne = rw (← e, ne-eqb (f .refusal) 0 ne)
 
   module _ (z : f .refusal ≡ 0) (l : Loaded) (g : l ≡ load (take (f .end - f .start) (drop (f .start) s))) where
-    pub table-refused : (l .refusal ≡ 0 → ⊥) → refusal (l .refusal) (l .place) ≡ firstText s (frameRead s)
+    pub table-refused : (l .refusal ≡ 0 → ⊥) → refusalText (l .refusal) (l .place) ≡ firstText s (frameRead s)
     unfolding firstText tableText messagePart
     table-refused ne = rw (← e, eq-eqb (f .refusal) 0 z, ← g, ne-eqb (l .refusal) 0 ne)
 
@@ -85,10 +87,10 @@ module _ (s : List ℕ) (f : FrameRead) (e : f ≡ frameRead s) where
     table-loaded y = rw (← e, eq-eqb (f .refusal) 0 z, ← g, eq-eqb (l .refusal) 0 y)
 
 -- The whole input.
-pub too-long : (s : List ℕ) → 65536 < length s → refusal 1 0 ≡ output s
+pub too-long : (s : List ℕ) → messageLimit < length s → refusalText refusals.tooLong 0 ≡ output s
 unfolding output
-too-long s h = rw (lt-ltb 65536 (length s) h)
+too-long s h = rw (lt-ltb messageLimit (length s) h)
 
-pub not-too-long : (s : List ℕ) → length s ≤ 65536 → firstText s (frameRead s) ≡ output s
+pub not-too-long : (s : List ℕ) → length s ≤ messageLimit → firstText s (frameRead s) ≡ output s
 unfolding output
-not-too-long s h = rw (le-ltb 65536 (length s) h)
+not-too-long s h = rw (le-ltb messageLimit (length s) h)

@@ -41,8 +41,8 @@ pub samples-hold :
     × (output (0x00 ∷ 0x01 ∷ 0xc3 ∷ 0x00 ∷ []) ≡ ascii "refused 14 at 0\n")
     × (output (0x00 ∷ 0x02 ∷ 0xc3 ∷ []) ≡ ascii "refused 4 at 0\n")
     × (output (0x00 ∷ 0x02 ∷ 0xc0 ∷ 0xf1 ∷ []) ≡ ascii "refused 3 at 1\n")
-unfolding input output shows.firstText shows.tableText shows.secondText prints.messageText prints.readText prints.refusal prints.shown prints.page prints.lines prints.direct items
-    prints.line prints.front prints.valueText prints.kindName digits.glyph digits.decimalWithin digits.decimal digits.signedDecimal digits.fourDigits digits.hex
+unfolding input output shows.firstText shows.tableText shows.secondText prints.messageText prints.readText prints.refusalText prints.shown prints.page prints.lines prints.direct items
+    prints.line prints.lineStart prints.valueText prints.kindName digits.glyph digits.decimalWithin digits.decimal digits.signedDecimal digits.fourDigits digits.hex
     digits.hexOrDash ascii frames.frameRead frames.frontRead frames.prefixed frames.announced frames.messagePart
     checks.check checks.checkUnder checks.treeCounts answers.counts answers.refusal readings.reading readings.messageFrom readings.fieldsFrom readings.afterStep onAccepted inOrder
     readings.step readings.stepFrom readings.stepByKind trees.tree readings.tagAt readings.tagOf entries.innerOf trees.value trees.fields trees.depth

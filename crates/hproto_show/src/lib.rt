@@ -1,6 +1,5 @@
-// What the program show prints for the octets that it reads: the message in the second frame under the table in the first, or the first
-// refusal. Each function puts the part of its text that starts at `from` into `out`, as much of it as there is room for, and answers the
-// length of the whole text.
+// The output of the program show: the message in the second frame of its input under the table in the first frame, or the first refusal.
+// Each function copies its text from the offset `from` on into `out`, as much of it as fits, and returns the length of the whole text.
 use hproto_table::Table;
 ghost use mathlib.Core.Path.{_≡_};
 ghost use lib.ListN.{length};
@@ -8,7 +7,7 @@ ghost use Rattle.hproto_frame.specs.Frame.{frameRead};
 ghost use Rattle.text_window.specs.Window.{window};
 ghost use Rattle.hproto_show.specs.Output.{secondText, firstText, output};
 
-// The second frame, which has to end where the octets do.
+// Prints the message in the second frame. The frame must end where the octets do.
 fn second(t: Table, s: &[u8], from: u64, out: &mut [u8]) -> u64
     ensures { λ r. ⌜ r ≡ length (secondText t (now (s .entry)) (frameRead (now (s .entry)))) ⌝ }
     ensures { λ _. ⌜ now (out .exit) ≡ window (now (out .entry)) from (secondText t (now (s .entry)) (frameRead (now (s .entry)))) ⌝ }
@@ -20,12 +19,12 @@ fn second(t: Table, s: &[u8], from: u64, out: &mut [u8]) -> u64
     let start = f.start as usize;
     let end = f.end as usize;
     if end != s.len() {
-        return hproto_print::refusal(14, 0, from, out);
+        return hproto_print::refusal(reading::SIZE, 0, from, out);
     }
     hproto_print::message(t, &s[start..end], from, out)
 }
 
-// The first frame, and the table in it.
+// Loads the table in the first frame and prints the rest.
 fn first(s: &[u8], from: u64, out: &mut [u8]) -> u64
     ensures { λ r. ⌜ r ≡ length (firstText (now (s .entry)) (frameRead (now (s .entry)))) ⌝ }
     ensures { λ _. ⌜ now (out .exit) ≡ window (now (out .entry)) from (firstText (now (s .entry)) (frameRead (now (s .entry)))) ⌝ }
@@ -44,13 +43,13 @@ fn first(s: &[u8], from: u64, out: &mut [u8]) -> u64
     second(table, &s[end..], from, out)
 }
 
-// The text for the whole input.
+// Prints the text for the whole input.
 pub fn show(input: &[u8], from: u64, out: &mut [u8]) -> u64
     ensures { λ r. ⌜ r ≡ length (output (now (input .entry))) ⌝ }
     ensures { λ _. ⌜ now (out .exit) ≡ window (now (out .entry)) from (output (now (input .entry))) ⌝ }
 {
-    if 65536 < input.len() {
-        return hproto_print::refusal(1, 0, from, out);
+    if reading::MESSAGE_LIMIT < input.len() {
+        return hproto_print::refusal(reading::TOO_LONG, 0, from, out);
     }
     first(input, from, out)
 }

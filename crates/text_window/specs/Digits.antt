@@ -1,4 +1,4 @@
--- Numbers and octets as text, in ASCII codes.
+-- The text of numbers and octets, as ASCII codes.
 use Prim.Native.Nat.{ℕ, zero, suc, _+_, _/_, _%_}
 use mathlib.Core.Bool.{cond}
 use mathlib.Core.List.{List, [], _∷_, _++_}
@@ -9,7 +9,7 @@ use lib.IntN.{ℤ, pos, negsuc}
 unfoldable pub glyph : ℕ → ℕ
 glyph d = cond (ltb d 10) (0x30 + d) (0x57 + d)
 
--- The decimal digits of a number, the most significant first, where `most` digits are enough for it.
+-- The decimal digits of a number that has at most `most` digits, the most significant first.
 unfoldable pub decimalWithin : ℕ → ℕ → List ℕ
 decimalWithin zero n = []
 decimalWithin (suc most) n = cond (ltb n 10) (glyph n ∷ []) (decimalWithin most (n / 10) ++ (glyph (n % 10) ∷ []))
@@ -18,7 +18,7 @@ decimalWithin (suc most) n = cond (ltb n 10) (glyph n ∷ []) (decimalWithin mos
 unfoldable pub decimal : ℕ → List ℕ
 decimal n = decimalWithin 20 n
 
--- A signed number: below zero a `-` and the magnitude.
+-- A signed number: a negative one has a `-` before its magnitude.
 unfoldable pub signedDecimal : ℤ → List ℕ
 signedDecimal (pos n) = decimal n
 signedDecimal (negsuc k) = 0x2d ∷ decimal (suc k)
@@ -32,7 +32,7 @@ unfoldable pub hex : List ℕ → List ℕ
 hex [] = []
 hex (x ∷ s) = glyph (x / 16) ∷ glyph (x % 16) ∷ hex s
 
--- Octets in hex, `-` where there are none.
+-- Octets in hex, or `-` if there are none.
 unfoldable pub hexOrDash : List ℕ → List ℕ
 hexOrDash [] = 0x2d ∷ []
 hexOrDash (x ∷ s) = hex (x ∷ s)

@@ -1,6 +1,6 @@
-// Text put piece by piece into a window: a lent buffer that takes up the part of a longer text that starts at `from`. Each function puts
-// a piece that stands at `at` in the text and answers the place after it. It answers for every `at`: an octet whose place is 2^64 - 1 or
-// more is neither stored nor counted, so the place after a piece is never above 2^64 - 1.
+// Prints text piece by piece into a window: the caller's buffer, which receives the octets of a longer text from the offset `from` on. Each
+// function prints a piece at the offset `at` of the text and returns the offset after it. Every `at` is allowed: an octet at the offset
+// 2^64 - 1 or above is neither stored nor counted, so the returned offset fits 64 bits.
 ghost use mathlib.Core.Path.{_≡_};
 ghost use mathlib.Core.List.{[], _∷_};
 ghost use Prim.Native.Nat.{_<_, _^_};
@@ -8,7 +8,7 @@ ghost use lib.IntN.{negsuc};
 ghost use Rattle.text_window.specs.Digits.{glyph, decimalWithin, decimal as decimal-of, signedDecimal, fourDigits, hex as hex-of, hexOrDash};
 ghost use Rattle.text_window.specs.Window.{Printed};
 
-// One octet. Those before the window and those beyond it are counted and not stored.
+// Prints one octet. An octet before or after the window is counted but not stored.
 pub fn put(out: &mut [u8], from: u64, at: u64, x: u8) -> u64
     ensures { λ r. ⌜ Printed (now (out .entry)) from at (x ∷ []) r (now (out .exit)) ⌝ }
 {
@@ -26,7 +26,7 @@ pub fn put(out: &mut [u8], from: u64, at: u64, x: u8) -> u64
     at + 1
 }
 
-// Octets as they are.
+// Prints octets unchanged.
 pub fn octets(out: &mut [u8], from: u64, at: u64, s: &[u8]) -> u64
     ensures { λ r. ⌜ Printed (now (out .entry)) from at (now (s .entry)) r (now (out .exit)) ⌝ }
 {
@@ -39,7 +39,7 @@ pub fn octets(out: &mut [u8], from: u64, at: u64, s: &[u8]) -> u64
     end
 }
 
-// The ASCII code of a digit below 16.
+// Returns the ASCII code of a digit below 16.
 fn digit(d: u64) -> u8
     requires { ⌜ d < 16 ⌝ }
     ensures { λ r. ⌜ r ≡ glyph d ⌝ }
@@ -47,7 +47,7 @@ fn digit(d: u64) -> u8
     if d < 10 { 48 + d as u8 } else { 87 + d as u8 }
 }
 
-// The two hex digits of an octet.
+// Prints the two hex digits of an octet.
 fn octet(out: &mut [u8], from: u64, at: u64, x: u8) -> u64
     ensures { λ r. ⌜ Printed (now (out .entry)) from at (hex-of (x ∷ [])) r (now (out .exit)) ⌝ }
 {
@@ -55,7 +55,7 @@ fn octet(out: &mut [u8], from: u64, at: u64, x: u8) -> u64
     put(out, from, high, digit((x % 16) as u64))
 }
 
-// Octets in hex.
+// Prints octets in hex.
 pub fn hex(out: &mut [u8], from: u64, at: u64, s: &[u8]) -> u64
     ensures { λ r. ⌜ Printed (now (out .entry)) from at (hex-of (now (s .entry))) r (now (out .exit)) ⌝ }
 {
@@ -68,7 +68,7 @@ pub fn hex(out: &mut [u8], from: u64, at: u64, s: &[u8]) -> u64
     end
 }
 
-// Octets in hex, `-` where there are none.
+// Prints octets in hex, or `-` if there are none.
 pub fn hex_or_dash(out: &mut [u8], from: u64, at: u64, s: &[u8]) -> u64
     ensures { λ r. ⌜ Printed (now (out .entry)) from at (hexOrDash (now (s .entry))) r (now (out .exit)) ⌝ }
 {
@@ -78,7 +78,7 @@ pub fn hex_or_dash(out: &mut [u8], from: u64, at: u64, s: &[u8]) -> u64
     hex(out, from, at, s)
 }
 
-// The low 16 bits of a number as four hex digits.
+// Prints the low 16 bits of a number as four hex digits.
 pub fn four_digits(out: &mut [u8], from: u64, at: u64, n: u64) -> u64
     ensures { λ r. ⌜ Printed (now (out .entry)) from at (fourDigits n) r (now (out .exit)) ⌝ }
 {
@@ -86,7 +86,7 @@ pub fn four_digits(out: &mut [u8], from: u64, at: u64, n: u64) -> u64
     octet(out, from, high, (n % 256) as u8)
 }
 
-// The decimal digits of a number for which `most` digits are enough. What stands before the last digit is put first.
+// Prints the decimal digits of a number that has at most `most` digits: first all but the last one, then the last one.
 fn digits(out: &mut [u8], from: u64, at: u64, most: u64, n: u64) -> u64
     ensures { λ r. ⌜ Printed (now (out .entry)) from at (decimalWithin most n) r (now (out .exit)) ⌝ }
 {
@@ -100,14 +100,14 @@ fn digits(out: &mut [u8], from: u64, at: u64, most: u64, n: u64) -> u64
     put(out, from, end, digit(n % 10))
 }
 
-// A number in decimal.
+// Prints a number in decimal.
 pub fn decimal(out: &mut [u8], from: u64, at: u64, n: u64) -> u64
     ensures { λ r. ⌜ Printed (now (out .entry)) from at (decimal-of n) r (now (out .exit)) ⌝ }
 {
     digits(out, from, at, 20, n)
 }
 
-// A number below zero, by one less than its magnitude.
+// Prints the negative number -(k + 1) in decimal.
 fn minus(out: &mut [u8], from: u64, at: u64, k: u64) -> u64
     requires { ⌜ k < 2 ^ 63 ⌝ }
     ensures { λ r. ⌜ Printed (now (out .entry)) from at (signedDecimal (negsuc k)) r (now (out .exit)) ⌝ }
@@ -116,7 +116,7 @@ fn minus(out: &mut [u8], from: u64, at: u64, k: u64) -> u64
     decimal(out, from, a, k + 1)
 }
 
-// A signed number in decimal.
+// Prints a signed number in decimal.
 pub fn signed(out: &mut [u8], from: u64, at: u64, z: i64) -> u64
     ensures { λ r. ⌜ Printed (now (out .entry)) from at (signedDecimal z) r (now (out .exit)) ⌝ }
 {

@@ -72,8 +72,8 @@ unfolding kinds.always kinds.below kinds.array kinds.octets kinds.word kinds.wor
     shortestOf shortens.refusal shortens.shortUnder shortens.shortForm shortens.roomy shortens.answerTo shortens.bufferTo shortens.answer
     shortens.buffer withTable checkOctets lookupOctets lookupLastOctets shortenOctets shortenBuffer stored frames.announced frames.prefixed
     frames.frontRead frames.frameRead frames.messagePart frames.shortestPrefix frames.framed frames.frameWritten frames.frameStored ascii
-    digits.glyph digits.decimalWithin digits.decimal digits.fourDigits prints.kindName prints.valueText prints.front prints.line prints.lines
-    prints.page prints.shown prints.refusal prints.readText prints.messageText window shows.secondText shows.tableText shows.firstText shows.output
+    digits.glyph digits.decimalWithin digits.decimal digits.fourDigits prints.kindName prints.valueText prints.lineStart prints.line prints.lines
+    prints.page prints.shown prints.refusalText prints.readText prints.messageText window shows.secondText shows.tableText shows.firstText shows.output
 hproto = Unit {0}
 
 unfoldable pub writer : Type 0

@@ -8,7 +8,7 @@ use Rattle.text_window.proofs.Windows.{same-window, whole-printed}
 use Rattle.hproto_print.specs.Text.{page}
 use Rattle.hproto_print.specs.internal.OfTree.{linesOf}
 use Rattle.hproto_print.proofs.Lengths.{page-fits}
-use Rattle.hproto_print.proofs.Messages.{message-refused, message-valid, message-accepts, message-shown}
+use Rattle.hproto_print.proofs.MessageText.{message-refused, message-valid, message-accepts, message-shown}
 use Rattle.hproto_print.proofs.message.Statement.{statement}
 use Rattle.hproto_print.proofs.message.Tie as tie
 

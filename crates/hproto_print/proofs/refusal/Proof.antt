@@ -1,7 +1,7 @@
 -- `hproto_print::refusal` meets its contract.
 use borrow.Author.Needs.{needs}
 use Rattle.text_window.specs.Ascii.{ascii}
-use Rattle.hproto_print.specs.Text.{refusal}
+use Rattle.hproto_print.specs.Text.{refusalText}
 use Rattle.text_window.proofs.Windows.{then, whole-printed}
 use Rattle.hproto_print.proofs.Lengths.{refusal-fits}
 use Rattle.hproto_print.proofs.refusal.Statement.{statement}
@@ -32,10 +32,10 @@ same-length : tie.Need-same-length
 same-length c = search needs
 
 returns : tie.Need-returns
-unfolding refusal ascii
+unfolding refusalText ascii
 returns c =
     let a = c .before .before .before .before .before .before .before .before .before .before .before .before .before .before .before .before .before .before .before .before .before .before .before .args in
-    whole-printed (refusal (a .number) (a .place)) (refusal-fits (a .number) (a .place)) (then (then (then (then (c .before .before .before .before .before .before .before .before .before .before .before .before .before .before .before .before .before .before .before .octets .ensures) (c .before .before .before .before .before .before .before .before .before .before .before .before .before .before .before .decimal .ensures)) (c .before .before .before .before .before .before .before .before .before .before .octets2 .ensures)) (c .before .before .before .before .before .before .decimal2 .ensures)) (c .before .before .put .ensures))
+    whole-printed (refusalText (a .refusal) (a .place)) (refusal-fits (a .refusal) (a .place)) (then (then (then (then (c .before .before .before .before .before .before .before .before .before .before .before .before .before .before .before .before .before .before .before .octets .ensures) (c .before .before .before .before .before .before .before .before .before .before .before .before .before .before .before .decimal .ensures)) (c .before .before .before .before .before .before .before .before .before .before .octets2 .ensures)) (c .before .before .before .before .before .before .decimal2 .ensures)) (c .before .before .put .ensures))
 
 pub refusal-spec : {M : Type 1} → statement M
 refusal-spec =

@@ -14,7 +14,7 @@ use Rattle.hproto_field.specs.internal.Heads.{headAt}
 use Rattle.hproto_field.specs.declared.Head.the-variants.{Field}
 use Rattle.hproto_field.proofs.Heads.{fieldless}
 use Rattle.hproto_field.proofs.Passing.{Ends}
-use Rattle.hproto_print.proofs.Writing.{plain-kind, Progress, begun, ended, same-length, next-ends, leaf-contents, leaf-written, nested-accepts, nested-written}
+use Rattle.hproto_print.proofs.WriteLoop.{plain-kind, Progress, begun, ended, same-length, next-ends, leaf-contents, leaf-written, nested-accepts, nested-written}
 use borrow.Fn.Kinds.{In}
 use borrow.Fn.PlainCycle.{Measures, is, falls, and}
 use Rattle.hproto_print.proofs.lines.write.Reads as write

@@ -12,7 +12,7 @@ use Rattle.hproto_field.specs.internal.Heads.{headAt}
 use Rattle.hproto_field.specs.declared.Head.the-variants.{Field}
 use Rattle.hproto_field.proofs.Heads.{fieldless}
 use Rattle.hproto_field.proofs.Passing.{Ends}
-use Rattle.hproto_print.proofs.Counting.{Counted, none-counted, all-counted, count-ends, counted-turn}
+use Rattle.hproto_print.proofs.CountLoop.{Counted, none-counted, all-counted, count-ends, counted-more}
 use Rattle.hproto_print.proofs.lines.direct.Statement.{statement}
 use Rattle.hproto_print.proofs.lines.direct.Tie as tie
 
@@ -74,7 +74,7 @@ loop-less c = let h = at-end c in omega arith
 loop-again : tie.Need-loop-again Inv-loop μ-loop
 loop-again c =
     let l = c .before .before .before .before .loop in
-    counted-turn (sc (b c)) (b c .args .number) (now (b c .args .s)) (i c) (l .n) (l .inv) (tag c) (start c) (stop c) (found c)
+    counted-more (sc (b c)) (b c .args .number) (now (b c .args .s)) (i c) (l .n) (l .inv) (tag c) (start c) (stop c) (found c)
 
 returns : tie.Need-returns Inv-loop μ-loop
 returns c =

@@ -3,15 +3,15 @@ use borrow.Author.Needs.{needs}
 use denote.Ref.{now}
 use Rattle.hproto_message.specs.Tree.{value}
 use Rattle.text_window.specs.Ascii.{ascii}
-use Rattle.hproto_print.specs.Text.{kindName, front, line}
+use Rattle.hproto_print.specs.Text.{kindName, lineStart, line}
 use Rattle.hproto_print.specs.internal.OfTree.{depthAndTag}
 use Rattle.hproto_print.proofs.Values.{name-is}
 use Rattle.text_window.proofs.Windows.{then, same-place}
 use Rattle.hproto_print.proofs.lines.leaf_line.Statement.{statement}
 use Rattle.hproto_print.proofs.lines.leaf_line.Tie as tie
 
-front-requires : tie.Need-front-requires
-front-requires c κs = search needs
+depth-and-tag-requires : tie.Need-depth-and-tag-requires
+depth-and-tag-requires c κs = search needs
 
 kind-name-requires : tie.Need-kind-name-requires
 kind-name-requires c κs = search needs
@@ -29,17 +29,17 @@ same-length : tie.Need-same-length
 same-length c = search needs
 
 returns : tie.Need-returns
-unfolding line front depthAndTag ascii
+unfolding line lineStart depthAndTag ascii
 returns c =
     let a = c .before .before .before .before .before .before .before .before .before .before .before .before .before .before .before .before .before .before .before .before .before .before .args in
     let name = same-place (kindName (value (a .kind) (now (a .s)))) (name-is (a .kind) (now (a .s))) (c .before .before .before .before .before .before .before .before .before .before .before .before .before .before .kind-name .ensures) in
-    then (then (then (then (c .before .before .before .before .before .before .before .before .before .before .before .before .before .before .before .before .before .before .front .ensures) name) (c .before .before .before .before .before .before .before .before .before .before .put .ensures)) (c .before .before .before .before .before .before .value .ensures)) (c .before .before .put2 .ensures)
+    then (then (then (then (c .before .before .before .before .before .before .before .before .before .before .before .before .before .before .before .before .before .before .depth-and-tag .ensures) name) (c .before .before .before .before .before .before .before .before .before .before .put .ensures)) (c .before .before .before .before .before .before .value .ensures)) (c .before .before .put2 .ensures)
 
 pub leaf-line-spec : {M : Type 1} → statement M
 leaf-line-spec =
     tie.close
     (tie.spec
-    front-requires
+    depth-and-tag-requires
     kind-name-requires
     put-requires
     value-requires

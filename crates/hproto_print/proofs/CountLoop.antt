@@ -1,4 +1,4 @@
--- Counting the fields of an accepted message by passing over them.
+-- The loop invariant of counting the fields of an accepted message.
 use Prim.Native.Nat.{ℕ, suc, _+_, _-_, _≤_, _<_}
 use native.Mathlib.Omega.{arith}
 use mathlib.Core.Path.{_≡_, refl, sym, ap, _∙_}
@@ -22,7 +22,7 @@ use Rattle.hproto_print.specs.Text.{direct}
 use Rattle.hproto_print.specs.internal.OfTree.{ofTree, directOf}
 use Rattle.hproto_field.proofs.Passing.{Left, all-left, none-left, Ends, ends, leaf-next, nested-next}
 
--- What is made of an accepted message is made of the tree of its cut.
+-- A function of the tree of an accepted message is the function of the tree of its cut.
 pub tree-is : {A : Type 0} (f : Tree → A) (other : A) (sc : Schema) (levels n : ℕ) (s : List ℕ) (cut : Cut) → Good sc levels n s cut
     → ofTree f other sc n (messageFrom sc levels n 0 0 s) ≡ f (tree sc n cut)
 unfolding ofTree
@@ -33,7 +33,7 @@ unfolding directOf
 direct-is sc n s cut g = tree-is direct 0 sc 8 n s cut g
 
 module _ (sc : Schema) (n : ℕ) (s : List ℕ) where
-  -- After i octets, k fields are counted.
+  -- The loop invariant: after i octets, k fields are counted.
   pub record Counted (i k : ℕ) : Type 0 where
     pub left : Left sc 7 n s i
     pub few : k ≤ i
@@ -60,9 +60,9 @@ module _ (sc : Schema) (n : ℕ) (s : List ℕ) where
         let w = p .whole in
         record { left = left; few = omega arith; whole = w ∙ rw e (omega arith) }
 
-    pub counted-turn : Counted stop (k + 1)
+    pub counted-more : Counted stop (k + 1)
     unfolding direct items Plain
-    counted-turn = go (sc .means n tag) refl
+    counted-more = go (sc .means n tag) refl
       where
         leaf : (kind : Meaning) → kind ≡ sc .means n tag → Plain kind → Counted stop (k + 1)
         leaf kind e q = let x = leaf-next sc 7 n s i (p .left) tag start stop found kind e q in one-more (x .left) (ap direct (x .tree-is))

@@ -1,10 +1,10 @@
--- `hproto_print::lines::front` meets its contract.
+-- `hproto_print::lines::depth_and_tag` meets its contract.
 use borrow.Author.Needs.{needs}
 use Rattle.text_window.specs.Ascii.{ascii}
 use Rattle.hproto_print.specs.internal.OfTree.{depthAndTag}
 use Rattle.text_window.proofs.Windows.{then}
-use Rattle.hproto_print.proofs.lines.front.Statement.{statement}
-use Rattle.hproto_print.proofs.lines.front.Tie as tie
+use Rattle.hproto_print.proofs.lines.depth_and_tag.Statement.{statement}
+use Rattle.hproto_print.proofs.lines.depth_and_tag.Tie as tie
 
 decimal-requires : tie.Need-decimal-requires
 decimal-requires c κs = search needs
@@ -25,8 +25,8 @@ returns : tie.Need-returns
 unfolding depthAndTag ascii
 returns c = then (then (then (c .before .before .before .before .before .before .before .before .before .before .before .before .before .before .decimal .ensures) (c .before .before .before .before .before .before .before .before .before .before .put .ensures)) (c .before .before .before .before .before .before .four-digits .ensures)) (c .before .before .put2 .ensures)
 
-pub front-spec : {M : Type 1} → statement M
-front-spec =
+pub depth-and-tag-spec : {M : Type 1} → statement M
+depth-and-tag-spec =
     tie.close
     (tie.spec
     decimal-requires

@@ -1,4 +1,4 @@
--- Writing the lines of an accepted message by passing over its fields.
+-- The loop invariant of writing the lines of an accepted message.
 use Prim.Native.Nat.{ℕ, suc, _+_, _-_, _≤_, _<_}
 use native.Mathlib.Omega.{arith}
 use mathlib.Core.Path.{_≡_, sym, ap, _∙_, subst}
@@ -27,7 +27,7 @@ use Rattle.hproto_print.specs.Text.{kindName, valueText, line, lines}
 use Rattle.hproto_print.specs.internal.OfTree.{linesOf, directOf}
 use Rattle.text_window.proofs.Windows.{then, printed-nothing, printed-length, same-place}
 use Rattle.hproto_field.proofs.Passing.{Left, all-left, none-left, part, Ends, ends, leaf-next, nested-next, good-deeper}
-use Rattle.hproto_print.proofs.Counting.{tree-is, direct-is}
+use Rattle.hproto_print.proofs.CountLoop.{tree-is, direct-is}
 
 message-not : OneOf (0 ∷ 1 ∷ 2 ∷ 3 ∷ 4 ∷ []) 5 → ⊥
 message-not (inl e) = omega arith
@@ -57,7 +57,7 @@ module _ (sc : Schema) (levels n : ℕ) (s before : List ℕ) (from at : ℕ) wh
   abbrev depth : ℕ
   depth = 9 - levels
 
-  -- After i octets the lines of the fields passed are put.
+  -- The loop invariant: after i octets the lines of the fields before are printed.
   pub record Progress (i end : ℕ) (out : List ℕ) : Type 0 where
     pub left : Left sc (levels - 1) n s i
     pub written : List ℕ
