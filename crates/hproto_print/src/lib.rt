@@ -5,6 +5,7 @@ mod lines;
 use hproto_table::Table;
 ghost use mathlib.Core.Path.{_≡_};
 ghost use lib.ListN.{length};
+ghost use Rattle.reading.specs.Reading.{depthLimit};
 ghost use Rattle.table_index.specs.internal.Cells.{indexed};
 ghost use Rattle.text_window.specs.Window.{window, Printed};
 ghost use Rattle.hproto_print.specs.Text.{page as page-of, refusalText, messageText};
@@ -13,8 +14,8 @@ ghost use Rattle.hproto_print.specs.internal.OfTree.{linesOf};
 
 // Prints a message with number 0. Internal: the caller has checked the message and passes its count of fields.
 fn page(cells: &[u32; 128], fields: u64, s: &[u8], from: u64, out: &mut [u8]) -> u64
-    requires { ⌜ Accepts (indexed (now cells)) 8 0 (now s) ⌝ }
-    ensures { λ r. ⌜ Printed (now (out .entry)) from 0 (page-of (linesOf (indexed (now (cells .entry))) 8 0 (now (s .entry))) fields (length (now (s .entry)))) r (now (out .exit)) ⌝ }
+    requires { ⌜ Accepts (indexed (now cells)) depthLimit 0 (now s) ⌝ }
+    ensures { λ r. ⌜ Printed (now (out .entry)) from 0 (page-of (linesOf (indexed (now (cells .entry))) depthLimit 0 (now (s .entry))) fields (length (now (s .entry)))) r (now (out .exit)) ⌝ }
 {
     let a = text_window::octets(out, from, 0, b"depth tag kind value\n");
     let b = lines::write(cells, 0, reading::DEPTH_LIMIT, s, out, from, a);

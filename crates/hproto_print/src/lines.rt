@@ -8,6 +8,7 @@ ghost use Prim.Native.Nat.{_≤_};
 ghost use lib.ListN.{length};
 ghost use Rattle.octets.specs.Number.{number as number-of};
 ghost use Rattle.octets.specs.Signed.{integer};
+ghost use Rattle.reading.specs.Reading.{depthLimit};
 ghost use Rattle.table_index.specs.internal.Cells.{indexed};
 ghost use Rattle.hproto_message.specs.Cut.{Contents};
 ghost use Rattle.hproto_message.specs.internal.Accepts.{Accepts};
@@ -93,7 +94,7 @@ fn leaf_line(
 
 // Returns the count of a message's direct fields.
 fn direct(cells: &[u32; 128], number: u64, s: &[u8]) -> u64
-    requires { ⌜ Accepts (indexed (now cells)) 8 number (now s) ⌝ }
+    requires { ⌜ Accepts (indexed (now cells)) depthLimit number (now s) ⌝ }
     ensures { λ r. ⌜ r ≡ directOf (indexed (now (cells .entry))) number (now (s .entry)) ⌝ }
 {
     let mut i: usize = 0;
@@ -124,7 +125,7 @@ fn message_line(
     depth: u64,
     tag: u64,
 ) -> u64
-    requires { ⌜ Accepts (indexed (now cells)) 8 number (now s) ⌝ }
+    requires { ⌜ Accepts (indexed (now cells)) depthLimit number (now s) ⌝ }
     ensures { λ r. ⌜ Printed (now (out .entry)) from at (line depth tag (ascii "message") (decimal (directOf (indexed (now (cells .entry))) number (now (s .entry))))) r (now (out .exit)) ⌝ }
 {
     let n = direct(cells, number, s);
@@ -145,7 +146,7 @@ pub(crate) fn write(
     from: u64,
     at: u64,
 ) -> u64
-    requires { ⌜ levels ≤ 8 ⌝ }
+    requires { ⌜ levels ≤ depthLimit ⌝ }
     requires { ⌜ Accepts (indexed (now cells)) levels number (now s) ⌝ }
     ensures { λ r. ⌜ Printed (now (out .entry)) from at (linesOf (indexed (now (cells .entry))) levels number (now (s .entry))) r (now (out .exit)) ⌝ }
 {

@@ -1,4 +1,4 @@
--- What the decimal digits of a number stand for.
+-- The decimal digits of a number have its value.
 use Prim.Native.Nat.{ℕ, zero, suc, _+_, _*_, _-_, _/_, _%_, _^_, _<_}
 use native.Mathlib.Nat.{pow-suc}
 use native.Mathlib.Omega.{arith}
@@ -21,7 +21,7 @@ digit-is : (d : ℕ) → d < 10 → glyph d ≡ 0x30 + d
 unfolding glyph
 digit-is d h = rw (lt-ltb d 10 h)
 
--- Where there are enough digits for a number, they stand for it.
+-- If `most` digits are enough for a number, its digits have its value.
 within-read : (most n : ℕ) → n < 10 ^ most → readAfter 0 (decimalWithin most n) ≡ n
 unfolding readAfter decimalWithin
 within-read zero n h = omega arith

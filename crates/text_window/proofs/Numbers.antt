@@ -1,4 +1,4 @@
--- Laws of numbers as text.
+-- Laws of the text of numbers.
 use Prim.Native.Nat.{ℕ, zero, suc, _+_, _-_, _/_, _%_, _≤_, _<_}
 use native.Mathlib.Numerals.{add-one}
 use native.Mathlib.Omega.{arith}
@@ -27,7 +27,7 @@ unfolding decimalWithin
 within-more zero n h k = absurd (omega arith)
 within-more (suc most) n h k = let e : suc most - 1 ≡ most = omega arith in rw (le-ltb n 10 k, e)
 
--- A number has no more digits than are allowed for it.
+-- `decimalWithin most` gives at most `most` digits.
 pub within-length : (most n : ℕ) → length (decimalWithin most n) ≤ most
 unfolding decimalWithin
 within-length zero n = omega arith
@@ -58,7 +58,7 @@ module _ (d : List ℕ) (from at most n : ℕ) where
       → (x r : ℕ) (f : List ℕ) → x ≡ glyph (n % 10) → Printed e from m (x ∷ []) r f → Printed d from at (decimalWithin most n) r f
   last-digit h k m e p x r f q s = same-place (decimalWithin most n) (within-more most n h k) (then p (one-is q s))
 
--- A number below zero.
+-- A negative number.
 pub below-zero : {d e f : List ℕ} {from at m r : ℕ} (k : ℕ) → Printed d from at (0x2d ∷ []) m e → Printed e from m (decimal (k + 1)) r f
     → Printed d from at (signedDecimal (negsuc k)) r f
 unfolding signedDecimal

@@ -1,4 +1,4 @@
--- A piece that is put octet by octet.
+-- A piece that is printed octet by octet.
 use Prim.Native.Nat.{ℕ, suc, _+_, _/_, _%_, _≤_, _<_}
 use native.Mathlib.Numerals.{add-one}
 use native.Mathlib.Omega.{arith}
@@ -40,7 +40,7 @@ unfolding hexOrDash
 hex-is [] n = absurd (n refl)
 hex-is (x ∷ s) n = refl
 
--- Octets as they are.
+-- Octets unchanged.
 abbrev pub same : List ℕ → List ℕ
 same s = s
 
@@ -50,9 +50,9 @@ same-nil = refl
 pub same-append : (xs ys : List ℕ) → same (xs ++ ys) ≡ same xs ++ same ys
 same-append xs ys = refl
 
--- `f` is the text of octets, that of each after those of the ones before it.
+-- `f` gives the text of octets: the texts of the single octets, one after the other.
 module _ (f : List ℕ → List ℕ) (f-nil : f [] ≡ []) (f-append : (xs ys : List ℕ) → f (xs ++ ys) ≡ f xs ++ f ys) (d : List ℕ) (from at : ℕ) (s : List ℕ) where
-  -- The text of the first i octets is put.
+  -- The loop invariant: the text of the first i octets is printed.
   pub record Copied (i end : ℕ) (out : List ℕ) : Type 0 where
     pub inside : i ≤ length s
     pub printed : Printed d from at (f (take i s)) end out

@@ -11,7 +11,7 @@ use lib.Dec.{leb}
 use borrow.Author.Tests.{leb-true, leb-false}
 use Rattle.text_window.specs.Window.{window, overlay, placed, Printed}
 
--- Stores from one end on, then stores from where they end.
+-- Two stores, the second one at the end of the first, are one store.
 sets-append : (d : List ℕ) (i : ℕ) (xs ys : List ℕ) → sets d i (xs ++ ys) ≡ sets (sets d i xs) (i + length xs) ys
 sets-append d i [] ys = rw (add-zero i)
 sets-append d i (x ∷ xs) ys =
@@ -26,12 +26,12 @@ sets-behind : (y i : ℕ) (d xs : List ℕ) → sets (y ∷ d) (suc i) xs ≡ y 
 sets-behind y i d [] = refl
 sets-behind y i d (x ∷ xs) = sets-behind y (suc i) (set d i x) xs
 
--- Stores from the front on.
-sets-front : (d xs : List ℕ) → sets d 0 xs ≡ take (length d) xs ++ drop (length xs) d
-sets-front [] [] = refl
-sets-front [] (x ∷ xs) = sets-nothing 1 xs
-sets-front (y ∷ d) [] = refl
-sets-front (y ∷ d) (x ∷ xs) = sets-behind x 0 d xs ∙ ap (λ (l : List ℕ). x ∷ l) (sets-front d xs)
+-- A store from the first octet on.
+sets-start : (d xs : List ℕ) → sets d 0 xs ≡ take (length d) xs ++ drop (length xs) d
+sets-start [] [] = refl
+sets-start [] (x ∷ xs) = sets-nothing 1 xs
+sets-start (y ∷ d) [] = refl
+sets-start (y ∷ d) (x ∷ xs) = sets-behind x 0 d xs ∙ ap (λ (l : List ℕ). x ∷ l) (sets-start d xs)
 
 -- A whole text, from its first octet on, gives its window.
 pub whole-window : (d : List ℕ) (from : ℕ) (text : List ℕ) → overlay d from 0 text ≡ window d from text
@@ -39,7 +39,7 @@ unfolding overlay window
 whole-window d from text =
     let a : 0 - from ≡ 0 = omega arith in
     let b : from - 0 ≡ from = omega arith in
-    rw (a, b) (sets-front d (drop from text) ∙ rw (length-drop from text))
+    rw (a, b) (sets-start d (drop from text) ∙ rw (length-drop from text))
 
 overlay-append : (d : List ℕ) (from at : ℕ) (xs ys : List ℕ) → overlay (overlay d from at xs) from (at + length xs) ys ≡ overlay d from at (xs ++ ys)
 unfolding overlay
@@ -60,7 +60,7 @@ overlay-append d from at xs ys = go (leb (from - at) (length xs)) refl
         let b : from - at ≡ length xs + (from - (at + length xs)) = omega arith in
         rw (a, drop-of-length-le xs {i = from - at} (omega arith)) (ap (sets d (at - from)) (sym (ap (λ (k : ℕ). drop k (xs ++ ys)) b ∙ drop-append-add xs ys (from - (at + length xs)))))
 
--- What a piece keeps of its octets.
+-- The octets of a piece that are printed.
 placed-nothing : (at : ℕ) → placed at [] ≡ []
 unfolding placed
 placed-nothing at = take-nil {A = ℕ} (2 ^ 64 - 1 - at)
@@ -85,7 +85,7 @@ placed-append at xs ys = go (leb (length xs) (2 ^ 64 - 1 - at)) refl
         let a : 2 ^ 64 - 1 - (at + length (take (2 ^ 64 - 1 - at) xs)) ≡ 0 = omega arith in
         rw a (take-append-le (2 ^ 64 - 1 - at) xs ys (omega arith) ∙ sym (append-nil (take (2 ^ 64 - 1 - at) xs)))
 
--- The place after a piece is the smaller of two numbers.
+-- The offset after a piece is the smaller of two numbers.
 pub place-after : (at : ℕ) (xs : List ℕ) → at < 2 ^ 64 → at + length (placed at xs) ≡ min (at + length xs) (2 ^ 64 - 1)
 unfolding placed
 place-after at xs h = let l = length-take (2 ^ 64 - 1 - at) xs in omega arith
@@ -102,14 +102,14 @@ module _ (d : List ℕ) (from at : ℕ) where
   unfolding overlay
   printed-length xs r e p = ap length (p .buffer) ∙ length-sets d (at - from) (drop (from - at) (placed at xs))
 
-  -- A piece that fits is put whole.
+  -- A piece that ends below 2 ^ 64 is printed completely.
   pub fits-printed : (xs : List ℕ) (r : ℕ) (e : List ℕ) → at + length xs < 2 ^ 64 → r ≡ at + length xs → e ≡ overlay d from at xs → Printed d from at xs r e
   fits-printed xs r e h p b = let w = placed-whole at xs h in record { place = rw w p; buffer = rw w b }
 
   pub printed-fits : (xs : List ℕ) (r : ℕ) (e : List ℕ) → at + length xs < 2 ^ 64 → Printed d from at xs r e → (r ≡ at + length xs) × (e ≡ overlay d from at xs)
   printed-fits xs r e h p = let w = placed-whole at xs h in (p .place ∙ rw w refl, p .buffer ∙ rw w refl)
 
-  -- One octet that has no place, then one before the window, beyond it, and in it.
+  -- One octet: at the offset 2 ^ 64 - 1, before the window, beyond it, and in it.
   pub one-unplaced : (x : ℕ) → at ≡ 18446744073709551615 → Printed d from at (x ∷ []) at d
   unfolding placed
   one-unplaced x h =
@@ -131,7 +131,7 @@ module _ (d : List ℕ) (from at : ℕ) where
     pub one-inside : Printed d from at (x ∷ []) (at + 1) (set d (at - from) x)
     one-inside = fits-printed (x ∷ []) (at + 1) (set d (at - from) x) (omega arith) refl (sym (in-window x h))
 
--- A piece, and a piece that stands after it.
+-- A piece, and then the piece after it, are one piece.
 pub then : {d e f : List ℕ} {from at m r : ℕ} {xs ys : List ℕ} → Printed d from at xs m e → Printed e from m ys r f → Printed d from at (xs ++ ys) r f
 then {d} {e} {f} {from} {at} {m} {r} {xs} {ys} p q =
     let a = p .place in
@@ -149,7 +149,7 @@ same-place {d} {e} {from} {at} {m} ys q p = subst (λ (l : List ℕ). Printed d 
 pub one-is : {d e : List ℕ} {from at m x y : ℕ} → x ≡ y → Printed d from at (x ∷ []) m e → Printed d from at (y ∷ []) m e
 one-is {d} {e} {from} {at} {m} {x} {y} q p = subst (λ (z : ℕ). Printed d from at (z ∷ []) m e) q p
 
--- A whole text that is put from its first octet on.
+-- A text that is printed from its first octet on gives its window.
 pub whole-printed : {d e : List ℕ} {from r : ℕ} (text : List ℕ) → length text < 2 ^ 64 → Printed d from 0 text r e → (r ≡ length text) × (e ≡ window d from text)
 whole-printed {d} {e} {from} {r} text h p =
     let q = printed-fits d from 0 text r e (omega arith) p in
@@ -159,8 +159,8 @@ whole-printed {d} {e} {from} {r} text h p =
 pub same-window : (d : List ℕ) (from : ℕ) {e : List ℕ} {r : ℕ} {text other : List ℕ} → text ≡ other → (r ≡ length text) × (e ≡ window d from text) → (r ≡ length other) × (e ≡ window d from other)
 same-window d from {e} {r} {text} {other} q p = subst (λ (t : List ℕ). (r ≡ length t) × (e ≡ window d from t)) q p
 
--- The windows of a text, one after the other, are the text: one that the text fills is its next octets, and the last one begins with
--- what is left.
+-- The windows of a text, one after the other, are the text: a window that the text fills has its next octets, and the last window begins
+-- with the remaining octets.
 pub full-window : (d : List ℕ) (from : ℕ) (text : List ℕ) → from + length d ≤ length text → window d from text ≡ take (length d) (drop from text)
 unfolding window
 full-window d from text h =

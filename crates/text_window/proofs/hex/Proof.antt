@@ -1,4 +1,4 @@
--- `text_window::hex` meets its contract: at each turn the hex digits of the first octets are put.
+-- `text_window::hex` meets its contract: in each iteration the hex digits of the first octets are printed.
 use Prim.Native.Nat.{_-_}
 use borrow.Author.Needs.{needs}
 use native.Mathlib.Omega.{arith}

@@ -1,4 +1,4 @@
--- `text_window::octets` meets its contract: at each turn the first octets are put.
+-- `text_window::octets` meets its contract: in each iteration the first octets are printed.
 use Prim.Native.Nat.{_-_}
 use borrow.Author.Needs.{needs}
 use native.Mathlib.Omega.{arith}

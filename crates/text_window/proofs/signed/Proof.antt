@@ -9,7 +9,7 @@ use Rattle.text_window.proofs.Numbers.{from-zero-text}
 use Rattle.text_window.proofs.signed.Statement.{statement}
 use Rattle.text_window.proofs.signed.Tie as tie
 
--- A number below zero is the one that stands that far below.
+-- A negative number is `negsuc` of what `below_zero` returns.
 below : (c : tie.After-below-zero) → c .before .before .before .before .args .z ≡ negsuc (c .below-zero .result)
 below c =
     let b = c .before .before .before .before in
