@@ -17,7 +17,7 @@ use Rattle.hproto_state.specs.Answer as writes
 use Rattle.hproto_state.specs.declared.State.{State}
 use Rattle.hproto_state.specs.declared.Written.{Written}
 use Rattle.hproto_state.proofs.Conditions.{CloseMet}
-use Rattle.hproto_state.proofs.Answers.{refused-answer, accepted-answer, refused-buffer, accepted-buffer}
+use Rattle.hproto_state.proofs.CallResults.{refused-result, accepted-result, refused-buffer, accepted-buffer}
 
 module _ (t : Table) (s : State) (len next : ℕ) where
   pub close-other : (len ≡ s .length → ⊥) → 10 ≡ closeEarly t s len next
@@ -73,7 +73,7 @@ module _ (t : Table) (s : State) (d : List ℕ) where
   close-refused got e ne =
       let size = length (closingPart s) in
       record {
-        answer = refused-answer got (closeRefusal t s (length d)) s (outer (back s size)) s e ne refl;
+        answer = refused-result got (closeRefusal t s (length d)) s (outer (back s size)) s e ne refl;
         buffer = refused-buffer got (closeRefusal t s (length d)) d (stored d (s .start - size) (closingPart s)) e ne;
       }
 
@@ -100,6 +100,6 @@ module _ (t : Table) (s : State) (d : List ℕ) where
         let z : closeRefusal t s (length d) ≡ 0 = close-decides t s (length d) (orRefuse (leb part (s .start)) 9 0) m ∙ rw (le-leb part (s .start) (omega arith)) refl in
         let r : State = record { length = s .length; start = s .start - size; opened = s .opened - 1; numbers = s .numbers; marks = s .marks; tags = s .tags } in
         record {
-          answer = accepted-answer (closeRefusal t s (length d)) s (outer (back s part)) r z (rw e refl);
+          answer = accepted-result (closeRefusal t s (length d)) s (outer (back s part)) r z (rw e refl);
           buffer = accepted-buffer (closeRefusal t s (length d)) d (stored d (s .start - part) (closingPart s)) after z (b ∙ rw e refl);
         }

@@ -1,4 +1,4 @@
-// The message fields of the backward writer, opened and closed around what is put between.
+// Opening and closing the message fields of the backward writer.
 use hproto_state::State;
 use hproto_state::Written;
 use hproto_table::Table;
@@ -9,22 +9,22 @@ ghost use Rattle.hproto_state.specs.Call.{openField, closeField};
 ghost use Rattle.hproto_state.specs.Answer.{answer, buffer};
 ghost use Rattle.hproto_state.specs.Calls.{closeEarly};
 
-// Opens a message field. The mark is the place where the contents of the field will end: all that is put until its close lies before
-// it. Refusals, all at 0: 10, 2, 8, 5 at the eighth level.
+// Opens a message field. Its mark is the offset at which its contents end: the fields that are put until it is closed lie before the
+// mark. Refusals, all at place 0: STATE, TABLE, TAG_OR_KIND, TOO_DEEP if seven fields are open.
 pub fn open_field(t: Table, s: State, tag: u64) -> Written
     ensures { λ r. ⌜ r ≡ answer t s [] (openField tag) ⌝ }
 {
-    let told = hproto_state::tag_kind(t, s, s.length, tag, 5);
-    if told.refusal != 0 {
+    let tagged = hproto_state::tag_kind(t, s, s.length, tag, 5);
+    if tagged.refusal != 0 {
         return Written {
-            refusal: told.refusal,
+            refusal: tagged.refusal,
             place: 0,
             state: s,
         };
     }
     if 6 < s.opened {
         return Written {
-            refusal: 5,
+            refusal: reading::TOO_DEEP,
             place: 0,
             state: s,
         };
@@ -32,7 +32,7 @@ pub fn open_field(t: Table, s: State, tag: u64) -> Written
     let k = s.opened;
     let mut after = s;
     after.opened = k + 1;
-    after.numbers[k + 1] = told.inner;
+    after.numbers[k + 1] = tagged.inner;
     after.marks[k] = s.start;
     after.tags[k] = tag as u16;
     Written {
@@ -42,26 +42,26 @@ pub fn open_field(t: Table, s: State, tag: u64) -> Written
     }
 }
 
-// The first refusal of a close, but for the one for want of room.
+// Returns the refusal of a close, apart from NO_ROOM, or 0.
 fn close_early(t: Table, s: State, len: usize) -> u64
     ensures { λ r. ⌜ r ≡ closeEarly t s len 0 ⌝ }
 {
     if len != s.length {
-        return 10;
+        return reading::STATE;
     }
     if !hproto_state::sound(s) {
-        return 10;
+        return reading::STATE;
     }
     if !table_index::valid(t) {
-        return 2;
+        return reading::TABLE;
     }
     if s.opened < 1 {
-        return 11;
+        return reading::NOTHING_OPEN;
     }
     0
 }
 
-// A difference, 0 where it would be below zero. In a sound state no mark is below the start.
+// Returns a - b, or 0 if that is below zero. In a sound state no mark is below the start.
 fn less(a: usize, b: usize) -> usize
     ensures { λ r. ⌜ r ≡ a - b ⌝ }
 {
@@ -72,16 +72,16 @@ fn less(a: usize, b: usize) -> usize
     d
 }
 
-// Closes the field that was opened last: puts its control part before all that was put since. The contents are final by now: the length
-// is chosen last. Refusals, all at 0: 10, 2, 11 where nothing is open, 9.
+// Closes the field that was opened last: stores its control part before its contents, whose length is known by now. Refusals, all at
+// place 0: STATE, TABLE, NOTHING_OPEN, NO_ROOM.
 pub fn close_field(t: Table, s: State, out: &mut [u8]) -> Written
     ensures { λ r. ⌜ r ≡ answer t s (now (out .entry)) closeField ⌝ }
     ensures { λ r. ⌜ now (out .exit) ≡ buffer t s (now (out .entry)) closeField ⌝ }
 {
-    let no = close_early(t, s, out.len());
-    if no != 0 {
+    let refusal = close_early(t, s, out.len());
+    if refusal != 0 {
         return Written {
-            refusal: no,
+            refusal,
             place: 0,
             state: s,
         };
@@ -93,7 +93,7 @@ pub fn close_field(t: Table, s: State, out: &mut [u8]) -> Written
     let size = hproto_put::control_size(tag, n);
     if s.start < size {
         return Written {
-            refusal: 9,
+            refusal: reading::NO_ROOM,
             place: 0,
             state: s,
         };

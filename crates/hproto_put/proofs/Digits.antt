@@ -12,33 +12,33 @@ use Rattle.octets.proofs.Number.{length-octetsOf}
 use Rattle.octets_least.proofs.Widths.{power-digits}
 use Rattle.hproto_store.specs.Store.{stored}
 use Rattle.hproto_store.proofs.Stores.{stored-too-long}
-use Rattle.hproto_store.proofs.Turns.{Written, written-length, written-stored, none-written, one-before, CopiedUp, copy-begun, copy-turn, copy-ended}
+use Rattle.hproto_store.proofs.StoreLoops.{Written, written-length, written-stored, none-written, one-before, CopiedUp, copy-begun, copy-step, copy-ended}
 
--- The last k octets of v are stored at the end of the place for n, and `rest` is what is left of v before them.
+-- The last k octets of v are stored at the end of the place for n, and `rest` is v without them.
 pub record NumberDown (d : List ℕ) (at n v : ℕ) (out : List ℕ) (rest k : ℕ) : Type 0 where
   pub inside : k ≤ n
   pub room : at + n ≤ length d
   pub long : length out ≡ length d
-  pub left : rest ≡ v / 256 ^ k
+  pub rest-is : rest ≡ v / 256 ^ k
   pub written : Written d (at + (n - k)) (octetsOf k v) out
 
 pub number-begun : (d : List ℕ) (at n v : ℕ) → at + n ≤ length d → NumberDown d at n v d v 0
 unfolding octetsOf
 number-begun d at n v h =
-    record { inside = omega arith; room = h; long = refl; left = sym (div-one v); written = none-written d (at + (n - 0)) (omega arith) }
+    record { inside = omega arith; room = h; long = refl; rest-is = sym (div-one v); written = none-written d (at + (n - 0)) (omega arith) }
 
-pub number-turn : (d : List ℕ) (at n v : ℕ) (out : List ℕ) (rest k : ℕ) → k < n → NumberDown d at n v out rest k
+pub number-step : (d : List ℕ) (at n v : ℕ) (out : List ℕ) (rest k : ℕ) → k < n → NumberDown d at n v out rest k
     → NumberDown d at n v (set out (at + (n - (k + 1))) (rest % 256)) (rest / 256) (k + 1)
 unfolding octetsOf
-number-turn d at n v out rest k h p =
+number-step d at n v out rest k h p =
     let j = at + (n - (k + 1)) in
     let w : Written d j (octetsOf (k + 1) v) (set out j (rest % 256)) =
-    rw (add-one k, p .left) (one-before d (at + (n - k)) (at + (n - suc k)) (v / 256 ^ k % 256) (octetsOf k v) out (omega arith) (p .written)) in
+    rw (add-one k, p .rest-is) (one-before d (at + (n - k)) (at + (n - suc k)) (v / 256 ^ k % 256) (octetsOf k v) out (omega arith) (p .written)) in
     record {
       inside = omega arith;
       room = p .room;
       long = written-length d j (octetsOf (k + 1) v) (set out j (rest % 256)) w;
-      left = rw (p .left, add-one k, pow-suc 256 k) (div-div-eq-div-mul v (256 ^ k) 256);
+      rest-is = rw (p .rest-is, add-one k, pow-suc 256 k) (div-div-eq-div-mul v (256 ^ k) 256);
       written = w;
     }
 
@@ -63,10 +63,10 @@ octet-at (suc n) (suc k) v h = let e : suc n - 1 - suc k ≡ n - 1 - k = omega a
 pub few-begun : (d : List ℕ) (at n v : ℕ) → at + n ≤ length d → CopiedUp d at (octetsOf n v) n d 0
 few-begun d at n v h = copy-begun d at (octetsOf n v) n h (omega (arith, length-octetsOf n v))
 
-pub few-turn : (d : List ℕ) (at n v : ℕ) (out : List ℕ) (k : ℕ) → k < n → CopiedUp d at (octetsOf n v) n out k
+pub few-step : (d : List ℕ) (at n v : ℕ) (out : List ℕ) (k : ℕ) → k < n → CopiedUp d at (octetsOf n v) n out k
     → CopiedUp d at (octetsOf n v) n (set out (at + k) (v / 2 ^ (8 * (n - 1 - k)) % 256)) (k + 1)
-few-turn d at n v out k h p =
-    rw (← power-digits (n - 1 - k), ← octet-at n k v h) (copy-turn d at (octetsOf n v) n out k h p)
+few-step d at n v out k h p =
+    rw (← power-digits (n - 1 - k), ← octet-at n k v h) (copy-step d at (octetsOf n v) n out k h p)
 
 pub few-ended : (d : List ℕ) (at n v : ℕ) (out : List ℕ) (k : ℕ) → n ≤ k → CopiedUp d at (octetsOf n v) n out k
     → out ≡ stored d at (octetsOf n v)

@@ -1,4 +1,4 @@
-// Storing numbers and control parts into a lent buffer. What does not fit is not stored.
+// Storing numbers and control parts into a lent buffer. Octets that do not fit are not stored.
 ghost use mathlib.Core.Path.{_≡_};
 ghost use Prim.Native.Nat.{_+_, _≤_};
 ghost use lib.ListN.{length as length-of};
@@ -19,7 +19,7 @@ fn put_few(out: &mut [u8], at: usize, n: usize, v: u64)
     }
 }
 
-// The same of any count: above its eight octets a number has zeros. The loop goes from the last one back; k of them are stored.
+// The same for any n: the octets above the last eight are zeros. The loop stores the last octet first; k octets are stored so far.
 fn put_many(out: &mut [u8], at: usize, n: usize, v: u64)
     requires { ⌜ at + n ≤ length-of (now out) ⌝ }
     ensures { λ _. ⌜ now (out .exit) ≡ stored (now (out .entry)) at (octetsOf n v) ⌝ }
@@ -47,7 +47,7 @@ pub fn put_number(out: &mut [u8], at: usize, width: u64, v: u64)
     }
 }
 
-// How many octets the least control part of a tag and a length takes.
+// Returns how many octets the least control part of a tag and a length has.
 pub fn control_size(tag: u16, length: u64) -> usize
     ensures { λ r. ⌜ r ≡ length-of (leastControl tag length) ⌝ }
 {
@@ -55,7 +55,7 @@ pub fn control_size(tag: u16, length: u64) -> usize
     (1 + c.tag_width + c.length_width) as usize
 }
 
-// The least control part of a tag and a length.
+// Stores the least control part of a tag and a length.
 pub fn put_control(out: &mut [u8], at: usize, tag: u16, length: u64)
     ensures { λ _. ⌜ now (out .exit) ≡ stored (now (out .entry)) at (leastControl tag length) ⌝ }
 {

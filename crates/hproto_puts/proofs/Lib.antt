@@ -2,4 +2,4 @@ pub mod Room
 pub mod Refusals
 pub mod OctetKinds
 pub mod Before
-pub mod Answers
+pub mod PutResults

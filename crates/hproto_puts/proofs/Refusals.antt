@@ -18,6 +18,6 @@ module _ (t : Table) (s : State) (len : ℕ) (agrees reads : Bool) (size got : �
     unfolding orRefuse
     put-long g = sym (put-rest t s len agrees got e reads size z ∙ rw (f, ← g) refl)
 
-    pub put-taken : true ≡ leb size (s .start) → 0 ≡ putRefusal t s len agrees reads size
+    pub put-not-refused : true ≡ leb size (s .start) → 0 ≡ putRefusal t s len agrees reads size
     unfolding orRefuse
-    put-taken g = sym (put-rest t s len agrees got e reads size z ∙ rw (f, ← g) refl)
+    put-not-refused g = sym (put-rest t s len agrees got e reads size z ∙ rw (f, ← g) refl)

@@ -5,13 +5,13 @@ use mathlib.Core.Path.{_≡_, refl, sym, _∙_}
 use mathlib.Core.Bool.{false}
 use lib.Dec.{leb}
 use borrow.Author.Tests.{lt-leb}
-use Rattle.hproto_store.proofs.Room.{left-enough}
+use Rattle.hproto_store.proofs.Room.{fits-after}
 
 -- The contents alone do not fit, or the control part has to fit into what they leave.
 pub room-none : (size n free : ℕ) → free < n → false ≡ leb (size + n) free
 room-none size n free h = sym (lt-leb (size + n) free (omega arith))
 
-pub room-left : (k size n free : ℕ) → k ≡ size → n ≤ free → leb k (free - n) ≡ leb (size + n) free
-room-left k size n free e h =
+pub room-beside : (k size n free : ℕ) → k ≡ size → n ≤ free → leb k (free - n) ≡ leb (size + n) free
+room-beside k size n free e h =
     let f : n + k ≡ size + n = omega arith in
-    left-enough free n k h ∙ rw f refl
+    fits-after free n k h ∙ rw f refl

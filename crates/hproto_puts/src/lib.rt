@@ -1,4 +1,4 @@
-// The puts of the backward writer: a field of a number, a string or a text, stored before all that was put so far.
+// The put calls of the backward writer. Each stores a uint, int, string or text field before the fields that were put earlier.
 use hproto_state::State;
 use hproto_state::Written;
 use hproto_table::Table;
@@ -18,7 +18,7 @@ ghost use Rattle.hproto_state.specs.Calls.{meant, readable as readable-of, put,
 ghost use Rattle.hproto_state.specs.internal.Tags.{fits};
 ghost use Rattle.hproto_puts.specs.internal.Stores.{Before};
 
-// Whether a field of n octets of contents fits into the free octets. Their sum could be out of range, so n is compared first.
+// Returns whether a field with n octets of contents fits into the free octets. The sum could overflow, so n is compared first.
 fn has_room(free: usize, tag: u16, n: usize) -> bool
     ensures { λ r. ⌜ r ≡ leb (length-of (leastControl tag n) + n) free ⌝ }
 {
@@ -28,6 +28,7 @@ fn has_room(free: usize, tag: u16, n: usize) -> bool
     hproto_put::control_size(tag, n as u64) <= free - n
 }
 
+// Returns whether octets may be the contents of a field of this kind: those of a text field (kind 4) have to be text.
 fn readable(kind: u64, xs: &[u8]) -> bool
     ensures { λ r. ⌜ r ≡ readable-of kind (now (xs .entry)) ⌝ }
 {
@@ -37,7 +38,7 @@ fn readable(kind: u64, xs: &[u8]) -> bool
     true
 }
 
-// Stores a field whose contents are the octets of a number just before `start`, and answers its place.
+// Stores a field whose contents are the octets of a number, so that it ends at `start`. Returns the offset at which the field starts.
 fn store_number(out: &mut [u8], start: usize, tag: u16, least: Least) -> usize
     requires { ⌜ length-of (leastControl tag (least .width)) + least .width ≤ start ⌝ }
     requires { ⌜ start ≤ length-of (now out) ⌝ }
@@ -53,7 +54,7 @@ fn store_number(out: &mut [u8], start: usize, tag: u16, least: Least) -> usize
     at
 }
 
-// Stores a field with its contents as they are given.
+// Stores a field with the contents `xs`, so that it ends at `start`. Returns the offset at which the field starts.
 fn store_plain(out: &mut [u8], start: usize, tag: u16, xs: &[u8]) -> usize
     requires { ⌜ length-of (leastControl tag (length-of (now xs))) + length-of (now xs) ≤ start ⌝ }
     requires { ⌜ start ≤ length-of (now out) ⌝ }
@@ -68,7 +69,7 @@ fn store_plain(out: &mut [u8], start: usize, tag: u16, xs: &[u8]) -> usize
     at
 }
 
-// A put of a number in its least octets, for a tag of a wanted kind.
+// Puts a field whose contents are the least octets of a number. The tag has to be of the wanted kind.
 fn put_least(t: Table, s: State, tag: u64, wanted: u64, least: Least, out: &mut [u8]) -> Written
     requires { ⌜ 1 ≤ wanted ⌝ }
     ensures { λ r. ⌜ r ≡ put t s tag (fits wanted (kindNumber (meant t s tag))) true (octetsOf (least .width) (least .bits)) (length-of (now (out .entry))) ⌝ }
@@ -84,7 +85,7 @@ fn put_least(t: Table, s: State, tag: u64, wanted: u64, least: Least, out: &mut 
     }
     if !has_room(s.start, tag as u16, least.width as usize) {
         return Written {
-            refusal: 9,
+            refusal: reading::NO_ROOM,
             place: 0,
             state: s,
         };
@@ -98,7 +99,7 @@ fn put_least(t: Table, s: State, tag: u64, wanted: u64, least: Least, out: &mut 
     }
 }
 
-// Puts a uint field before all that was put so far. Refusals, all at 0: 10, 2, 8, 9.
+// Puts a uint field. Refusals, all at place 0: STATE, TABLE, TAG_OR_KIND, NO_ROOM.
 pub fn put_uint(t: Table, s: State, tag: u64, v: u64, out: &mut [u8]) -> Written
     ensures { λ r. ⌜ r ≡ answer t s (now (out .entry)) (putUint tag v) ⌝ }
     ensures { λ r. ⌜ now (out .exit) ≡ buffer t s (now (out .entry)) (putUint tag v) ⌝ }
@@ -106,7 +107,7 @@ pub fn put_uint(t: Table, s: State, tag: u64, v: u64, out: &mut [u8]) -> Written
     put_least(t, s, tag, 1, octets_least::uint_least(v), out)
 }
 
-// Puts an int field. Refusals as for a uint.
+// Puts an int field. The refusals are those of put_uint.
 pub fn put_int(t: Table, s: State, tag: u64, v: i64, out: &mut [u8]) -> Written
     ensures { λ r. ⌜ r ≡ answer t s (now (out .entry)) (putInt tag v) ⌝ }
     ensures { λ r. ⌜ now (out .exit) ≡ buffer t s (now (out .entry)) (putInt tag v) ⌝ }
@@ -114,7 +115,7 @@ pub fn put_int(t: Table, s: State, tag: u64, v: i64, out: &mut [u8]) -> Written
     put_least(t, s, tag, 2, octets_least::int_least(v), out)
 }
 
-// Puts a string or a text field. Refusals, all at 0: 10, 2, 8, 7 for octets that are no text but have to be, 9.
+// Puts a string or a text field. Refusals, all at place 0: STATE, TABLE, TAG_OR_KIND, TEXT for a text field only, NO_ROOM.
 pub fn put_octets(t: Table, s: State, tag: u64, xs: &[u8], out: &mut [u8]) -> Written
     ensures { λ r. ⌜ r ≡ answer t s (now (out .entry)) (putOctets tag (now (xs .entry))) ⌝ }
     ensures { λ r. ⌜ now (out .exit) ≡ buffer t s (now (out .entry)) (putOctets tag (now (xs .entry))) ⌝ }
@@ -129,14 +130,14 @@ pub fn put_octets(t: Table, s: State, tag: u64, xs: &[u8], out: &mut [u8]) -> Wr
     }
     if !readable(k.kind, xs) {
         return Written {
-            refusal: 7,
+            refusal: reading::TEXT,
             place: 0,
             state: s,
         };
     }
     if !has_room(s.start, tag as u16, xs.len()) {
         return Written {
-            refusal: 9,
+            refusal: reading::NO_ROOM,
             place: 0,
             state: s,
         };

@@ -9,7 +9,7 @@ use Rattle.hproto_table.specs.declared.Table.{Table}
 use Rattle.hproto_message.specs.Shortest.{field}
 use Rattle.hproto_store.specs.Store.{stored}
 use Rattle.hproto_store.proofs.Stores.{drop-stored}
-use Rattle.hproto_state.specs.Calls.{answered, bufferAfter, back, put, putBuffer, putRefusal, closingPart, closeRefusal, closing, closeBuffer, outer}
+use Rattle.hproto_state.specs.Calls.{callResult, bufferAfter, back, put, putBuffer, putRefusal, closingPart, closeRefusal, closing, closeBuffer, outer}
 use Rattle.hproto_state.specs.declared.State.{State}
 use Rattle.hproto_state.proofs.Conditions.{put-met, close-room}
 use Rattle.hproto_state.proofs.SoundStates.{sound-within}
@@ -24,7 +24,7 @@ before-others d start xs h k =
 module _ (t : Table) (s : State) (tag : ℕ) (agrees reads : Bool) (xs d : List ℕ) (e : putRefusal t s (length d) agrees reads (length (field tag xs)) ≡ 0) where
   -- An accepted put moves the start down by the octets of its field.
   pub put-start : put t s tag agrees reads xs (length d) .state .start ≡ s .start - length (field tag xs)
-  unfolding put answered back
+  unfolding put callResult back
   put-start = rw e refl
 
   pub put-adds : drop (s .start - length (field tag xs)) (putBuffer t s tag agrees reads xs d) ≡ field tag xs ++ drop (s .start) d
@@ -38,7 +38,7 @@ module _ (t : Table) (s : State) (tag : ℕ) (agrees reads : Bool) (xs d : List 
 module _ (t : Table) (s : State) (d : List ℕ) (e : closeRefusal t s (length d) ≡ 0) where
   -- An accepted close moves the start down by the octets of its control part.
   pub close-start : closing t s (length d) .state .start ≡ s .start - length (closingPart s)
-  unfolding closing answered outer back
+  unfolding closing callResult outer back
   close-start = rw e refl
 
   pub close-adds : drop (s .start - length (closingPart s)) (closeBuffer t s d) ≡ closingPart s ++ drop (s .start) d

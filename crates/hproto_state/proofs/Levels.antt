@@ -1,4 +1,4 @@
--- The marks and message numbers of a state one by one, and what the looks together say.
+-- Steps of the loops over the marks and message numbers of a state, and the parts of `sound`.
 use Prim.Native.Nat.{ℕ, _+_, _≤_, _<_}
 use mathlib.Core.Path.{_≡_, refl, _∙_}
 use mathlib.Core.Bool.{Bool, true, false}

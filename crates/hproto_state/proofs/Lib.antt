@@ -3,6 +3,6 @@ pub mod SoundStates
 pub mod Tags
 pub mod Refusals
 pub mod Conditions
-pub mod Answers
+pub mod CallResults
 pub mod Added
 pub mod TagKinds

@@ -24,9 +24,9 @@ module _ (t : Table) (number len : ℕ) where
       unfolding startRefusal orRefuse
       start-number h = rw (le-leb len 65536 a, ← b, lt-leb number 15 h) refl
 
-      pub start-taken : number ≤ 15 → 0 ≡ startRefusal t number len
+      pub start-not-refused : number ≤ 15 → 0 ≡ startRefusal t number len
       unfolding startRefusal orRefuse
-      start-taken h = rw (le-leb len 65536 a, ← b, le-leb number 15 h) refl
+      start-not-refused h = rw (le-leb len 65536 a, ← b, le-leb number 15 h) refl
 
 module _ (s : State) where
   pub finish-unsound : false ≡ sound s → 10 ≡ finishRefusal s
@@ -38,6 +38,6 @@ module _ (s : State) where
     unfolding finishRefusal orRefuse
     finish-open ne = rw (← b, ne-eqb (s .opened) 0 ne) refl
 
-    pub finish-taken : s .opened ≡ 0 → 0 ≡ finishRefusal s
+    pub finish-not-refused : s .opened ≡ 0 → 0 ≡ finishRefusal s
     unfolding finishRefusal orRefuse
-    finish-taken e = rw (← b, eq-eqb (s .opened) 0 e) refl
+    finish-not-refused e = rw (← b, eq-eqb (s .opened) 0 e) refl

@@ -1,4 +1,4 @@
--- What each call between start and finish answers, and the buffer afterwards. The contracts of the five calls cite these.
+-- The answer of each call between start and finish, and the buffer after it. The contracts of the five calls cite these definitions.
 use Prim.Native.Nat.{ℕ}
 use mathlib.Core.Bool.{true}
 use mathlib.Core.List.{List}
@@ -22,7 +22,7 @@ answer t s d (putOctets tag xs) =
 answer t s d (openField tag) = opening t s tag
 answer t s d closeField = closing t s (length d)
 
--- The buffer afterwards. A call of open_field gets no buffer.
+-- The buffer after the call. A call of open_field gets no buffer.
 unfoldable pub buffer : Table → State → List ℕ → Call → List ℕ
 buffer t s d (putUint tag v) = putBuffer t s tag (eqb (kindNumber (meant t s tag)) 1) true (leastUint v) d
 buffer t s d (putInt tag z) = putBuffer t s tag (eqb (kindNumber (meant t s tag)) 2) true (leastInt z) d

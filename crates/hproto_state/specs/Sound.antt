@@ -4,7 +4,7 @@ use mathlib.Core.Bool.{Bool, true, _&&_}
 use mathlib.Core.List.{List, [], _∷_}
 use lib.ListN.{take}
 use lib.Dec.{leb}
-use Rattle.reading.specs.Reading.{messageLimit}
+use Rattle.reading.specs.Reading.{messageLimit, lastNumber}
 use Rattle.hproto_state.specs.declared.State.{State}
 
 -- Whether marks lie between two places and none is above the one before it.
@@ -12,12 +12,13 @@ unfoldable pub falling : ℕ → ℕ → List ℕ → Bool
 falling low high [] = true
 falling low high (m ∷ ms) = leb low m && leb m high && falling low m ms
 
--- Whether message numbers are at most 15.
+-- Whether message numbers are allowed.
 unfoldable pub small : List ℕ → Bool
 small [] = true
-small (n ∷ ns) = leb n 15 && small ns
+small (n ∷ ns) = leb n lastNumber && small ns
 
--- With k fields open, k marks and k + 1 message numbers are in use. The others are not looked at.
+-- With k fields open, k marks and k + 1 message numbers are in use. The others are not tested. With seven fields open the innermost message is
+-- at the depth limit.
 unfoldable pub sound : State → Bool
 sound s =
     leb (s .length) messageLimit

@@ -1,5 +1,5 @@
-// The state of the backward writer, which fills a lent buffer from its end towards its start: which states are sound, what a tag means in
-// one, and the calls that start and finish a message.
+// The state of the backward writer, which fills a lent buffer from its end towards its start. This file tests states, looks up tags, and
+// starts and finishes a message.
 use hproto_table::Meaning;
 use hproto_table::Table;
 ghost use mathlib.Core.Path.{_≡_};
@@ -10,8 +10,8 @@ ghost use Rattle.hproto_state.specs.Sound.{falling, small, sound as soun
 ghost use Rattle.hproto_state.specs.Calls.{level as level-of, ofOctets, started, startRefusal, begun, finishRefusal, finished};
 ghost use Rattle.hproto_state.specs.internal.Tags.{fits as fits-of, tagKind};
 
-// What is written so far: the buffer's length, where the octets stored so far start, and how many message fields are open. For each
-// level a message number; for each open field the place where its contents end, and its tag.
+// The writer's state: the length of the buffer, the offset at which the octets stored so far start, and the number of open message
+// fields. Each level has a message number; each open field has a mark, the offset at which its contents end, and a tag.
 pub struct State {
     pub length: usize,
     pub start: usize,
@@ -21,16 +21,16 @@ pub struct State {
     pub tags: [u16; 7],
 }
 
-// The answer of start, put, open and close: a refusal number (0 where the call is accepted), the place 0, and the state afterwards. A
-// refused call hands the state back as it was given, a refused start one of zeros.
+// The answer of start, put, open and close: the refusal (0 if the call is accepted), the place (always 0) and the state after the call. A
+// refused call returns the state that it was given. A refused start returns a state of zeros.
 pub struct Written {
     pub refusal: u64,
     pub place: u64,
     pub state: State,
 }
 
-// The answer of finish: a refusal number (0 where it is accepted), the place 0, where the message starts (0 in a refusal), and the state
-// as it was given.
+// The answer of finish: the refusal (0 if the call is accepted), the place (always 0), the offset at which the message starts (0 in a
+// refusal), and the state that was given.
 pub struct Finished {
     pub refusal: u64,
     pub place: u64,
@@ -38,15 +38,15 @@ pub struct Finished {
     pub state: State,
 }
 
-// What a tag is in the innermost message that is open: a refusal number (0 where there is none), and in no refusal the number of its kind
-// and the number of the message that it holds.
+// A tag looked up in the innermost open message: the refusal (0 if there is none). If there is none, also the number of its kind, and
+// the message number of its contents.
 pub struct Tagged {
     pub refusal: u64,
     pub kind: u64,
     pub inner: u64,
 }
 
-// Whether the first n marks lie between two places and none is above the one before it.
+// Returns whether the first n marks lie between `low` and `high` and none is above the one before it.
 fn marks_fall(marks: &[usize], n: usize, low: usize, high: usize) -> bool
     requires { ⌜ n ≤ length-of (now marks) ⌝ }
     ensures { λ r. ⌜ r ≡ falling low high (take n (now (marks .entry))) ⌝ }
@@ -67,14 +67,14 @@ fn marks_fall(marks: &[usize], n: usize, low: usize, high: usize) -> bool
     true
 }
 
-// Whether the first n message numbers are at most 15.
+// Returns whether the first n message numbers are allowed.
 fn numbers_small(numbers: &[u64], n: usize) -> bool
     requires { ⌜ n ≤ length-of (now numbers) ⌝ }
     ensures { λ r. ⌜ r ≡ small (take n (now (numbers .entry))) ⌝ }
 {
     let mut i = 0;
     while i < n {
-        if 15 < numbers[i] {
+        if reading::LAST_NUMBER < numbers[i] {
             return false;
         }
         i += 1;
@@ -82,12 +82,13 @@ fn numbers_small(numbers: &[u64], n: usize) -> bool
     true
 }
 
-// Whether a state is one that the calls can go on from. The caller holds it between the calls, and may hand in any other.
+// Returns whether a state is sound. The caller keeps the state between calls and may change it, so each call tests it. With seven fields
+// open the innermost message is at the depth limit.
 pub fn sound(s: State) -> bool
     ensures { λ r. ⌜ r ≡ sound-of s ⌝ }
 {
     let n = s.opened;
-    if 65536 < s.length {
+    if reading::MESSAGE_LIMIT < s.length {
         return false;
     }
     if s.length < s.start {
@@ -102,7 +103,7 @@ pub fn sound(s: State) -> bool
     numbers_small(&s.numbers, n + 1)
 }
 
-// The message number of the innermost message that is open.
+// Returns the message number of the innermost open message.
 fn level(s: State) -> u64
     ensures { λ r. ⌜ r ≡ level-of s ⌝ }
 {
@@ -113,6 +114,7 @@ fn level(s: State) -> u64
     0
 }
 
+// Returns whether the values of a kind are octets: kind 3 is string, kind 4 is text.
 fn of_octets(kind: u64) -> bool
     ensures { λ r. ⌜ r ≡ ofOctets kind ⌝ }
 {
@@ -122,7 +124,7 @@ fn of_octets(kind: u64) -> bool
     kind == 4
 }
 
-// Whether a kind is the one that a call wants, by the kinds' numbers. A call that wants 3 takes a string or a text.
+// Returns whether a call that wants one kind accepts another. Kinds are given by number. A call that wants 3 accepts a string or a text.
 fn fits(wanted: u64, kind: u64) -> bool
     ensures { λ r. ⌜ r ≡ fits-of wanted kind ⌝ }
 {
@@ -132,6 +134,7 @@ fn fits(wanted: u64, kind: u64) -> bool
     kind == wanted
 }
 
+// Returns the message number of a field's contents, 0 if the field is no message.
 fn inner(kind: Meaning) -> u64
     ensures { λ r. ⌜ r ≡ innerOf kind ⌝ }
 {
@@ -155,25 +158,25 @@ fn not_tagged(refusal: u64) -> Tagged
     }
 }
 
-// What a tag is in the innermost message that is open, for a call that wants a kind. One pass over the table's words tests the table and
-// indexes it. Refusals: 10, 2, 8.
+// Looks up a tag in the innermost open message, for a call that wants a kind. One pass over the table's words tests the table and indexes
+// it. Refusals: STATE, TABLE, TAG_OR_KIND.
 pub fn tag_kind(t: Table, s: State, len: usize, tag: u64, wanted: u64) -> Tagged
     ensures { λ r. ⌜ r ≡ tagKind t s len tag wanted ⌝ }
 {
     if len != s.length {
-        return not_tagged(10);
+        return not_tagged(reading::STATE);
     }
     if !sound(s) {
-        return not_tagged(10);
+        return not_tagged(reading::STATE);
     }
     let mut cells = [0u32; 128];
     if !table_index::index_table(&t.words, t.count, &mut cells) {
-        return not_tagged(2);
+        return not_tagged(reading::TABLE);
     }
     let means = table_index::find(&cells, level(s), tag);
     let kind = table_index::kind_number(means);
     if !fits(wanted, kind) {
-        return not_tagged(8);
+        return not_tagged(reading::TAG_OR_KIND);
     }
     Tagged {
         refusal: 0,
@@ -185,19 +188,19 @@ pub fn tag_kind(t: Table, s: State, len: usize, tag: u64, wanted: u64) -> Tagged
 fn start_refusal(t: Table, number: u64, len: usize) -> u64
     ensures { λ r. ⌜ r ≡ startRefusal t number len ⌝ }
 {
-    if 65536 < len {
-        return 1;
+    if reading::MESSAGE_LIMIT < len {
+        return reading::TOO_LONG;
     }
     if !table_index::valid(t) {
-        return 2;
+        return reading::TABLE;
     }
-    if 15 < number {
-        return 2;
+    if reading::LAST_NUMBER < number {
+        return reading::TABLE;
     }
     0
 }
 
-// A state over a buffer of a length with nothing stored and nothing open.
+// Returns the state for a buffer of `len` octets in which nothing is stored, with no field open.
 fn fresh(len: usize, number: u64) -> State
     ensures { λ r. ⌜ r ≡ begun len number ⌝ }
 {
@@ -213,14 +216,14 @@ fn fresh(len: usize, number: u64) -> State
     }
 }
 
-// Starts a message of a number at the end of a lent buffer. Refusals, all at 0: 1 for a buffer over 65,536 octets, 2.
+// Starts a message with a number at the end of a lent buffer. Refusals, all at place 0: TOO_LONG for a buffer over the limit, TABLE.
 pub fn start(t: Table, number: u64, out: &[u8]) -> Written
     ensures { λ r. ⌜ r ≡ started t number (length-of (now (out .entry))) ⌝ }
 {
-    let no = start_refusal(t, number, out.len());
-    if no != 0 {
+    let refusal = start_refusal(t, number, out.len());
+    if refusal != 0 {
         return Written {
-            refusal: no,
+            refusal,
             place: 0,
             state: fresh(0, 0),
         };
@@ -236,22 +239,22 @@ fn finish_refusal(s: State) -> u64
     ensures { λ r. ⌜ r ≡ finishRefusal s ⌝ }
 {
     if !sound(s) {
-        return 10;
+        return reading::STATE;
     }
     if s.opened != 0 {
-        return 12;
+        return reading::STILL_OPEN;
     }
     0
 }
 
-// Where the message starts. Refusals, all at 0: 10, 12 where a field is open.
+// Finishes a message: returns the offset at which it starts. Refusals, all at place 0: STATE, STILL_OPEN.
 pub fn finish(s: State) -> Finished
     ensures { λ r. ⌜ r ≡ finished s ⌝ }
 {
-    let no = finish_refusal(s);
-    if no != 0 {
+    let refusal = finish_refusal(s);
+    if refusal != 0 {
         return Finished {
-            refusal: no,
+            refusal,
             place: 0,
             start: 0,
             state: s,

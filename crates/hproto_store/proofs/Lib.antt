@@ -3,4 +3,4 @@ pub mod Sets
 pub mod Stores
 pub mod Moves
 pub mod Kept
-pub mod Turns
+pub mod StoreLoops

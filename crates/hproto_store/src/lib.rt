@@ -1,5 +1,5 @@
-// Storing octets into a lent buffer, and moving octets up in it. What does not fit is not stored, so that no call reaches beyond the
-// buffer whatever it is given.
+// Storing octets into a lent buffer, and moving octets towards its end. Octets that do not fit are not stored, so that no call reaches
+// beyond the buffer.
 ghost use mathlib.Core.Path.{_≡_};
 ghost use Prim.Native.Nat.{_+_, _≤_};
 ghost use lib.Dec.{leb};
@@ -7,7 +7,7 @@ ghost use lib.ListN.{length as length-of, take};
 ghost use Rattle.hproto_store.specs.Store.{stored};
 ghost use Rattle.hproto_store.specs.internal.Moved.{moved};
 
-// Whether n octets from `at` on lie within `len`. The sum of the two could be out of range, so n is compared with what is left.
+// Returns whether n octets at offset `at` lie within `len`. The sum could overflow, so n is compared with the difference.
 pub fn has_room(len: usize, at: usize, n: usize) -> bool
     ensures { λ r. ⌜ r ≡ leb (at + n) len ⌝ }
 {
@@ -17,7 +17,7 @@ pub fn has_room(len: usize, at: usize, n: usize) -> bool
     n <= len - at
 }
 
-// Stores the first n octets of s.
+// Stores the first n octets of s at offset `at`.
 fn copy(out: &mut [u8], at: usize, s: &[u8], n: usize)
     requires { ⌜ at + n ≤ length-of (now out) ⌝ }
     requires { ⌜ n ≤ length-of (now s) ⌝ }
@@ -30,8 +30,8 @@ fn copy(out: &mut [u8], at: usize, s: &[u8], n: usize)
     }
 }
 
-// Stores a block of at most 8,192 octets. An array between the two buffers lets the compiler see that they do not overlap: both copies
-// together become one call of memmove, and the array is left out. A longer array would take the prover longer.
+// Stores a block of at most 8,192 octets. An array between the two buffers lets the compiler see that they do not overlap: it turns
+// the two copies into one call of memmove and drops the array. A longer array would take the prover longer.
 fn put_block(out: &mut [u8], at: usize, s: &[u8])
     requires { ⌜ at + length-of (now s) ≤ length-of (now out) ⌝ }
     requires { ⌜ length-of (now s) ≤ 8192 ⌝ }
@@ -43,8 +43,8 @@ fn put_block(out: &mut [u8], at: usize, s: &[u8])
     copy(out, at, &kept, n);
 }
 
-// Stores octets as they are. Up to 8,192 are one block and need no loop. More are stored block by block, from the back as in `move_up`;
-// the first `left` octets have yet to be stored.
+// Stores octets at offset `at`. Up to 8,192 are one block and need no loop. More are stored block by block, the last block first as in
+// `move_up`; the first `remaining` octets are still to be stored.
 pub fn put_octets(out: &mut [u8], at: usize, s: &[u8])
     ensures { λ _. ⌜ now (out .exit) ≡ stored (now (out .entry)) at (now (s .entry)) ⌝ }
 {
@@ -54,16 +54,16 @@ pub fn put_octets(out: &mut [u8], at: usize, s: &[u8])
             put_block(out, at, s);
             return;
         }
-        let mut left = n;
-        while 0 < left {
-            let k = numbers::smaller(left, 8192);
-            left -= k;
-            put_block(out, at + left, &s[left..left + k]);
+        let mut remaining = n;
+        while 0 < remaining {
+            let k = numbers::smaller(remaining, 8192);
+            remaining -= k;
+            put_block(out, at + remaining, &s[remaining..remaining + k]);
         }
     }
 }
 
-// Stores a block of the buffer again, further up, by an array between as above.
+// Copies a block of the buffer `by` octets towards its end, through an array as in `put_block`.
 fn move_block(out: &mut [u8], at: usize, n: usize, by: usize)
     requires { ⌜ at + n + by ≤ length-of (now out) ⌝ }
     requires { ⌜ n ≤ 8192 ⌝ }
@@ -74,18 +74,18 @@ fn move_block(out: &mut [u8], at: usize, n: usize, by: usize)
     copy(out, at + by, &kept, n);
 }
 
-// Stores n octets of the buffer again, further up, block by block. The last block moves first, so that each is read before another takes
-// its place; the first `left` octets have yet to be moved.
+// Copies n octets of the buffer `by` octets towards its end, block by block. The last block is copied first, so that each block is read
+// before another overwrites it; the first `remaining` octets are still to be copied.
 pub fn move_up(out: &mut [u8], at: usize, n: usize, by: usize)
     ensures { λ _. ⌜ now (out .exit) ≡ moved (now (out .entry)) at n by ⌝ }
 {
     if has_room(out.len(), at, n) {
         if has_room(out.len(), at + n, by) {
-            let mut left = n;
-            while 0 < left {
-                let k = numbers::smaller(left, 8192);
-                left -= k;
-                move_block(out, at + left, k, by);
+            let mut remaining = n;
+            while 0 < remaining {
+                let k = numbers::smaller(remaining, 8192);
+                remaining -= k;
+                move_block(out, at + remaining, k, by);
             }
         }
     }

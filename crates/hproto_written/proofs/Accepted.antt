@@ -14,7 +14,7 @@ use Rattle.hproto_table.specs.declared.Meaning.{Meaning}
 use Rattle.hproto_table.specs.declared.Table.{Table}
 use Rattle.hproto_message.specs.Tree.{Tree, end, leaf, Value, uint, int}
 use Rattle.hproto_message.specs.Shortest.{field, shortest}
-use Rattle.hproto_state.specs.Calls.{answered, bufferAfter, meant, ofOctets, readable, started, put, putBuffer, putRefusal, opening, closing, closeBuffer, closingPart}
+use Rattle.hproto_state.specs.Calls.{callResult, bufferAfter, meant, ofOctets, readable, started, put, putBuffer, putRefusal, opening, closing, closeBuffer, closingPart}
 use Rattle.hproto_state.specs.declared.State.{State}
 use Rattle.hproto_state.proofs.Conditions.{start-met, put-met, open-met, close-room}
 use Rattle.hproto_message.proofs.Fields.{field-length}
@@ -31,7 +31,7 @@ use Rattle.hproto_written.proofs.Moves.{reached-begun, reached-stored, 
 
 reached-start : (t : Table) (number : ℕ) (lent : List ℕ) → started t number (length lent) .refusal ≡ 0
     → Reached t number lent (started t number (length lent) .state) lent (message end)
-unfolding started answered
+unfolding started callResult
 reached-start t number lent e =
     let m = start-met t number (length lent) e in
     rw e (reached-begun t number lent (m .table) (m .small) (m .short))
@@ -43,7 +43,7 @@ module _ (t : Table) (number : ℕ) (lent : List ℕ) (s : State) (d : List ℕ)
 
     reached-put : (agrees reads : Bool) (xs : List ℕ) (v : Value) → Suits means v xs → putRefusal t s (length d) agrees reads (length (field tag xs)) ≡ 0
         → Reached t number lent (put t s tag agrees reads xs (length d) .state) (putBuffer t s tag agrees reads xs d) (onFields (leaf tag v) g)
-    unfolding put putBuffer answered bufferAfter
+    unfolding put putBuffer callResult bufferAfter
     reached-put agrees reads xs v f e =
         let h = put-met t s (length d) agrees reads (length (field tag xs)) e .room in
         let l = field-length tag xs in
@@ -62,7 +62,7 @@ module _ (t : Table) (number : ℕ) (lent : List ℕ) (s : State) (d : List ℕ)
     by-given test e = sym (ap test (reached-meant t number lent s d g r tag)) ∙ e
 
     reached-open : opening t s tag .refusal ≡ 0 → Reached t number lent (opening t s tag .state) d (opened tag end g)
-    unfolding opening answered
+    unfolding opening callResult
     reached-open e =
         let agrees = eqb (kindNumber (meant t s tag)) 5 in
         let x = open-met t s agrees e in
@@ -77,7 +77,7 @@ module _ (t : Table) (number : ℕ) (lent : List ℕ) (s : State) (d : List ℕ)
 
   reached-close : (g : Given) → Reached t number lent s d g → closing t s (length d) .refusal ≡ 0
       → Reached t number lent (closing t s (length d) .state) (closeBuffer t s d) (closed g)
-  unfolding closing closeBuffer answered bufferAfter closed openFields
+  unfolding closing closeBuffer callResult bufferAfter closed openFields
   reached-close (message w) r e =
       let h = close-room t s (length d) e .0 .some-open in
       let c = r .count in
@@ -88,7 +88,7 @@ module _ (t : Table) (number : ℕ) (lent : List ℕ) (s : State) (d : List ℕ)
   -- An accepted call keeps what holds of the state and the buffer.
   reached-next : (g : Given) → Reached t number lent s d g → (c : Call) → InRange c → answer t s d c .refusal ≡ 0
       → Reached t number lent (answer t s d c .state) (buffer t s d c) (giving t number c g)
-  unfolding InRange answer buffer kindIn giving put answered
+  unfolding InRange answer buffer kindIn giving put callResult
   reached-next g r (putUint tag v) h e =
       let agrees = eqb (kindNumber (meant t s tag)) 1 in
       let m = put-met t s (length d) agrees true (length (field tag (leastUint v))) e in

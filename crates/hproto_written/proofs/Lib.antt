@@ -2,7 +2,7 @@ pub mod ReadsBack
 pub mod Tables
 pub mod Falling
 pub mod Fields
-pub mod Noted
+pub mod Levels
 pub mod Buffer
 pub mod Reached
 pub mod Moves
@@ -13,4 +13,4 @@ pub mod Refused
 pub mod Unchanged
 pub mod Zeros
 pub mod Demand2
-pub mod Writing
+pub mod EveryTreeWritten

@@ -21,13 +21,13 @@ use Rattle.hproto_written.specs.Given.{Given, message, opened, onFields,
 use Rattle.hproto_written.specs.Written.{written}
 use Rattle.hproto_written.proofs.ReadsBack.{ReadsBack, reads-end, reads-nested}
 use Rattle.hproto_written.proofs.Fields.{AllRead, same-open, opened-innermost, written-before, read-more, read-opened}
-use Rattle.hproto_written.proofs.Noted.{Noted, noted-more, noted-opened}
+use Rattle.hproto_written.proofs.Levels.{LevelsAgree, levels-more, levels-opened}
 use Rattle.hproto_written.proofs.Buffer.{Filled, not-filled, filled-before}
 use Rattle.hproto_written.proofs.Reached.{Reached}
 
 pub reached-begun : (t : Table) (number : ℕ) (lent : List ℕ) → valid t ≡ true → number ≤ 15 → length lent ≤ messageLimit
     → Reached t number lent (begun (length lent) number) lent (message end)
-unfolding begun written openFields Noted AllRead shortest
+unfolding begun written openFields LevelsAgree AllRead shortest
 reached-begun t number lent v k h =
     record {
       good-table = v;
@@ -38,7 +38,7 @@ reached-begun t number lent v k h =
       count = refl;
       few = omega arith;
       filled = not-filled lent;
-      noted = refl;
+      levels = refl;
       reads = reads-end (schema t) 8 number (omega arith);
     }
 
@@ -63,7 +63,7 @@ module _ (t : Table) (number : ℕ) (lent : List ℕ) (s : State) (d : List ℕ)
         filled =
             subst (Filled lent (stored d (s .start - length xs) xs) (s .start - length xs)) (sym (written-before xs f e g))
             (filled-before lent d (s .start) (written g) xs (r .filled) h);
-        noted = noted-more t number (length lent) (s .numbers) (s .marks) (s .tags) f g (r .noted);
+        levels = levels-more t number (length lent) (s .numbers) (s .marks) (s .tags) f g (r .levels);
         reads = reads;
       }
 
@@ -91,31 +91,31 @@ module _ (t : Table) (number : ℕ) (lent : List ℕ) (s : State) (d : List ℕ)
         count = unfold openFields in omega arith;
         few = unfold openFields in omega arith;
         filled = unfold written shortest in r .filled;
-        noted =
+        levels =
             rw (o, add-one (openFields g), ← i)
-            (noted-opened t number (length lent) (s .numbers) (s .marks) (s .tags) tag (s .start) g (omega arith) (omega arith) (omega arith)
-            (r .filled .place) (r .noted));
+            (levels-opened t number (length lent) (s .numbers) (s .marks) (s .tags) tag (s .start) g (omega arith) (omega arith) (omega arith)
+            (r .filled .place) (r .levels));
         reads = read-opened (schema t) number tag g h m e k (r .reads);
       }
 
   module _ (tag : ℕ) (w : Tree) (around : Given) (r : Reached t number lent s d (opened tag w around)) where
     -- The control part that a close stores is that of the innermost open field.
     pub closing-part : closingPart s ≡ leastControl tag (length (shortest w))
-    unfolding closingPart written openFields Noted
+    unfolding closingPart written openFields LevelsAgree
     closing-part =
         let k = openFields around in
         let o = r .count in
         let i : s .opened - 1 ≡ k = omega arith in
-        let n = r .noted .0 in
+        let n = r .levels .0 in
         let p = r .filled .place in
-        let q = n .mark-noted in
+        let q = n .mark-agrees in
         let l = length-append (shortest w) (written around) in
         let e : getD (s .marks) k 0 - s .start ≡ length (shortest w) = omega arith in
-        rw (i, n .tag-noted, e) refl
+        rw (i, n .tag-agrees, e) refl
 
     pub reached-outer : (part : List ℕ) → part ≡ leastControl tag (length (shortest w)) → length part ≤ s .start
         → Reached t number lent (outer (back s (length part))) (stored d (s .start - length part) part) (onFields (nested tag w) around)
-    unfolding outer back written openFields Noted AllRead
+    unfolding outer back written openFields LevelsAgree AllRead
     reached-outer part e h =
         let sc = schema t in
         let f : Tree → Tree = nested tag w in
@@ -143,7 +143,7 @@ module _ (t : Table) (number : ℕ) (lent : List ℕ) (s : State) (d : List ℕ)
           filled =
               subst (Filled lent (stored d (s .start - length part) part) (s .start - length part)) all
               (filled-before lent d (s .start) (shortest w ++ written around) part (r .filled) h);
-          noted = noted-more t number (length lent) (s .numbers) (s .marks) (s .tags) f around (r .noted .1);
+          levels = levels-more t number (length lent) (s .numbers) (s .marks) (s .tags) f around (r .levels .1);
           reads =
               read-more sc number f around
               (λ (u : Tree) (later : ReadsBack sc (8 - openFields around) n u).

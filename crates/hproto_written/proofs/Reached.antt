@@ -20,7 +20,7 @@ use Rattle.hproto_state.proofs.Tags.{level-in}
 use Rattle.hproto_written.specs.Given.{Given, openFields, innermost}
 use Rattle.hproto_written.specs.Written.{written}
 use Rattle.hproto_written.proofs.Fields.{AllRead}
-use Rattle.hproto_written.proofs.Noted.{Noted, noted-number, noted-fall, noted-small}
+use Rattle.hproto_written.proofs.Levels.{LevelsAgree, levels-number, levels-fall, levels-small}
 use Rattle.hproto_written.proofs.Buffer.{Filled}
 
 -- How many levels a state has slots for.
@@ -39,14 +39,14 @@ pub record Reached (t : Table) (number : ℕ) (lent : List ℕ) (s : State) (d :
   pub count : s .opened ≡ openFields g
   pub few : openFields g ≤ 7
   pub filled : Filled lent d (s .start) (written g)
-  pub noted : Noted t number (length lent) (s .numbers) (s .marks) (s .tags) g
+  pub levels : LevelsAgree t number (length lent) (s .numbers) (s .marks) (s .tags) g
   pub reads : AllRead (schema t) number g
 
 module _ (t : Table) (number : ℕ) (lent : List ℕ) (s : State) (d : List ℕ) (g : Given) (r : Reached t number lent s d g) where
   pub reached-sound : sound s ≡ true
   unfolding sound
   reached-sound =
-      let n = r .noted in
+      let n = r .levels in
       let k = r .few in
       let p = r .filled .place in
       let a = leb (s .length) 65536 in
@@ -59,9 +59,9 @@ module _ (t : Table) (number : ℕ) (lent : List ℕ) (s : State) (d : List ℕ)
       let o = r .count in
       let i = r .slots .number-slots in
       let j = r .slots .mark-slots in
-      let fall : e ≡ true = rw (z, o) (noted-fall t number (length lent) (s .numbers) (s .marks) (s .tags) g (s .start) (omega arith) p n) in
+      let fall : e ≡ true = rw (z, o) (levels-fall t number (length lent) (s .numbers) (s .marks) (s .tags) g (s .start) (omega arith) p n) in
       let smalls : f ≡ true =
-      rw (o, add-one (openFields g)) (noted-small t number (length lent) (s .numbers) (s .marks) (s .tags) (r .good-table) (r .good-number) g (omega arith) n) in
+      rw (o, add-one (openFields g)) (levels-small t number (length lent) (s .numbers) (s .marks) (s .tags) (r .good-table) (r .good-number) g (omega arith) n) in
       and-both (a && b && c && e) f
       (and-both (a && b && c) e
       (and-both (a && b) c
@@ -76,7 +76,7 @@ module _ (t : Table) (number : ℕ) (lent : List ℕ) (s : State) (d : List ℕ)
       let k = r .few in
       let o = r .count in
       sym (level-in s (omega arith)) ∙ ap (λ (i : ℕ). getD (s .numbers) i 0) o
-      ∙ noted-number t number (length lent) (s .numbers) (s .marks) (s .tags) g (r .noted)
+      ∙ levels-number t number (length lent) (s .numbers) (s .marks) (s .tags) g (r .levels)
 
   pub reached-meant : (tag : ℕ) → meant t s tag ≡ schema t .means (innermost (schema t) number g) tag
   unfolding meant

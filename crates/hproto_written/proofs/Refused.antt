@@ -15,8 +15,8 @@ use Rattle.reading.specs.Reading.{messageLimit}
 use Rattle.hproto_table.specs.Valid.{valid}
 use Rattle.hproto_table.specs.declared.Table.{Table}
 use Rattle.hproto_message.specs.Shortest.{field, shortest}
-use Rattle.hproto_store.proofs.Room.{left-enough}
-use Rattle.hproto_state.specs.Calls.{orRefuse, answered, meant, ofOctets, readable, put, putRefusal, opening, closing, closeRefusal, startRefusal, started, finished}
+use Rattle.hproto_store.proofs.Room.{fits-after}
+use Rattle.hproto_state.specs.Calls.{orRefuse, callResult, meant, ofOctets, readable, put, putRefusal, opening, closing, closeRefusal, startRefusal, started, finished}
 use Rattle.hproto_state.specs.declared.State.{State}
 use Rattle.hproto_written.specs.Given.{Given, message, opened, openFields}
 use Rattle.hproto_written.specs.Written.{written}
@@ -31,7 +31,7 @@ use Rattle.hproto_written.proofs.Accepted.{run-reached}
 use Rattle.hproto_table.specs.Entry.{kindNumber}
 
 pub start-refused : (t : Table) (number len : ℕ) → started t number len .refusal ≡ refusalOfStart t number len
-unfolding started answered startRefusal orRefuse refusalOfStart
+unfolding started callResult startRefusal orRefuse refusalOfStart
 start-refused t number len = go (valid t)
   where
     go : (b : Bool)
@@ -59,7 +59,7 @@ module _ (t : Table) (number : ℕ) (lent : List ℕ) (s : State) (d : List ℕ)
     room-decided size =
         let p = r .filled .place in
         let e : s .start ≡ length lent - length (written g) = omega arith in
-        ap (λ (b : Bool). cond b 0 9) (ap (leb size) e ∙ left-enough (length lent) (length (written g)) size (omega arith))
+        ap (λ (b : Bool). cond b 0 9) (ap (leb size) e ∙ fits-after (length lent) (length (written g)) size (omega arith))
 
     kind-decided : (tag : ℕ) → kindNumber (meant t s tag) ≡ kindIn t number g tag
     unfolding kindIn
@@ -81,7 +81,7 @@ module _ (t : Table) (number : ℕ) (lent : List ℕ) (s : State) (d : List ℕ)
       (room-decided (opened tag w around) r (length (leastControl tag (length (shortest w)))))
 
   call-refused : (g : Given) → Reached t number lent s d g → (c : Call) → answer t s d c .refusal ≡ refusalOfCall t number (length lent) g c
-  unfolding answer refusalOfCall put opening closing answered orRefuse
+  unfolding answer refusalOfCall put opening closing callResult orRefuse
   call-refused g r (putUint tag v) =
       put-refused g r (eqb (kindNumber (meant t s tag)) 1) true (length (field tag (leastUint v))) ∙ rw (kind-decided g r tag) refl
   call-refused g r (putInt tag z) =

@@ -11,7 +11,7 @@ use Rattle.octets.specs.Number.{leastUint}
 use Rattle.octets.specs.Signed.{leastInt}
 use Rattle.hproto_table.specs.declared.Table.{Table}
 use Rattle.hproto_message.specs.Shortest.{field}
-use Rattle.hproto_state.specs.Calls.{answered, bufferAfter, meant, ofOctets, readable, put, putBuffer, putRefusal, opening, openRefusal, closing, closeBuffer, closeRefusal, finished}
+use Rattle.hproto_state.specs.Calls.{callResult, bufferAfter, meant, ofOctets, readable, put, putBuffer, putRefusal, opening, openRefusal, closing, closeBuffer, closeRefusal, finished}
 use Rattle.hproto_state.specs.declared.State.{State}
 use Rattle.hproto_state.specs.Call.{Call, putUint, putInt, putOctets, openField, closeField}
 use Rattle.hproto_state.specs.Answer.{answer, buffer, writer}
@@ -21,13 +21,13 @@ use Rattle.hproto_written.specs.Unchanged.{Unchanged}
 module _ (t : Table) (s : State) (d : List ℕ) where
   put-unchanged : (tag : ℕ) (agrees reads : Bool) (xs : List ℕ) → (put t s tag agrees reads xs (length d) .refusal ≡ 0 → ⊥)
       → (put t s tag agrees reads xs (length d) .state ≡ s) × (putBuffer t s tag agrees reads xs d ≡ d)
-  unfolding put putBuffer answered bufferAfter
+  unfolding put putBuffer callResult bufferAfter
   put-unchanged tag agrees reads xs ne =
       let e = ne-eqb (putRefusal t s (length d) agrees reads (length (field tag xs))) 0 ne in
       (rw e refl, rw e refl)
 
   pub refused-unchanged : (c : Call) → (answer t s d c .refusal ≡ 0 → ⊥) → Unchanged writer t s d c
-  unfolding answer buffer opening closing closeBuffer answered bufferAfter
+  unfolding answer buffer opening closing closeBuffer callResult bufferAfter
   refused-unchanged (putUint tag v) ne =
       let u = put-unchanged tag (eqb (kindNumber (meant t s tag)) 1) true (leastUint v) ne in
       record { same-state = u .0; same-buffer = u .1 }

@@ -6,12 +6,12 @@ use borrow.Author.Tests.{ne-eqb}
 use Rattle.hproto_table.specs.declared.Table.{Table}
 use Rattle.hproto_state.specs.Call.{Call, putUint, putInt, putOctets, openField, closeField}
 use Rattle.hproto_state.specs.Answer.{answer, writer}
-use Rattle.hproto_state.specs.Calls.{answered, put, opening, closing, startRefusal, begun, started, finishRefusal, finished}
+use Rattle.hproto_state.specs.Calls.{callResult, put, opening, closing, startRefusal, begun, started, finishRefusal, finished}
 use Rattle.hproto_state.specs.declared.State.{State}
 use Rattle.hproto_written.specs.Zeros.{noState, Zeros}
 
 call-place : (t : Table) (s : State) (d : List ℕ) (c : Call) → answer t s d c .place ≡ 0
-unfolding answer put opening closing answered
+unfolding answer put opening closing callResult
 call-place t s d (putUint tag v) = refl
 call-place t s d (putInt tag z) = refl
 call-place t s d (putOctets tag xs) = refl
@@ -19,7 +19,7 @@ call-place t s d (openField tag) = refl
 call-place t s d closeField = refl
 
 start-zeros : (t : Table) (number len : ℕ) → (started t number len .refusal ≡ 0 → ⊥) → started t number len .state ≡ noState
-unfolding started answered begun
+unfolding started callResult begun
 start-zeros t number len ne = rw (ne-eqb (startRefusal t number len) 0 ne) refl
 
 finish-zero : (s : State) → (finished s .refusal ≡ 0 → ⊥) → finished s .start ≡ 0
@@ -27,7 +27,7 @@ unfolding finished
 finish-zero s ne = rw (ne-eqb (finishRefusal s) 0 ne) refl
 
 pub zeros : Zeros writer
-unfolding started answered finished
+unfolding started callResult finished
 zeros =
     record {
       start-place = λ t number len. refl;

@@ -1,4 +1,4 @@
--- The trees that can be written. proofs/Writing.antt shows that each of them that is at most 8 deep, and for whose shortest form the
+-- The trees that can be written. proofs/EveryTreeWritten.antt shows that each of them that is at most 8 deep, and for whose shortest form the
 -- lent buffer has room, is written by a run of any writer that meets Demand2Holds: none of its calls is refused.
 use Prim.Native.Nat.{ℕ, _^_, _<_}
 use mathlib.Core.Path.{_≡_}

@@ -1,2 +1,2 @@
-// What the writer's calls come to together: the message that a run of accepted calls leaves reads back as the fields given. This crate
-// has definitions (specs/) and laws (proofs/) only; the calls are those of hproto_state, hproto_puts and hproto_nesting.
+// Demand 2: the message that a run of accepted writer calls leaves in the buffer reads back as the fields that were given. This crate has
+// definitions (specs/) and laws (proofs/) only. The calls are those of hproto_state, hproto_puts and hproto_nesting.

@@ -79,7 +79,7 @@ hproto = Unit {0}
 unfoldable pub writer : Type 0
 unfolding hproto writing.stateFits writing.startFits writing.intFits writing.Value writing.valueFits writing.putFits writing.openFits
     writing.closeFits writing.start writing.callOf writing.put writing.openField writing.closeField writing.finish writing.soundState writes.answer
-    writes.buffer calls.orRefuse calls.answered calls.bufferAfter calls.level calls.meant calls.back calls.startRefusal calls.begun calls.started
+    writes.buffer calls.orRefuse calls.callResult calls.bufferAfter calls.level calls.meant calls.back calls.startRefusal calls.begun calls.started
     calls.putRefusal calls.put calls.putBuffer calls.ofOctets calls.readable calls.openRefusal calls.deeper calls.opening calls.closingPart
     calls.closeEarly calls.closeRefusal calls.outer calls.closing calls.closeBuffer calls.finishRefusal calls.finished sounds.falling sounds.small
     sounds.sound signs.leastInt signs.signedWidth signs.signedBits

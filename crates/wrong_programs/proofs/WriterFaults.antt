@@ -59,7 +59,7 @@ module _ (p : Put) where
   size x = length (x .value .buffer)
 
 put-passed : (p : Put) (x : PutCall p) → outcome-refusal (put p x) ≡ 0 → Passed (table p x) (state p x) (size p x)
-unfolding put writing.callOf writing.Value writes.answer calls.put calls.answered calls.putRefusal
+unfolding put writing.callOf writing.Value writes.answer calls.put calls.callResult calls.putRefusal
 put-passed uint x e = passed (table uint x) (state uint x) (size uint x) _ e
 put-passed int x e = passed (table int x) (state int x) (size int x) _ e
 put-passed octets x e = passed (table octets x) (state octets x) (size octets x) _ e
@@ -95,7 +95,7 @@ abbrev close-size : CloseCall → ℕ
 close-size x = length (x .value .buffer)
 
 close-passed : (x : CloseCall) → outcome-refusal (closeField x) ≡ 0 → Passed (close-table x) (close-state x) (close-size x)
-unfolding closeField writes.answer calls.closing calls.answered calls.closeRefusal calls.closeEarly
+unfolding closeField writes.answer calls.closing calls.callResult calls.closeRefusal calls.closeEarly
 close-passed x e = passed (close-table x) (close-state x) (close-size x) _ e
 
 pub close-accepts-bad-table : BadTableRuledOut closeField outcome-refusal close-table
@@ -125,7 +125,7 @@ abbrev open-state : OpenCall → State
 open-state x = x .value .state
 
 open-passed : (x : OpenCall) → refusal (openField x) ≡ 0 → (sound (open-state x) ≡ true) × (valid (open-table x) ≡ true)
-unfolding openField writes.answer calls.opening calls.answered calls.openRefusal
+unfolding openField writes.answer calls.opening calls.callResult calls.openRefusal
 open-passed x e = state-and-table (open-table x) (open-state x) _ e
 
 pub open-accepts-bad-table : BadTableRuledOut openField refusal open-table
@@ -160,7 +160,7 @@ sound-accepts-bad-state =
 
 module _ (x : StartCall) where
   start-passed : refusal (start x) ≡ 0 → StartMet (x .value .table) (x .value .number) (length (x .value .buffer))
-  unfolding start calls.started calls.answered
+  unfolding start calls.started calls.callResult
   start-passed e = start-met (x .value .table) (x .value .number) (length (x .value .buffer)) e
 
 pub start-accepts-bad-table : BadTableRuledOut start refusal (λ (x : StartCall). x .value .table)

@@ -7,7 +7,7 @@ use Rattle.hproto_table.specs.Entry.{kindNumber, innerOf}
 use Rattle.hproto_state.specs.Answer.{answer}
 use Rattle.hproto_state.specs.Calls.{orRefuse, meant, opening, openRefusal, deeper}
 use Rattle.hproto_state.specs.internal.Tags.{fits}
-use Rattle.hproto_state.proofs.Answers.{refused-answer, accepted-answer}
+use Rattle.hproto_state.proofs.CallResults.{refused-result, accepted-result}
 use Rattle.hproto_state.proofs.TagKinds.{open-kept, open-rest, tag-read, tag-narrow}
 use borrow.Author.Needs.{needs}
 use Rattle.hproto_nesting.proofs.open_field.Statement.{statement}
@@ -23,7 +23,7 @@ returns c =
     let k = c .before .before .tag-kind in
     let r = tag-read (a .t) (a .s) (a .s .length) (a .tag) 5 (k .ensures) in
     let m = meant (a .t) (a .s) (a .tag) in
-    refused-answer (k .result .refusal) (openRefusal (a .t) (a .s) (eqb (kindNumber m) 5)) (a .s) (deeper (a .s) (a .tag) (innerOf m)) (a .s) (open-kept (a .t) (a .s) (eqb (kindNumber m) 5) (k .result .refusal) (r .refused) (c .if1 .taken)) (c .if1 .taken) refl
+    refused-result (k .result .refusal) (openRefusal (a .t) (a .s) (eqb (kindNumber m) 5)) (a .s) (deeper (a .s) (a .tag) (innerOf m)) (a .s) (open-kept (a .t) (a .s) (eqb (kindNumber m) 5) (k .result .refusal) (r .refused) (c .if1 .taken)) (c .if1 .taken) refl
 
 returns-2 : tie.Need-returns-2
 unfolding answer opening fits orRefuse
@@ -33,7 +33,7 @@ returns-2 c =
     let r = tag-read (a .t) (a .s) (a .s .length) (a .tag) 5 (k .ensures) in
     let m = meant (a .t) (a .s) (a .tag) in
     let e = open-rest (a .t) (a .s) (eqb (kindNumber m) 5) (k .result .refusal) (r .refused) (c .before .before .if1 .left) in
-    refused-answer 5 (openRefusal (a .t) (a .s) (eqb (kindNumber m) 5)) (a .s) (deeper (a .s) (a .tag) (innerOf m)) (a .s) (sym (e ∙ rw (lt-leb (a .s .opened) 6 (c .if2 .taken)) refl)) (λ z. omega arith) refl
+    refused-result 5 (openRefusal (a .t) (a .s) (eqb (kindNumber m) 5)) (a .s) (deeper (a .s) (a .tag) (innerOf m)) (a .s) (sym (e ∙ rw (lt-leb (a .s .opened) 6 (c .if2 .taken)) refl)) (λ z. omega arith) refl
 
 add-after : tie.Need-add-after
 add-after c = search needs
@@ -75,7 +75,7 @@ returns-3 c =
     let m = meant (a .t) (a .s) (a .tag) in
     let z = c .before .before .if1 .left in
     let e = open-rest (a .t) (a .s) (eqb (kindNumber m) 5) (k .result .refusal) (r .refused) z in
-    accepted-answer (openRefusal (a .t) (a .s) (eqb (kindNumber m) 5)) (a .s) (deeper (a .s) (a .tag) (innerOf m)) (deeper (a .s) (a .tag) (k .result .inner)) (e ∙ rw (le-leb (a .s .opened) 6 (c .if2 .left)) refl) (rw (r .inner z) refl)
+    accepted-result (openRefusal (a .t) (a .s) (eqb (kindNumber m) 5)) (a .s) (deeper (a .s) (a .tag) (innerOf m)) (deeper (a .s) (a .tag) (k .result .inner)) (e ∙ rw (le-leb (a .s .opened) 6 (c .if2 .left)) refl) (rw (r .inner z) refl)
 
 pub open-field-spec : {M : Type 1} → statement M
 open-field-spec =

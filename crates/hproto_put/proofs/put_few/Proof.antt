@@ -2,8 +2,8 @@
 use Prim.Native.Nat.{_-_}
 use native.Mathlib.Omega.{arith}
 use Rattle.octets.specs.Number.{octetsOf}
-use Rattle.hproto_store.proofs.Turns.{CopiedUp}
-use Rattle.hproto_put.proofs.Digits.{few-begun, few-turn, few-ended}
+use Rattle.hproto_store.proofs.StoreLoops.{CopiedUp}
+use Rattle.hproto_put.proofs.Digits.{few-begun, few-step, few-ended}
 use Rattle.hproto_put.proofs.put_few.Statement.{statement}
 use Rattle.hproto_put.proofs.put_few.Tie as tie
 
@@ -47,7 +47,7 @@ loop-again : tie.Need-loop-again Inv-loop μ-loop
 loop-again c =
     let a = c .before .before .args in
     let l = c .before .loop in
-    few-turn (a .out .now) (a .at) (a .n) (a .v) (l .out) (l .k) (c .loop-test .taken) (l .inv)
+    few-step (a .out .now) (a .at) (a .n) (a .v) (l .out) (l .k) (c .loop-test .taken) (l .inv)
 
 same-length : tie.Need-same-length Inv-loop μ-loop
 same-length c = c .before .loop .inv .long

@@ -1,7 +1,7 @@
 -- `hproto_put::put_many` meets its contract: at each turn the last octets of the number are stored.
 use Prim.Native.Nat.{_-_}
 use native.Mathlib.Omega.{arith}
-use Rattle.hproto_put.proofs.Digits.{NumberDown, number-begun, number-turn, number-ended}
+use Rattle.hproto_put.proofs.Digits.{NumberDown, number-begun, number-step, number-ended}
 use Rattle.hproto_put.proofs.put_many.Statement.{statement}
 use Rattle.hproto_put.proofs.put_many.Tie as tie
 
@@ -36,7 +36,7 @@ loop-again : tie.Need-loop-again Inv-loop μ-loop
 loop-again c =
     let a = c .before .before .args in
     let l = c .before .loop in
-    number-turn (a .out .now) (a .at) (a .n) (a .v) (l .out) (l .rest) (l .k) (c .loop-test .taken) (l .inv)
+    number-step (a .out .now) (a .at) (a .n) (a .v) (l .out) (l .rest) (l .k) (c .loop-test .taken) (l .inv)
 
 same-length : tie.Need-same-length Inv-loop μ-loop
 same-length c = c .before .loop .inv .long

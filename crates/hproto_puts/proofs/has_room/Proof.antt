@@ -2,7 +2,7 @@
 use native.Mathlib.Omega.{arith}
 use lib.ListN.{length}
 use Rattle.octets.specs.Control.{leastControl}
-use Rattle.hproto_puts.proofs.Room.{room-none, room-left}
+use Rattle.hproto_puts.proofs.Room.{room-none, room-beside}
 use borrow.Author.Needs.{needs}
 use Rattle.hproto_puts.proofs.has_room.Statement.{statement}
 use Rattle.hproto_puts.proofs.has_room.Tie as tie
@@ -18,7 +18,7 @@ control-size-requires c κs = search needs
 returns-2 : tie.Need-returns-2
 returns-2 c =
     let a = c .before .before .args in
-    room-left (c .control-size .result) (length (leastControl (a .tag) (a .n))) (a .n) (a .free) (c .control-size .ensures) (omega arith)
+    room-beside (c .control-size .result) (length (leastControl (a .tag) (a .n))) (a .n) (a .free) (c .control-size .ensures) (omega arith)
 
 pub has-room-spec : {M : Type 1} → statement M
 has-room-spec = tie.close (tie.spec returns control-size-requires returns-2)

@@ -15,8 +15,8 @@ use Rattle.hproto_state.specs.internal.Tags.{fits}
 use Rattle.hproto_state.proofs.Conditions.{put-met}
 use Rattle.hproto_state.proofs.SoundStates.{sound-within}
 use Rattle.hproto_state.proofs.TagKinds.{put-kept, tag-read, tag-narrow}
-use Rattle.hproto_puts.proofs.Answers.{put-refused, put-accepted}
-use Rattle.hproto_puts.proofs.Refusals.{put-long, put-taken}
+use Rattle.hproto_puts.proofs.PutResults.{put-refused, put-accepted}
+use Rattle.hproto_puts.proofs.Refusals.{put-long, put-not-refused}
 use borrow.Author.Needs.{needs}
 use Rattle.hproto_puts.proofs.put_least.Statement.{statement}
 use Rattle.hproto_puts.proofs.put_least.Tie as tie
@@ -80,7 +80,7 @@ returns-3 c =
     let h = c .before .before .before .before .before .has-room in
     let n = c .before .before .store-number in
     let p = put-accepted (a .t) (a .s) (a .tag) (fits (a .wanted) (kindNumber (meant (a .t) (a .s) (a .tag)))) true (octetsOf (a .least .width) (a .least .bits)) (now (a .out)) (a .least .width) 0 (n .result) (n .last .0) (sym (length-octetsOf (a .least .width) (a .least .bits)))
-    (put-taken (a .t) (a .s) (length (now (a .out))) (fits (a .wanted) (kindNumber (meant (a .t) (a .s) (a .tag)))) true (length (leastControl (a .tag) (a .least .width)) + a .least .width) (k .result .refusal) (r .refused) (c .before .before .before .before .before .before .if1 .left) refl (sym (not-false (h .result) (c .before .before .before .before .if2 .left)) ∙ h .ensures)) refl (n .ensures) in
+    (put-not-refused (a .t) (a .s) (length (now (a .out))) (fits (a .wanted) (kindNumber (meant (a .t) (a .s) (a .tag)))) true (length (leastControl (a .tag) (a .least .width)) + a .least .width) (k .result .refusal) (r .refused) (c .before .before .before .before .before .before .if1 .left) refl (sym (not-false (h .result) (c .before .before .before .before .if2 .left)) ∙ h .ensures)) refl (n .ensures) in
     (p .answer, p .buffer)
 
 pub put-least-spec : {M : Type 1} → statement M

@@ -14,8 +14,8 @@ use Rattle.hproto_state.specs.internal.Tags.{fits}
 use Rattle.hproto_state.proofs.Conditions.{put-met}
 use Rattle.hproto_state.proofs.SoundStates.{sound-within}
 use Rattle.hproto_state.proofs.TagKinds.{put-kept, tag-read, tag-narrow}
-use Rattle.hproto_puts.proofs.Answers.{put-refused, put-accepted}
-use Rattle.hproto_puts.proofs.Refusals.{put-text, put-long, put-taken}
+use Rattle.hproto_puts.proofs.PutResults.{put-refused, put-accepted}
+use Rattle.hproto_puts.proofs.Refusals.{put-text, put-long, put-not-refused}
 use borrow.Author.Needs.{needs}
 use Rattle.hproto_puts.proofs.put_octets.Statement.{statement}
 use Rattle.hproto_puts.proofs.put_octets.Tie as tie
@@ -101,7 +101,7 @@ returns-4 c =
     let h = c .before .before .before .before .before .has-room in
     let n = c .before .before .store-plain in
     let p = put-accepted (a .t) (a .s) (a .tag) (ofOctets (kindNumber (meant (a .t) (a .s) (a .tag)))) (readable (kindNumber (meant (a .t) (a .s) (a .tag))) (now (a .xs))) (now (a .xs)) (now (a .out)) (length (now (a .xs))) 0 (n .result) (n .last .0) refl
-    (put-taken (a .t) (a .s) (length (now (a .out))) (ofOctets (kindNumber (meant (a .t) (a .s) (a .tag)))) (readable (kindNumber (meant (a .t) (a .s) (a .tag))) (now (a .xs))) (length (leastControl (a .tag) (length (now (a .xs)))) + length (now (a .xs))) (k .result .refusal) (r .refused) (c .before .before .before .before .before .before .before .before .if1 .left) (sym y ∙ not-false (x .result) (c .before .before .before .before .before .before .if2 .left)) (sym (not-false (h .result) (c .before .before .before .before .if3 .left)) ∙ h .ensures)) refl (n .ensures) in
+    (put-not-refused (a .t) (a .s) (length (now (a .out))) (ofOctets (kindNumber (meant (a .t) (a .s) (a .tag)))) (readable (kindNumber (meant (a .t) (a .s) (a .tag))) (now (a .xs))) (length (leastControl (a .tag) (length (now (a .xs)))) + length (now (a .xs))) (k .result .refusal) (r .refused) (c .before .before .before .before .before .before .before .before .if1 .left) (sym y ∙ not-false (x .result) (c .before .before .before .before .before .before .if2 .left)) (sym (not-false (h .result) (c .before .before .before .before .if3 .left)) ∙ h .ensures)) refl (n .ensures) in
     (p .answer, p .buffer)
 
 pub put-octets-spec : {M : Type 1} → statement M

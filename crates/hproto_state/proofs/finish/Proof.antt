@@ -1,5 +1,5 @@
 -- `finish` meets its contract: a refusal, or where the message starts.
-use Rattle.hproto_state.proofs.Answers.{finish-refused, finish-accepted}
+use Rattle.hproto_state.proofs.CallResults.{finish-refused, finish-accepted}
 use borrow.Author.Needs.{needs}
 use Rattle.hproto_state.proofs.finish.Statement.{statement}
 use Rattle.hproto_state.proofs.finish.Tie as tie

@@ -1,7 +1,7 @@
 -- `finish_refusal` meets its contract: each refusal of finish in its order.
 use mathlib.Core.Path.{sym, _∙_}
 use borrow.Author.Tests.{not-true, not-false}
-use Rattle.hproto_state.proofs.Refusals.{finish-unsound, finish-open, finish-taken}
+use Rattle.hproto_state.proofs.Refusals.{finish-unsound, finish-open, finish-not-refused}
 use borrow.Author.Needs.{needs}
 use Rattle.hproto_state.proofs.finish_refusal.Statement.{statement}
 use Rattle.hproto_state.proofs.finish_refusal.Tie as tie
@@ -16,7 +16,7 @@ returns-2 : tie.Need-returns-2
 returns-2 c = finish-open (c .before .before .before .before .args .s) (sym (not-false (c .before .before .before .sound .result) (c .before .before .if1 .left)) ∙ c .before .before .before .sound .ensures) (c .if2 .taken)
 
 returns-3 : tie.Need-returns-3
-returns-3 c = finish-taken (c .before .before .before .before .args .s) (sym (not-false (c .before .before .before .sound .result) (c .before .before .if1 .left)) ∙ c .before .before .before .sound .ensures) (c .if2 .left)
+returns-3 c = finish-not-refused (c .before .before .before .before .args .s) (sym (not-false (c .before .before .before .sound .result) (c .before .before .if1 .left)) ∙ c .before .before .before .sound .ensures) (c .if2 .left)
 
 pub finish-refusal-spec : {M : Type 1} → statement M
 finish-refusal-spec = tie.close (tie.spec sound-requires returns returns-2 returns-3)

@@ -2,7 +2,7 @@
 use mathlib.Core.Path.{sym, _∙_}
 use denote.Ref.{now}
 use lib.ListN.{length}
-use Rattle.hproto_state.proofs.Answers.{refused-answer, accepted-answer}
+use Rattle.hproto_state.proofs.CallResults.{refused-result, accepted-result}
 use Rattle.hproto_state.specs.Calls.{started, startRefusal, begun}
 use borrow.Author.Needs.{needs}
 use Rattle.hproto_state.proofs.start.Statement.{statement}
@@ -19,7 +19,7 @@ unfolding started
 returns c =
     let a = c .before .before .before .before .args in
     let r = c .before .before .start-refusal in
-    refused-answer (r .result) (startRefusal (a .t) (a .number) (length (now (a .out)))) (begun 0 0) (begun (length (now (a .out))) (a .number)) (c .fresh .result) (r .ensures) (c .before .if1 .taken) (c .fresh .ensures)
+    refused-result (r .result) (startRefusal (a .t) (a .number) (length (now (a .out)))) (begun 0 0) (begun (length (now (a .out))) (a .number)) (c .fresh .result) (r .ensures) (c .before .if1 .taken) (c .fresh .ensures)
 
 fresh-requires-2 : tie.Need-fresh-requires-2
 fresh-requires-2 c κs = search needs
@@ -29,7 +29,7 @@ unfolding started
 returns-2 c =
     let a = c .before .before .before .before .args in
     let r = c .before .before .start-refusal in
-    accepted-answer (startRefusal (a .t) (a .number) (length (now (a .out)))) (begun 0 0) (begun (length (now (a .out))) (a .number)) (c .fresh2 .result) (sym (r .ensures) ∙ c .before .if1 .left) (c .fresh2 .ensures)
+    accepted-result (startRefusal (a .t) (a .number) (length (now (a .out)))) (begun 0 0) (begun (length (now (a .out))) (a .number)) (c .fresh2 .result) (sym (r .ensures) ∙ c .before .if1 .left) (c .fresh2 .ensures)
 
 pub start-spec : {M : Type 1} → statement M
 start-spec =

@@ -1,7 +1,7 @@
 -- `start_refusal` meets its contract: each refusal of start in its order.
 use mathlib.Core.Path.{sym, _∙_}
 use borrow.Author.Tests.{not-true, not-false}
-use Rattle.hproto_state.proofs.Refusals.{start-long, start-table, start-number, start-taken}
+use Rattle.hproto_state.proofs.Refusals.{start-long, start-table, start-number, start-not-refused}
 use borrow.Author.Needs.{needs}
 use Rattle.hproto_state.proofs.start_refusal.Statement.{statement}
 use Rattle.hproto_state.proofs.start_refusal.Tie as tie
@@ -27,7 +27,7 @@ returns-3 c =
 returns-4 : tie.Need-returns-4
 returns-4 c =
     let a = c .before .before .before .before .args in
-    start-taken (a .t) (a .number) (a .len) (c .before .before .before .if1 .left) (sym (not-false (c .before .before .valid .result) (c .before .if2 .left)) ∙ c .before .before .valid .ensures) (c .if3 .left)
+    start-not-refused (a .t) (a .number) (a .len) (c .before .before .before .if1 .left) (sym (not-false (c .before .before .valid .result) (c .before .if2 .left)) ∙ c .before .before .valid .ensures) (c .if3 .left)
 
 pub start-refusal-spec : {M : Type 1} → statement M
 start-refusal-spec = tie.close (tie.spec returns valid-requires returns-2 returns-3 returns-4)

@@ -1,4 +1,4 @@
--- What `tag_kind` answers, which put and open share.
+-- The answer of the function `tag_kind`, which put and open share.
 use Prim.Native.Nat.{ℕ}
 use mathlib.Core.Bool.{Bool, true, cond}
 use lib.Dec.{eqb}
@@ -16,5 +16,5 @@ fits wanted kind = cond (eqb wanted 3) (ofOctets kind) (eqb kind wanted)
 unfoldable pub tagKind : Table → State → ℕ → ℕ → ℕ → Tagged
 tagKind t s len tag wanted =
     let m = meant t s tag in
-    let no = putRefusal t s len (fits wanted (kindNumber m)) true 0 in
-    cond (eqb no 0) (record { refusal = 0; kind = kindNumber m; inner = innerOf m }) (record { refusal = no; kind = 0; inner = 0 })
+    let refusal = putRefusal t s len (fits wanted (kindNumber m)) true 0 in
+    cond (eqb refusal 0) (record { refusal = 0; kind = kindNumber m; inner = innerOf m }) (record { refusal = refusal; kind = 0; inner = 0 })

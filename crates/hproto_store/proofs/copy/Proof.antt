@@ -1,7 +1,7 @@
 -- `hproto_store::copy` meets its contract: at each turn the first octets are stored.
 use Prim.Native.Nat.{_-_}
 use native.Mathlib.Omega.{arith}
-use Rattle.hproto_store.proofs.Turns.{CopiedUp, copy-begun, copy-turn, copy-ended}
+use Rattle.hproto_store.proofs.StoreLoops.{CopiedUp, copy-begun, copy-step, copy-ended}
 use Rattle.hproto_store.proofs.copy.Statement.{statement}
 use Rattle.hproto_store.proofs.copy.Tie as tie
 
@@ -33,7 +33,7 @@ loop-again : tie.Need-loop-again Inv-loop μ-loop
 loop-again c =
     let a = c .before .before .before .args in
     let l = c .before .before .loop in
-    copy-turn (a .out .now) (a .at) (a .s .now) (a .n) (l .out) (l .i) (c .before .loop-test .taken) (l .inv)
+    copy-step (a .out .now) (a .at) (a .s .now) (a .n) (l .out) (l .i) (c .before .loop-test .taken) (l .inv)
 
 same-length : tie.Need-same-length Inv-loop μ-loop
 same-length c = c .before .loop .inv .long

@@ -3,7 +3,7 @@ use Prim.Native.Nat.{_+_}
 use native.Mathlib.Omega.{arith}
 use mathlib.Core.Path.{sym}
 use borrow.Author.Tests.{lt-leb}
-use Rattle.hproto_store.proofs.Room.{left-enough}
+use Rattle.hproto_store.proofs.Room.{fits-after}
 use Rattle.hproto_store.proofs.has_room.Statement.{statement}
 use Rattle.hproto_store.proofs.has_room.Tie as tie
 
@@ -11,7 +11,7 @@ returns : tie.Need-returns
 returns c = sym (lt-leb (c .before .args .at + c .before .args .n) (c .before .args .len) (omega arith))
 
 returns-2 : tie.Need-returns-2
-returns-2 c = left-enough (c .before .args .len) (c .before .args .at) (c .before .args .n) (c .if1 .left)
+returns-2 c = fits-after (c .before .args .len) (c .before .args .at) (c .before .args .n) (c .if1 .left)
 
 pub has-room-spec : {M : Type 1} → statement M
 has-room-spec = tie.close (tie.spec returns returns-2)

@@ -5,16 +5,16 @@ use mathlib.Core.Path.{sym}
 use lib.ListN.{length}
 use Rattle.hproto_store.proofs.Room.{room, no-room}
 use Rattle.hproto_store.proofs.Moves.{moved-none, moved-too-far}
-use Rattle.hproto_store.proofs.Turns.{MovedDown, move-begun, move-turn, move-ended}
+use Rattle.hproto_store.proofs.StoreLoops.{MovedDown, move-begun, move-step, move-ended}
 use borrow.Author.Needs.{needs}
 use Rattle.hproto_store.proofs.move_up.Statement.{statement}
 use Rattle.hproto_store.proofs.move_up.Tie as tie
 
 abbrev Inv-loop : tie.InvT-loop
-Inv-loop out₀ at n by left₀ out left = MovedDown out₀ at n by out left
+Inv-loop out₀ at n by remaining₀ out remaining = MovedDown out₀ at n by out remaining
 
 abbrev μ-loop : tie.MeasureT-loop
-μ-loop out₀ at n by left₀ out left = left
+μ-loop out₀ at n by remaining₀ out remaining = remaining
 
 has-room-requires : tie.Need-has-room-requires Inv-loop μ-loop
 has-room-requires c κs = search needs
@@ -35,8 +35,8 @@ loop-holds c =
 smaller-requires : tie.Need-smaller-requires Inv-loop μ-loop
 smaller-requires c κs = search needs
 
-sub-left : tie.Need-sub-left Inv-loop μ-loop
-sub-left c = omega arith
+sub-remaining : tie.Need-sub-remaining Inv-loop μ-loop
+sub-remaining c = omega arith
 
 add-move-block : tie.Need-add-move-block Inv-loop μ-loop
 add-move-block c = omega arith
@@ -53,7 +53,7 @@ loop-again c =
     let k = e .before .before in
     let l = k .before .before .loop in
     let a = k .before .before .before .before .before .before .before .before .args in
-    move-turn (a .out .now) (a .at) (a .n) (a .by) (l .out) (l .left) (k .smaller .result) (l .left - k .smaller .result) (e .move-block .last .0)
+    move-step (a .out .now) (a .at) (a .n) (a .by) (l .out) (l .remaining) (k .smaller .result) (l .remaining - k .smaller .result) (e .move-block .last .0)
     (omega arith) (e .move-block .ensures) (l .inv)
 
 same-length : tie.Need-same-length Inv-loop μ-loop
@@ -63,7 +63,7 @@ returns : tie.Need-returns Inv-loop μ-loop
 returns c =
     let a = c .before .before .before .before .before .before .before .args in
     let l = c .before .loop in
-    move-ended (a .out .now) (a .at) (a .n) (a .by) (l .out) (l .left) (c .loop-test .left) (l .inv)
+    move-ended (a .out .now) (a .at) (a .n) (a .by) (l .out) (l .remaining) (c .loop-test .left) (l .inv)
 
 returns-2 : tie.Need-returns-2 Inv-loop μ-loop
 returns-2 c =
@@ -88,7 +88,7 @@ move-up-spec =
     has-room-requires-2
     loop-holds
     smaller-requires
-    sub-left
+    sub-remaining
     add-move-block
     move-block-requires
     loop-less

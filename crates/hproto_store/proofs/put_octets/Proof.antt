@@ -5,16 +5,16 @@ use mathlib.Core.Path.{refl, sym}
 use lib.ListN.{length}
 use Rattle.hproto_store.proofs.Room.{room, no-room}
 use Rattle.hproto_store.proofs.Stores.{stored-too-long}
-use Rattle.hproto_store.proofs.Turns.{StoredDown, put-begun, put-turn, put-ended}
+use Rattle.hproto_store.proofs.StoreLoops.{StoredDown, put-begun, put-step, put-ended}
 use borrow.Author.Needs.{needs}
 use Rattle.hproto_store.proofs.put_octets.Statement.{statement}
 use Rattle.hproto_store.proofs.put_octets.Tie as tie
 
 abbrev Inv-loop : tie.InvT-loop
-Inv-loop out₀ at s n left₀ out left = StoredDown out₀ at s n out left
+Inv-loop out₀ at s n remaining₀ out remaining = StoredDown out₀ at s n out remaining
 
 abbrev μ-loop : tie.MeasureT-loop
-μ-loop out₀ at s n left₀ out left = left
+μ-loop out₀ at s n remaining₀ out remaining = remaining
 
 -- the octets fit
 fits : (c : tie.Then1 Inv-loop μ-loop)
@@ -42,8 +42,8 @@ loop-holds c =
 smaller-requires : tie.Need-smaller-requires Inv-loop μ-loop
 smaller-requires c κs = search needs
 
-sub-left : tie.Need-sub-left Inv-loop μ-loop
-sub-left c = omega arith
+sub-remaining : tie.Need-sub-remaining Inv-loop μ-loop
+sub-remaining c = omega arith
 
 add-put-block : tie.Need-add-put-block Inv-loop μ-loop
 add-put-block c = omega arith
@@ -72,8 +72,8 @@ loop-again c =
     let k = e .before .before .before in
     let l = k .before .before .loop in
     let a = k .before .before .before .before .before .before .before .before .args in
-    let m = l .left - k .smaller .result in
-    put-turn (a .out .now) (a .at) (a .s .now) (length (a .s .now)) (l .out) (l .left) (m + k .smaller .result - m) m (e .put-block2 .last .0)
+    let m = l .remaining - k .smaller .result in
+    put-step (a .out .now) (a .at) (a .s .now) (length (a .s .now)) (l .out) (l .remaining) (m + k .smaller .result - m) m (e .put-block2 .last .0)
     (omega arith) (e .put-block2 .ensures) (l .inv)
 
 same-length-2 : tie.Need-same-length-2 Inv-loop μ-loop
@@ -83,7 +83,7 @@ returns-2 : tie.Need-returns-2 Inv-loop μ-loop
 returns-2 c =
     let a = c .before .before .before .before .before .before .before .args in
     let l = c .before .loop in
-    put-ended (a .out .now) (a .at) (a .s .now) (length (a .s .now)) (l .out) (l .left) (c .loop-test .left) (l .inv)
+    put-ended (a .out .now) (a .at) (a .s .now) (length (a .s .now)) (l .out) (l .remaining) (c .loop-test .left) (l .inv)
 
 returns-3 : tie.Need-returns-3 Inv-loop μ-loop
 returns-3 c =
@@ -102,7 +102,7 @@ put-octets-spec =
     returns
     loop-holds
     smaller-requires
-    sub-left
+    sub-remaining
     add-put-block
     add-put-block-2
     sub-put-block

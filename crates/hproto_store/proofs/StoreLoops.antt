@@ -1,4 +1,4 @@
--- What the loops of this crate have stored, and that a turn stores one octet more or a block.
+-- The loop invariants of `copy`, `put_octets` and `move_up`: how they begin, how a step keeps them, and what they give at the end.
 use Prim.Native.Nat.{ℕ, suc, _+_, _≤_, _<_}
 use native.Mathlib.Nat.{add-zero}
 use native.Mathlib.Numerals.{add-one}
@@ -59,9 +59,9 @@ pub record CopiedUp (d : List ℕ) (at : ℕ) (s : List ℕ) (n : ℕ) (out : Li
 pub copy-begun : (d : List ℕ) (at : ℕ) (s : List ℕ) (n : ℕ) → at + n ≤ length d → n ≤ length s → CopiedUp d at s n d 0
 copy-begun d at s n h b = record { inside = omega arith; there = b; room = h; long = refl; written = none-written d at (omega arith) }
 
-pub copy-turn : (d : List ℕ) (at : ℕ) (s : List ℕ) (n : ℕ) (out : List ℕ) (i : ℕ) → i < n → CopiedUp d at s n out i
+pub copy-step : (d : List ℕ) (at : ℕ) (s : List ℕ) (n : ℕ) (out : List ℕ) (i : ℕ) → i < n → CopiedUp d at s n out i
     → CopiedUp d at s n (set out (at + i) (getD s i 0)) (i + 1)
-copy-turn d at s n out i h p =
+copy-step d at s n out i h p =
     let r = p .room in
     let b = p .there in
     let l = length-take-le i s (omega arith) in
@@ -82,50 +82,50 @@ copy-ended d at s n out i h p =
     let e : i ≡ n = omega arith in
     written-stored d at (take i s) out (p .written) ∙ rw e
 
--- Of the n octets s all but the first `left` are stored.
-pub record StoredDown (d : List ℕ) (to : ℕ) (s : List ℕ) (n : ℕ) (out : List ℕ) (left : ℕ) : Type 0 where
-  pub inside : left ≤ n
+-- Of the n octets s all but the first `remaining` are stored.
+pub record StoredDown (d : List ℕ) (to : ℕ) (s : List ℕ) (n : ℕ) (out : List ℕ) (remaining : ℕ) : Type 0 where
+  pub inside : remaining ≤ n
   pub there : length s ≡ n
   pub room : to + n ≤ length d
   pub long : length out ≡ length d
-  pub written : Written d (to + left) (drop left s) out
+  pub written : Written d (to + remaining) (drop remaining s) out
 
 pub put-begun : (d : List ℕ) (to : ℕ) (s : List ℕ) (n : ℕ) → length s ≡ n → to + n ≤ length d → StoredDown d to s n d n
 put-begun d to s n e h =
     let z : drop n s ≡ [] = drop-of-length-le s {i = n} (omega arith) in
     record { inside = omega arith; there = e; room = h; long = refl; written = rw z (none-written d (to + n) h) }
 
--- A turn stores the last k of those that are left; m stay.
-pub put-turn : (d : List ℕ) (to : ℕ) (s : List ℕ) (n : ℕ) (out : List ℕ) (left k m : ℕ) (after : List ℕ) → m + k ≡ left
-    → after ≡ stored out (to + m) (take k (drop m s)) → StoredDown d to s n out left → StoredDown d to s n after m
-put-turn d to s n out left k m after h e p =
+-- A step stores the last k of the remaining octets; m remain.
+pub put-step : (d : List ℕ) (to : ℕ) (s : List ℕ) (n : ℕ) (out : List ℕ) (remaining k m : ℕ) (after : List ℕ) → m + k ≡ remaining
+    → after ≡ stored out (to + m) (take k (drop m s)) → StoredDown d to s n out remaining → StoredDown d to s n after m
+put-step d to s n out remaining k m after h e p =
     let q = p .inside in
     let r = p .room in
     let t = p .there in
     let l = p .long in
     let ys = take k (drop m s) in
     let z = part-length s m k (omega arith) in
-    let f : drop m s ≡ ys ++ drop left s = sym (take-append-drop k (drop m s)) ∙ rw (drop-drop k m s, h) in
+    let f : drop m s ≡ ys ++ drop remaining s = sym (take-append-drop k (drop m s)) ∙ rw (drop-drop k m s, h) in
     let w : Written d (to + m) (drop m s) after =
-    rw (f, e ∙ stored-fits out (to + m) ys (omega arith)) (more-before d (to + left) (to + m) ys (drop left s) out (omega arith) (p .written)) in
+    rw (f, e ∙ stored-fits out (to + m) ys (omega arith)) (more-before d (to + remaining) (to + m) ys (drop remaining s) out (omega arith) (p .written)) in
     record { inside = omega arith; there = t; room = r; long = written-length d (to + m) (drop m s) after w; written = w }
 
-pub put-ended : (d : List ℕ) (to : ℕ) (s : List ℕ) (n : ℕ) (out : List ℕ) (left : ℕ) → left ≤ 0 → StoredDown d to s n out left → out ≡ stored d to s
-put-ended d to s n out left h p =
-    let e : left ≡ 0 = omega arith in
-    written-stored d (to + left) (drop left s) out (p .written) ∙ rw (e, add-zero to)
+pub put-ended : (d : List ℕ) (to : ℕ) (s : List ℕ) (n : ℕ) (out : List ℕ) (remaining : ℕ) → remaining ≤ 0 → StoredDown d to s n out remaining → out ≡ stored d to s
+put-ended d to s n out remaining h p =
+    let e : remaining ≡ 0 = omega arith in
+    written-stored d (to + remaining) (drop remaining s) out (p .written) ∙ rw (e, add-zero to)
 
 -- The same of n octets of the buffer itself, those from `at` on, that are stored again `by` places further up.
-abbrev pub MovedDown : (d : List ℕ) (at n by : ℕ) (out : List ℕ) (left : ℕ) → Type 0
-MovedDown d at n by out left = StoredDown d (at + by) (take n (drop at d)) n out left
+abbrev pub MovedDown : (d : List ℕ) (at n by : ℕ) (out : List ℕ) (remaining : ℕ) → Type 0
+MovedDown d at n by out remaining = StoredDown d (at + by) (take n (drop at d)) n out remaining
 
 pub move-begun : (d : List ℕ) (at n by : ℕ) → at + n + by ≤ length d → MovedDown d at n by d n
 move-begun d at n by h = put-begun d (at + by) (take n (drop at d)) n (part-length d at n (omega arith)) (omega arith)
 
--- What a turn moves stands before what is stored, so it is as it was.
-move-stored : (d : List ℕ) (at n by : ℕ) (out : List ℕ) (left k m : ℕ) → m + k ≡ left → MovedDown d at n by out left
+-- The octets that a step moves lie before those stored so far, so they are unchanged.
+move-stored : (d : List ℕ) (at n by : ℕ) (out : List ℕ) (remaining k m : ℕ) → m + k ≡ remaining → MovedDown d at n by out remaining
     → moved out (at + m) k by ≡ stored out (at + by + m) (take k (drop m (take n (drop at d))))
-move-stored d at n by out left k m e p =
+move-stored d at n by out remaining k m e p =
     let q = p .inside in
     let r = p .room in
     let t = p .there in
@@ -133,7 +133,7 @@ move-stored d at n by out left k m e p =
     let v = length-drop at d in
     let xs = take n (drop at d) in
     let f : take (at + m + k) out ≡ take (at + m + k) d =
-    ap (take (at + m + k)) (p .written .is) ∙ take-before-sets d (at + by + left) (at + m + k) (drop left xs) (omega arith) in
+    ap (take (at + m + k)) (p .written .is) ∙ take-before-sets d (at + by + remaining) (at + m + k) (drop remaining xs) (omega arith) in
     let x : take k (drop (at + m) out) ≡ take k (drop m (drop at d)) =
     same-part out d (at + m) k (omega arith) (omega arith) f ∙ ap (take k) (sym (drop-drop m at d)) in
     let y : take k (drop m (drop at d)) ≡ take k (drop m xs) =
@@ -141,12 +141,12 @@ move-stored d at n by out left k m e p =
     let z : at + m + by ≡ at + by + m = omega arith in
     moved-fits out (at + m) k by (omega arith) ∙ rw (x, y, z)
 
-pub move-turn : (d : List ℕ) (at n by : ℕ) (out : List ℕ) (left k m : ℕ) (after : List ℕ) → m + k ≡ left → after ≡ moved out (at + m) k by
-    → MovedDown d at n by out left → MovedDown d at n by after m
-move-turn d at n by out left k m after e f p =
-    put-turn d (at + by) (take n (drop at d)) n out left k m after e (f ∙ move-stored d at n by out left k m e p) p
+pub move-step : (d : List ℕ) (at n by : ℕ) (out : List ℕ) (remaining k m : ℕ) (after : List ℕ) → m + k ≡ remaining → after ≡ moved out (at + m) k by
+    → MovedDown d at n by out remaining → MovedDown d at n by after m
+move-step d at n by out remaining k m after e f p =
+    put-step d (at + by) (take n (drop at d)) n out remaining k m after e (f ∙ move-stored d at n by out remaining k m e p) p
 
-pub move-ended : (d : List ℕ) (at n by : ℕ) (out : List ℕ) (left : ℕ) → left ≤ 0 → MovedDown d at n by out left → out ≡ moved d at n by
-move-ended d at n by out left h p =
+pub move-ended : (d : List ℕ) (at n by : ℕ) (out : List ℕ) (remaining : ℕ) → remaining ≤ 0 → MovedDown d at n by out remaining → out ≡ moved d at n by
+move-ended d at n by out remaining h p =
     let r = p .room in
-    put-ended d (at + by) (take n (drop at d)) n out left h p ∙ sym (moved-fits d at n by (omega arith))
+    put-ended d (at + by) (take n (drop at d)) n out remaining h p ∙ sym (moved-fits d at n by (omega arith))

@@ -11,7 +11,7 @@ use Rattle.hproto_store.specs.Store.{stored}
 use Rattle.hproto_state.specs.Calls.{back, put, putBuffer, putRefusal}
 use Rattle.hproto_state.specs.declared.State.{State}
 use Rattle.hproto_state.specs.declared.Written.{Written}
-use Rattle.hproto_state.proofs.Answers.{refused-answer, accepted-answer, refused-buffer, accepted-buffer}
+use Rattle.hproto_state.proofs.CallResults.{refused-result, accepted-result, refused-buffer, accepted-buffer}
 use Rattle.hproto_message.proofs.Fields.{field-length}
 use Rattle.hproto_puts.specs.internal.Stores.{Before}
 
@@ -32,7 +32,7 @@ module _ (t : Table) (s : State) (tag : ℕ) (agrees reads : Bool) (xs d : List 
       let size = length (field tag xs) in
       let f = sized n got en e in
       record {
-        answer = refused-answer got (putRefusal t s (length d) agrees reads size) s (back s size) s f ne refl;
+        answer = refused-result got (putRefusal t s (length d) agrees reads size) s (back s size) s f ne refl;
         buffer = refused-buffer got (putRefusal t s (length d) agrees reads size) d (stored d (s .start - size) (field tag xs)) f ne;
       }
 
@@ -45,6 +45,6 @@ module _ (t : Table) (s : State) (tag : ℕ) (agrees reads : Bool) (xs d : List 
       let f = sym (sized n got en e) ∙ z in
       let r : State = record { length = s .length; start = at; opened = s .opened; numbers = s .numbers; marks = s .marks; tags = s .tags } in
       record {
-        answer = accepted-answer (putRefusal t s (length d) agrees reads size) s (back s size) r f (rw (b .place) refl);
+        answer = accepted-result (putRefusal t s (length d) agrees reads size) s (back s size) r f (rw (b .place) refl);
         buffer = accepted-buffer (putRefusal t s (length d) agrees reads size) d (stored d (s .start - size) (field tag xs)) after f (b .buffer);
       }

@@ -1,22 +1,22 @@
--- An answer is a refusal with the state as it was, or the state afterwards.
+-- The results of refused and of accepted calls: the state and the buffer before the call, or those after it.
 use Prim.Native.Nat.{ℕ}
 use mathlib.Core.Path.{_≡_, refl, sym, _∙_}
 use mathlib.Core.List.{List}
 use borrow.Author.Tests.{ne-eqb}
-use Rattle.hproto_state.specs.Calls.{answered, bufferAfter, finishRefusal, finished}
+use Rattle.hproto_state.specs.Calls.{callResult, bufferAfter, finishRefusal, finished}
 use Rattle.hproto_state.specs.declared.State.{State}
 use Rattle.hproto_state.specs.declared.Written.{Written}
 use Rattle.hproto_state.specs.declared.Finished.{Finished}
 
-pub refused-answer : (got n : ℕ) (before after given : State) → got ≡ n → (got ≡ 0 → ⊥) → given ≡ before
-    → _≡_ {A = Written} (record { refusal = got; place = 0; state = given }) (answered n before after)
-unfolding answered
-refused-answer got n before after given e ne f = rw (← e, ne-eqb got 0 ne, f) refl
+pub refused-result : (got n : ℕ) (before after given : State) → got ≡ n → (got ≡ 0 → ⊥) → given ≡ before
+    → _≡_ {A = Written} (record { refusal = got; place = 0; state = given }) (callResult n before after)
+unfolding callResult
+refused-result got n before after given e ne f = rw (← e, ne-eqb got 0 ne, f) refl
 
-pub accepted-answer : (n : ℕ) (before after given : State) → n ≡ 0 → given ≡ after
-    → _≡_ {A = Written} (record { refusal = 0; place = 0; state = given }) (answered n before after)
-unfolding answered
-accepted-answer n before after given e f = rw (e, f) refl
+pub accepted-result : (n : ℕ) (before after given : State) → n ≡ 0 → given ≡ after
+    → _≡_ {A = Written} (record { refusal = 0; place = 0; state = given }) (callResult n before after)
+unfolding callResult
+accepted-result n before after given e f = rw (e, f) refl
 
 pub refused-buffer : (got n : ℕ) (before after : List ℕ) → got ≡ n → (got ≡ 0 → ⊥) → before ≡ bufferAfter n before after
 unfolding bufferAfter

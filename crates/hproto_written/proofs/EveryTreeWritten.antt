@@ -159,8 +159,8 @@ module _ (check : Table → ℕ → List ℕ → Checked) (w : Writer) (holds : 
   unfolding innermost openFields written onFields refusalOfFinish shortest
   all-written e u h d l =
       let r : RunTo (message end) = record { state = _; after = _; run = start e } in
-      let made = more-fields u (message end) h (omega arith) (omega arith) r in
-      let all : RunTo (message u) = subst (λ (x : Tree). RunTo (message x)) (before-end u) made in
+      let full = more-fields u (message end) h (omega arith) (omega arith) r in
+      let all : RunTo (message u) = subst (λ (x : Tree). RunTo (message x)) (before-end u) full in
       record {
         state = all .state;
         after = all .after;
