@@ -1,7 +1,7 @@
 -- Worked samples of frames.
 use mathlib.Core.Path.{_≡_, refl}
 use mathlib.Core.List.{[], _∷_}
-use Rattle.octets.specs.Number.{number, octetsOf}
+use Rattle.octets.specs.Number.{bigEndian, octetsOf}
 use Rattle.octets.specs.Control.{following, coded, firstFit, leastCode}
 use Rattle.hproto_frame.specs.Frame.{readRefused, readAccepted, announced, prefixed, frontRead, frameRead, shortestPrefix}
 
@@ -22,5 +22,5 @@ pub frames-read :
     × (frameRead (0xfe ∷ 0x00 ∷ 0x01 ∷ 0x00 ∷ 0x00 ∷ []) ≡ readRefused 4)
     × (frameRead (0x00 ∷ []) ≡ readAccepted 1 1)
     × (frameRead (0xfd ∷ 0x00 ∷ 0x01 ∷ 0xc0 ∷ 0xc0 ∷ []) ≡ readAccepted 3 4)
-unfolding frameRead frontRead prefixed announced following coded number
+unfolding frameRead frontRead prefixed announced following coded bigEndian
 frames-read = (refl, refl, refl, refl, refl, refl)

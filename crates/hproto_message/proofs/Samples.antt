@@ -15,7 +15,7 @@ pub samples-hold : samples.Hold samples.samples
 unfolding samples.Hold samples.samples samples.outcome samples.outcomeOf samples.readsUint samples.readsInt samples.refusedAs samples.only samples.nestedTable
     readings.reading readings.messageFrom readings.fieldsFrom readings.afterStep onAccepted inOrder readings.step readings.stepFrom
     readings.stepByKind schemaOf find meaning tree readings.tagAt readings.tagOf innerOf value shortest field leastContents
-    octets.number octets.octetsOf octets.width octets.widthWithin octets.leastUint
+    octets.bigEndian octets.octetsOf octets.width octets.widthWithin octets.leastUint
     signs.integer signs.withSign signs.lowest signs.leastInt signs.signedWidth signs.signedBits
     controls.control controls.controlOf controls.following controls.coded controls.leastControl controls.leastCode controls.firstFit
 samples-hold = (refl, (refl, (refl, (refl, (refl, (refl, (refl, (refl, (refl, (refl, (refl, (refl, tt))))))))))))

@@ -5,7 +5,7 @@ use native.Mathlib.Omega.{arith}
 use mathlib.Core.Path.{_≡_, refl, sym, ap, ap₂, _∙_, subst}
 use mathlib.Core.List.{List, [], _++_}
 use lib.ListN.{length, length-append}
-use Rattle.octets.specs.Number.{Octets, number}
+use Rattle.octets.specs.Number.{Octets, bigEndian}
 use Rattle.octets.specs.Signed.{integer}
 use Rattle.octets.specs.Control.{leastControl}
 use Rattle.octets.proofs.Number.{octets-append, octets-before, octets-after, number-leastUint, number-below-most, octets-leastUint}
@@ -41,9 +41,9 @@ lessened Uint b o h =
     let k = n .long in
     record {
       no-shorter = n;
-      same-value = ap Value.uint (number-leastUint (number b) (number-below-most b 8 o h));
+      same-value = ap Value.uint (number-leastUint (bigEndian b) (number-below-most b 8 o h));
       contents = omega arith;
-      octets = octets-leastUint (number b);
+      octets = octets-leastUint (bigEndian b);
     }
 lessened Int b o h =
     let n = leastInt-no-shorter b o h in

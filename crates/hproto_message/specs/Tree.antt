@@ -39,7 +39,7 @@ depth (nested tag inside rest) = max (suc (depth inside)) (depth rest)
 -- What contents mean as a field of each kind that is no message. No good cut has a message as such a field.
 unfoldable pub value : Meaning → List ℕ → Value
 value Raw s = raw s
-value Uint s = uint (octets.number s)
+value Uint s = uint (octets.bigEndian s)
 value Int s = int (integer s)
 value String s = string s
 value Text s = text s

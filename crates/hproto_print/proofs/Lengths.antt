@@ -6,7 +6,7 @@ use mathlib.Core.List.{List, [], _∷_}
 use lib.ListN.{length, length-append}
 use Rattle.hproto_message.specs.internal.Accepts.{Accepts}
 use Rattle.hproto_message.proofs.Accepted.{accepts-good}
-use Rattle.octets.specs.Number.{number}
+use Rattle.octets.specs.Number.{bigEndian}
 use Rattle.octets.specs.Signed.{integer}
 use Rattle.hproto_table.specs.Entry.{innerOf}
 use Rattle.hproto_table.specs.Schema.{Schema}
@@ -35,7 +35,7 @@ dash-length (x ∷ s) = let h = hex-length (x ∷ s) in omega arith
 value-length : (k : Meaning) (s : List ℕ) → length (valueText (value k s)) ≤ 21 + 2 * length s
 unfolding valueText value
 value-length Raw s = let h = dash-length s in omega arith
-value-length Uint s = let h = decimal-length (number s) in omega arith
+value-length Uint s = let h = decimal-length (bigEndian s) in omega arith
 value-length Int s = let h = signed-length (integer s) in omega arith
 value-length String s = let h = dash-length s in omega arith
 value-length Text s = let h = dash-length s in omega arith

@@ -6,7 +6,7 @@ ghost use mathlib.Core.Path.{_≡_};
 ghost use mathlib.Core.List.{[]};
 ghost use Prim.Native.Nat.{_≤_};
 ghost use lib.ListN.{length};
-ghost use Rattle.octets.specs.Number.{number as number-of};
+ghost use Rattle.octets.specs.Number.{bigEndian as number-of};
 ghost use Rattle.octets.specs.Signed.{integer};
 ghost use Rattle.reading.specs.Reading.{depthLimit};
 ghost use Rattle.table_index.specs.internal.Cells.{indexed};

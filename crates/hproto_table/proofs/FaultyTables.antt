@@ -11,7 +11,7 @@ use lib.Seq.{take-at, drop-at, take-append-le, drop-append-le, take-length}
 use lib.Dec.{leb}
 use borrow.Author.Count.{below-more}
 use borrow.Author.Tests.{leb-false, lt-leb}
-use Rattle.octets.specs.Number.{Octets, number}
+use Rattle.octets.specs.Number.{Octets, bigEndian}
 use Rattle.octets.proofs.Number.{number-octetsOf, length-octetsOf}
 use Rattle.hproto_table.specs.Entry.{entry}
 use Rattle.hproto_table.specs.Load.{inRange, recordAt, wordAt, wellFormed, wordsBefore, pair, seen, faulty, accepted, refused, loadFrom, load}
@@ -71,7 +71,7 @@ module _ (s : List ℕ) (i : ℕ) where
   not-faulty w later e t =
       let range : inRange (entry w) ≡ true = range-last (wordsBefore s i) w (t .in-range) in
       let r : recordAt s i ≡ recordFor w = ap (take 8) e ∙ take-at (recordFor w) later 8 (omega (arith, length-octetsOf 5 w)) in
-      let word : wordAt s i ≡ w = ap (λ (l : List ℕ). number (drop 3 l)) r ∙ number-octetsOf 5 w (word-small w range) in
+      let word : wordAt s i ≡ w = ap (λ (l : List ℕ). bigEndian (drop 3 l)) r ∙ number-octetsOf 5 w (word-small w range) in
       let few : length (wordsBefore s i) + 1 ≤ 64 = simp length-append at (t .few) in
       let formed : wellFormed (recordAt s i) ≡ true = ap wellFormed r ∙ for-wellFormed w range in
       let unseen : seen (pair (wordAt s i)) (wordsBefore s i) ≡ false =

@@ -9,7 +9,7 @@ use lib.ListN.{length, take, drop, getD, length-append, length-take, length-drop
 use lib.Seq.{take-append-le, take-all, getD-at}
 use lib.Dec.{eqb, leb, ltb}
 use borrow.Author.Tests.{eqb-true, le-leb, lt-leb, leb-true, leb-false, ltb-true, ltb-false}
-use Rattle.octets.specs.Number.{number}
+use Rattle.octets.specs.Number.{bigEndian}
 use Rattle.hproto_table.specs.Entry.{entry}
 use Rattle.hproto_table.specs.Load.{inRange, recordAt, wordAt, wellFormed, wordsBefore, pair, seen, faulty, accepted, refused, loadFrom, load}
 use Rattle.hproto_table.specs.Repeat.{distinct}
@@ -53,17 +53,17 @@ words-at s j (suc n) h = go (ltb j n) refl (words-at s j n)
 pub record Form (r : List ℕ) : Type 0 where
   pub whole : length r ≡ 8
   pub tag : getD r 0 0 ≡ 1
-  pub size : number (take 2 (drop 1 r)) ≡ 5
-  pub range : inRange (entry (number (drop 3 r))) ≡ true
+  pub size : bigEndian (take 2 (drop 1 r)) ≡ 5
+  pub range : inRange (entry (bigEndian (drop 3 r))) ≡ true
 
 pub form : (r : List ℕ) → wellFormed r ≡ true → Form r
 unfolding wellFormed
 form r e =
-    let h = and-four (eqb (length r) 8) (eqb (getD r 0 0) 1) (eqb (number (take 2 (drop 1 r))) 5) (inRange (entry (number (drop 3 r)))) e in
+    let h = and-four (eqb (length r) 8) (eqb (getD r 0 0) 1) (eqb (bigEndian (take 2 (drop 1 r))) 5) (inRange (entry (bigEndian (drop 3 r)))) e in
     record {
       whole = eqb-true (length r) 8 (h .0);
       tag = eqb-true (getD r 0 0) 1 (h .1);
-      size = eqb-true (number (take 2 (drop 1 r))) 5 (h .2);
+      size = eqb-true (bigEndian (take 2 (drop 1 r))) 5 (h .2);
       range = h .3;
     }
 

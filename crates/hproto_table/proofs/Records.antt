@@ -11,7 +11,7 @@ use lib.Seq.{take-add, take-at, take-all}
 use lib.Dec.{leb}
 use borrow.Author.Count.{below-more}
 use borrow.Author.Tests.{leb-true}
-use Rattle.octets.specs.Number.{Octets, number, octetsOf}
+use Rattle.octets.specs.Number.{Octets, bigEndian, octetsOf}
 use Rattle.octets.proofs.Number.{octets-octetsOf, number-octetsOf, length-octetsOf, number-injective, number-below, octets-before, octets-after}
 use Rattle.hproto_table.specs.Entry.{entry, entries}
 use Rattle.hproto_table.specs.Load.{inRange, recordAt, wordAt, wellFormed, wordsBefore, faulty, tableOf, accepted, refused, loadFrom, load, Loadable}
@@ -44,8 +44,8 @@ unfolding entries tableOf
 loaded-entries ws = ap (map entry) (take-at ws (replicate (64 - length ws) 0) (length ws) refl)
 
 -- A well-formed record is the record of its word.
-pub wellFormed-record : (r : List ℕ) → Octets r → wellFormed r ≡ true → r ≡ recordFor (number (drop 3 r))
-unfolding wellFormed recordFor Octets number
+pub wellFormed-record : (r : List ℕ) → Octets r → wellFormed r ≡ true → r ≡ recordFor (bigEndian (drop 3 r))
+unfolding wellFormed recordFor Octets bigEndian
 wellFormed-record [] o e = let z : _≡_ {A = ℕ} 0 1 = cc in absurd (omega arith)
 wellFormed-record (a ∷ []) o e = let z : _≡_ {A = ℕ} 0 1 = cc in absurd (omega arith)
 wellFormed-record (a ∷ b ∷ []) o e = let z : _≡_ {A = ℕ} 0 1 = cc in absurd (omega arith)
@@ -53,14 +53,14 @@ wellFormed-record (a ∷ b ∷ c ∷ t) o e =
     let f = form (a ∷ b ∷ c ∷ t) e in
     let h : length (a ∷ b ∷ c ∷ t) ≡ 8 = f .whole in
     let x : a ≡ 1 = f .tag in
-    let y : number (b ∷ c ∷ []) ≡ 5 = f .size in
+    let y : bigEndian (b ∷ c ∷ []) ≡ 5 = f .size in
     let l : length t ≡ 5 = omega arith in
     let b0 : b ≡ 0 = omega (arith, y, o .1 .0, o .1 .1 .0) in
     let c5 : c ≡ 5 = omega (arith, y, o .1 .0, o .1 .1 .0) in
     let below = number-below t (o .1 .1 .1) in
-    let tail : t ≡ octetsOf 5 (number t) =
-    number-injective t (octetsOf 5 (number t)) (o .1 .1 .1) (octets-octetsOf 5 (number t)) (l ∙ sym (length-octetsOf 5 (number t)))
-    (sym (number-octetsOf 5 (number t) (subst (λ (k : ℕ). number t < 256 ^ k) l below))) in
+    let tail : t ≡ octetsOf 5 (bigEndian t) =
+    number-injective t (octetsOf 5 (bigEndian t)) (o .1 .1 .1) (octets-octetsOf 5 (bigEndian t)) (l ∙ sym (length-octetsOf 5 (bigEndian t)))
+    (sym (number-octetsOf 5 (bigEndian t) (subst (λ (k : ℕ). bigEndian t < 256 ^ k) l below))) in
     rw (x, b0, c5) (ap (λ (z : List ℕ). 1 ∷ 0 ∷ 5 ∷ z) tail)
 
 pub record-octets : (s : List ℕ) (i : ℕ) → Octets s → Octets (recordAt s i)

@@ -9,7 +9,7 @@ use lib.ListN.{length, take, drop, getD, replicate, take-append-drop, length-dro
 use lib.Seq.{drop-append-add, take-at, drop-at, take-suc, take-length, length-take-le}
 use lib.Dec.{eqb, leb, ltb, lit<}
 use borrow.Author.Tests.{eqb-true, le-leb, leb-true, ltb-true, not-false}
-use Rattle.octets.specs.Number.{Octets, number, octetsOf}
+use Rattle.octets.specs.Number.{Octets, bigEndian, octetsOf}
 use Rattle.octets.proofs.Number.{octets-append, octets-octetsOf, number-octetsOf, length-octetsOf}
 use Rattle.hproto_table.specs.Entry.{Entry, entry}
 use Rattle.hproto_table.specs.Load.{inRange, recordAt, wordAt, wellFormed, wordsBefore, pair, seen, faulty, tableOf, accepted, refused, loadFrom, load, Loadable}
@@ -133,7 +133,7 @@ word-small w e =
     omega arith
 
 pub for-wellFormed : (w : ℕ) → inRange (entry w) ≡ true → wellFormed (recordFor w) ≡ true
-unfolding wellFormed recordFor number
+unfolding wellFormed recordFor bigEndian
 for-wellFormed w e = rw (length-octetsOf 5 w, number-octetsOf 5 w (word-small w e)) e
 
 module _ (ws : List ℕ) (range : allInRange ws ≡ true) where

@@ -5,7 +5,7 @@ use mathlib.Core.Bool.{Bool, false, cond, not, _&&_, _||_}
 use mathlib.Core.List.{List, [], _∷_, _++_}
 use lib.ListN.{length, take, drop, replicate, getD}
 use lib.Dec.{eqb, leb, ltb}
-use Rattle.octets.specs.Number.{number, Octets}
+use Rattle.octets.specs.Number.{bigEndian, Octets}
 use Rattle.reading.specs.Refusals as refusals
 use Rattle.hproto_table.specs.Entry.{Entry, entry}
 use Rattle.hproto_table.specs.declared.Table.{Table}
@@ -21,11 +21,11 @@ recordAt s i = take 8 (drop (8 * i) s)
 
 -- A record's entry as a word of a table: its last five octets as one number.
 unfoldable pub wordAt : List ℕ → ℕ → ℕ
-wordAt s i = number (drop 3 (recordAt s i))
+wordAt s i = bigEndian (drop 3 (recordAt s i))
 
 -- Whether a record is complete, its tag and length are right and its entry is in range.
 unfoldable pub wellFormed : List ℕ → Bool
-wellFormed r = eqb (length r) 8 && eqb (getD r 0 0) 1 && eqb (number (take 2 (drop 1 r))) 5 && inRange (entry (number (drop 3 r)))
+wellFormed r = eqb (length r) 8 && eqb (getD r 0 0) 1 && eqb (bigEndian (take 2 (drop 1 r))) 5 && inRange (entry (bigEndian (drop 3 r)))
 
 -- The words of the records before the one at n.
 unfoldable pub wordsBefore : List ℕ → ℕ → List ℕ

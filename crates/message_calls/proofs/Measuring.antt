@@ -7,7 +7,7 @@ use lib.ListN.{length, drop, length-append}
 use lib.IntN.{ℤ, pos, negsuc}
 use Rattle.hproto_message.specs.internal.Accepts.{Accepts}
 use Rattle.hproto_message.proofs.Accepted.{accepts-good}
-use Rattle.octets.specs.Number.{Octets, number}
+use Rattle.octets.specs.Number.{Octets, bigEndian}
 use Rattle.octets.specs.Signed.{integer, signedWidth}
 use Rattle.octets.specs.Control.{leastControl}
 use Rattle.octets.specs.internal.Least.{controlWidths}
@@ -40,7 +40,7 @@ signedWidth-bound (negsuc k) = width-bound (2 * k + 1)
 pub least-few : (k : Meaning) (s : List ℕ) → length s ≤ 65536 → length (leastContents (value k s)) ≤ 65536
 unfolding leastContents value
 least-few Raw s h = h
-least-few Uint s h = let e = length-leastUint (number s) in let b = width-bound (number s) in omega arith
+least-few Uint s h = let e = length-leastUint (bigEndian s) in let b = width-bound (bigEndian s) in omega arith
 least-few Int s h = let e = length-leastInt (integer s) in let b = signedWidth-bound (integer s) in omega arith
 least-few String s h = h
 least-few Text s h = h

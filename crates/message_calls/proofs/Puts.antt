@@ -8,7 +8,7 @@ use mathlib.Core.List.{List, [], _∷_}
 use lib.ListN.{length, set}
 use lib.IntN.{ℤ}
 use borrow.Author.Tests.{lt-ltb, le-ltb}
-use Rattle.octets.specs.Number.{number, octetsOf, leastUint}
+use Rattle.octets.specs.Number.{bigEndian, octetsOf, leastUint}
 use Rattle.octets.specs.internal.Least.{uintWidthBits, intWidthBits}
 use Rattle.octets.specs.internal.Bounded.{unsigned, signed}
 use Rattle.octets.specs.Signed.{integer, leastInt}
@@ -119,7 +119,7 @@ number-length tag w v = field-length tag (octetsOf w v) ∙ rw (length-octetsOf 
 
 -- The octets of the least form of a number that was read from octets.
 pub uint-held : (s : List ℕ) (v : ℕ) (r : Least) → v ≡ unsigned s → length s ≤ 8 → r ≡ uintWidthBits v
-    → octetsOf (r .width) (r .bits) ≡ leastUint (number s)
+    → octetsOf (r .width) (r .bits) ≡ leastUint (bigEndian s)
 uint-held s v r e h f = uint-octets r v f ∙ ap leastUint (e ∙ unsigned-is s h)
 
 pub int-held : (s : List ℕ) (z : ℤ) (r : Least) → z ≡ signed s → length s ≤ 8 → r ≡ intWidthBits z

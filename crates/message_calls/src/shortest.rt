@@ -8,7 +8,7 @@ use octets::Least;
 ghost use mathlib.Core.Path.{_≡_};
 ghost use Prim.Native.Nat.{_+_, _*_, _-_, _≤_, _<_};
 ghost use lib.ListN.{length, drop};
-ghost use Rattle.octets.specs.Number.{Octets, number as number-of, octetsOf, leastUint};
+ghost use Rattle.octets.specs.Number.{Octets, bigEndian as number-of, octetsOf, leastUint};
 ghost use Rattle.octets.specs.Signed.{integer, leastInt};
 ghost use Rattle.octets.specs.Control.{leastControl};
 ghost use Rattle.hproto_store.specs.Store.{stored};

@@ -4,7 +4,7 @@ ghost use mathlib.Core.Path.{_≡_};
 ghost use Prim.Native.Nat.{_≤_};
 ghost use lib.ListN.{length};
 ghost use Rattle.reading.specs.Reading.{messageLimit};
-ghost use Rattle.octets.specs.Number.{Octets, number as number-of, leastUint};
+ghost use Rattle.octets.specs.Number.{Octets, bigEndian as number-of, leastUint};
 ghost use Rattle.octets.specs.Signed.{integer, leastInt};
 ghost use Rattle.table_index.specs.internal.Cells.{meaningOf, indexed};
 ghost use Rattle.hproto_message.specs.Cut.{Contents};

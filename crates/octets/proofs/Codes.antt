@@ -7,7 +7,7 @@ use mathlib.Core.List.{List, [], _∷_}
 use lib.ListN.{length, getD}
 use lib.Dec.{ltb}
 use borrow.Author.Tests.{ltb-true, ltb-false, lt-ltb, le-ltb}
-use Rattle.octets.specs.Number.{Octets, number, octetsOf}
+use Rattle.octets.specs.Number.{Octets, bigEndian, octetsOf}
 use Rattle.octets.specs.ControlPart.{Code, Form, direct, follows}
 use Rattle.octets.specs.Control.{following, coded, firstFit, leastCode}
 use Rattle.octets.proofs.Slices.{length-zero}
@@ -35,13 +35,13 @@ unfolding following coded
 form-of code x s h l = go (ltb x (code .direct)) refl l
   where
     go : (t : Bool) → ltb x (code .direct) ≡ t → length s ≡ cond t 0 (getD (code .widths) (x - code .direct) 0)
-        → Form code (cond t x (number s)) x s
+        → Form code (cond t x (bigEndian s)) x s
     go true e k = subst (Form code x x) (sym (length-zero s k)) (direct (ltb-true x (code .direct) e))
     go false e k =
         let b = ltb-false x (code .direct) e in
         let i = x - code .direct in
         let f : code .direct + i ≡ x = omega arith in
-        subst (λ (y : ℕ). Form code (number s) y s) f (follows i s (omega arith) k refl)
+        subst (λ (y : ℕ). Form code (bigEndian s) y s) f (follows i s (omega arith) k refl)
 
 -- The widths of a code rise from above w.
 unfoldable pub Rising : ℕ → List ℕ → Type 0
@@ -60,7 +60,7 @@ pub record Fit (d : ℕ) (ws : List ℕ) (v x : ℕ) (s : List ℕ) : Type 0 whe
   pub inside : place < length ws
   pub lead : x ≡ d + place
   pub wide : length s ≡ getD ws place 0
-  pub value : number s ≡ v
+  pub value : bigEndian s ≡ v
   pub octets : Octets s
 
 fit-later : (d w : ℕ) (ws : List ℕ) (v x : ℕ) (s : List ℕ) → Fit (suc d) ws v x s → Fit d (w ∷ ws) v x s
@@ -121,7 +121,7 @@ firstFit-least d u (n ∷ ws) v w y r a h f =
         let g = rising-below n ws j (a .1) (omega arith) in
         record { long = omega arith; same = λ p q. absurd (omega arith) }
     go false e zero k l b later =
-        let c : number r < 256 ^ n = subst (λ (m : ℕ). number r < 256 ^ m) b (number-below r (f .octets)) in
+        let c : bigEndian r < 256 ^ n = subst (λ (m : ℕ). bigEndian r < 256 ^ m) b (number-below r (f .octets)) in
         let g = ltb-false v (256 ^ n) e in
         let q = f .value in
         absurd (omega arith)
@@ -129,14 +129,14 @@ firstFit-least d u (n ∷ ws) v w y r a h f =
         later (record { place = j; inside = omega arith; lead = omega arith; wide = b; value = f .value; octets = f .octets })
 
 -- A code whose widths rise from 1 on, and a number that its widest form holds.
-pub record Holds (code : Code) (v : ℕ) : Type 0 where
+pub record Encodable (code : Code) (v : ℕ) : Type 0 where
   pub rising : Rising 0 (code .widths)
   pub widest : ℕ
   pub inside : widest < length (code .widths)
   pub below : v < 256 ^ getD (code .widths) widest 0
 
 -- The least form of a number stands for it.
-pub leastCode-form : (code : Code) (v : ℕ) → Holds code v → Form code v (leastCode code v .0) (leastCode code v .1)
+pub leastCode-form : (code : Code) (v : ℕ) → Encodable code v → Form code v (leastCode code v .0) (leastCode code v .1)
 unfolding leastCode
 leastCode-form code v h = go (ltb v (code .direct)) refl
   where
@@ -148,7 +148,7 @@ leastCode-form code v h = go (ltb v (code .direct)) refl
         subst (λ (x : ℕ). Form code v x (firstFit (code .direct) (code .widths) v .1)) (sym (f .lead))
         (follows (f .place) (firstFit (code .direct) (code .widths) v .1) (f .inside) (f .wide) (f .value))
 
-pub leastCode-octets : (code : Code) (v : ℕ) → Holds code v → Octets (leastCode code v .1)
+pub leastCode-octets : (code : Code) (v : ℕ) → Encodable code v → Octets (leastCode code v .1)
 unfolding leastCode Octets
 leastCode-octets code v h = go (ltb v (code .direct))
   where

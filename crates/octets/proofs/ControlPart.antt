@@ -1,4 +1,4 @@
--- Just the control parts are read as such, and laws of the least one.
+-- Exactly the control parts are read as such, and laws of the least control part.
 use Prim.Native.Nat.{ℕ, zero, suc, _+_, _*_, _-_, _/_, _%_, _^_, _≤_, _<_}
 use native.Mathlib.Nat.{lt-of-lt-of-le}
 use native.Mathlib.Omega.{arith}
@@ -16,7 +16,7 @@ use Rattle.octets.specs.ControlPart.{Code, tagCode, lengthCode, Form, di
 use Rattle.octets.specs.Control.{following, coded, controlOf, control, leastCode, leastControl}
 use Rattle.octets.specs.declared.Control.the-variants.{Absent, Partial, Whole}
 use Rattle.octets.proofs.Number.{octets-append, octets-before, octets-after, number-below-most}
-use Rattle.octets.proofs.Codes.{form-following, form-coded, form-lead, form-of, Rising, Holds, leastCode-form, leastCode-octets, leastCode-least}
+use Rattle.octets.proofs.Codes.{form-following, form-coded, form-lead, form-of, Rising, Encodable, leastCode-form, leastCode-octets, leastCode-least}
 
 -- Octets at whose front a whole control part stands, taken apart.
 record Front (s : List ℕ) (tag len size : ℕ) : Type 0 where
@@ -114,8 +114,8 @@ part-of-control s tag len size e = go (front-of-control s tag len size e)
         let k : take size s ≡ f .octet ∷ f .tagged ++ f .sized = ap (take size) g ∙ take-at (f .octet ∷ f .tagged ++ f .sized) (f .rest) size l in
         let o : f .octet / 16 * 16 + f .octet % 16 ≡ f .octet = omega arith in
         record {
-          left = f .octet / 16;
-          right = f .octet % 16;
+          tag-lead = f .octet / 16;
+          length-lead = f .octet % 16;
           tag-octets = f .tagged;
           length-octets = f .sized;
           is = k ∙ rw o refl;
@@ -128,11 +128,11 @@ part-of-control s tag len size e = go (front-of-control s tag len size e)
         }
 
 module _ (tag len : ℕ) (c : List ℕ) (p : ControlPart tag len c) where
-  left-small : p .left < 16
-  left-small = form-lead tagCode tag (p .left) (p .tag-octets) (p .tag-form)
+  tag-lead-small : p .tag-lead < 16
+  tag-lead-small = form-lead tagCode tag (p .tag-lead) (p .tag-octets) (p .tag-form)
 
-  right-small : p .right < 16
-  right-small = form-lead lengthCode len (p .right) (p .length-octets) (p .length-form)
+  length-lead-small : p .length-lead < 16
+  length-lead-small = form-lead lengthCode len (p .length-lead) (p .length-octets) (p .length-form)
 
   length-part : 1 + length (p .tag-octets) + length (p .length-octets) ≡ length c
   length-part = sym (ap length (p .is) ∙ simp length-append (omega arith))
@@ -143,10 +143,10 @@ module _ (tag len : ℕ) (c : List ℕ) (p : ControlPart tag len c) where
   -- A control part is read whatever follows it.
   pub part-read : (r : List ℕ) → control (c ++ r) ≡ Whole tag len (length c)
   part-read r =
-      let x = left-small in
-      let y = right-small in
-      let t = p .left in
-      let l = p .right in
+      let x = tag-lead-small in
+      let y = length-lead-small in
+      let t = p .tag-lead in
+      let l = p .length-lead in
       let a = p .tag-octets in
       let b = p .length-octets in
       let d : (t * 16 + l) / 16 ≡ t = digits-div t y in
@@ -172,11 +172,11 @@ length-rising : Rising 0 (lengthCode .widths)
 unfolding Rising
 length-rising = (omega arith, (omega arith, (omega arith, (omega arith, tt))))
 
-tag-holds : (tag : ℕ) → tag < 256 ^ 2 → Holds tagCode tag
-tag-holds tag h = record { rising = tag-rising; widest = 1; inside = omega arith; below = h }
+tag-encodable : (tag : ℕ) → tag < 256 ^ 2 → Encodable tagCode tag
+tag-encodable tag h = record { rising = tag-rising; widest = 1; inside = omega arith; below = h }
 
-length-holds : (len : ℕ) → len < 256 ^ 8 → Holds lengthCode len
-length-holds len h = record { rising = length-rising; widest = 3; inside = omega arith; below = h }
+length-encodable : (len : ℕ) → len < 256 ^ 8 → Encodable lengthCode len
+length-encodable len h = record { rising = length-rising; widest = 3; inside = omega arith; below = h }
 
 -- A form's number is below what its code can hold.
 form-below : (code : Code) (n v x : ℕ) (s : List ℕ) → ((i : ℕ) → i < length (code .widths) → getD (code .widths) i 0 ≤ n)
@@ -201,33 +201,33 @@ length-widths (suc (suc (suc (suc i)))) h = absurd (omega arith)
 pub part-bounds : (c : List ℕ) (tag len : ℕ) → Octets c → ControlPart tag len c → (tag < 256 ^ 2) × (len < 256 ^ 8)
 unfolding Octets
 part-bounds c tag len o p =
-    let b : Octets ((p .left * 16 + p .right) ∷ p .tag-octets ++ p .length-octets) = subst Octets (p .is) o in (
-      form-below tagCode 2 tag (p .left) (p .tag-octets) tag-widths (omega arith) (octets-before (p .tag-octets) (p .length-octets) (b .1)) (p .tag-form),
-      form-below lengthCode 8 len (p .right) (p .length-octets) length-widths (omega arith) (octets-after (p .tag-octets) (p .length-octets) (b .1)) (p .length-form),
+    let b : Octets ((p .tag-lead * 16 + p .length-lead) ∷ p .tag-octets ++ p .length-octets) = subst Octets (p .is) o in (
+      form-below tagCode 2 tag (p .tag-lead) (p .tag-octets) tag-widths (omega arith) (octets-before (p .tag-octets) (p .length-octets) (b .1)) (p .tag-form),
+      form-below lengthCode 8 len (p .length-lead) (p .length-octets) length-widths (omega arith) (octets-after (p .tag-octets) (p .length-octets) (b .1)) (p .length-form),
     )
 
--- The least control part is a control part of the tag and the length that it was made of.
+-- The least control part of a tag and a length is a control part of these.
 pub least-part : (tag len : ℕ) → tag < 256 ^ 2 → len < 256 ^ 8 → ControlPart tag len (leastControl tag len)
 unfolding leastControl
 least-part tag len h k =
     record {
-      left = leastCode tagCode tag .0;
-      right = leastCode lengthCode len .0;
+      tag-lead = leastCode tagCode tag .0;
+      length-lead = leastCode lengthCode len .0;
       tag-octets = leastCode tagCode tag .1;
       length-octets = leastCode lengthCode len .1;
       is = refl;
-      tag-form = leastCode-form tagCode tag (tag-holds tag h);
-      length-form = leastCode-form lengthCode len (length-holds len k);
+      tag-form = leastCode-form tagCode tag (tag-encodable tag h);
+      length-form = leastCode-form lengthCode len (length-encodable len k);
     }
 
 pub octets-leastControl : (tag len : ℕ) → tag < 256 ^ 2 → len < 256 ^ 8 → Octets (leastControl tag len)
 unfolding leastControl Octets
 octets-leastControl tag len h k =
-    let x = form-lead tagCode tag (leastCode tagCode tag .0) (leastCode tagCode tag .1) (leastCode-form tagCode tag (tag-holds tag h)) in
-    let y = form-lead lengthCode len (leastCode lengthCode len .0) (leastCode lengthCode len .1) (leastCode-form lengthCode len (length-holds len k)) in (
+    let x = form-lead tagCode tag (leastCode tagCode tag .0) (leastCode tagCode tag .1) (leastCode-form tagCode tag (tag-encodable tag h)) in
+    let y = form-lead lengthCode len (leastCode lengthCode len .0) (leastCode lengthCode len .1) (leastCode-form lengthCode len (length-encodable len k)) in (
       omega arith,
-      octets-append (leastCode tagCode tag .1) (leastCode lengthCode len .1) (leastCode-octets tagCode tag (tag-holds tag h))
-          (leastCode-octets lengthCode len (length-holds len k)),
+      octets-append (leastCode tagCode tag .1) (leastCode lengthCode len .1) (leastCode-octets tagCode tag (tag-encodable tag h))
+          (leastCode-octets lengthCode len (length-encodable len k)),
     )
 
 -- A control part of the same tag and as large a length is no shorter than the least one, and is the least one where it is as long and has the same length.
@@ -235,9 +235,9 @@ pub leastControl-least : (c : List ℕ) (tag len k : ℕ) → Octets c → Contr
     → (length (leastControl tag k) ≤ length c) × (length (leastControl tag k) ≡ length c → k ≡ len → leastControl tag k ≡ c)
 unfolding leastControl Octets
 leastControl-least c tag len k o a h =
-    let b : Octets ((a .left * 16 + a .right) ∷ a .tag-octets ++ a .length-octets) = subst Octets (a .is) o in
-    let p = leastCode-least tagCode tag tag (a .left) (a .tag-octets) tag-rising (omega arith) (octets-before (a .tag-octets) (a .length-octets) (b .1)) (a .tag-form) in
-    let q = leastCode-least lengthCode k len (a .right) (a .length-octets) length-rising h (octets-after (a .tag-octets) (a .length-octets) (b .1)) (a .length-form) in
+    let b : Octets ((a .tag-lead * 16 + a .length-lead) ∷ a .tag-octets ++ a .length-octets) = subst Octets (a .is) o in
+    let p = leastCode-least tagCode tag tag (a .tag-lead) (a .tag-octets) tag-rising (omega arith) (octets-before (a .tag-octets) (a .length-octets) (b .1)) (a .tag-form) in
+    let q = leastCode-least lengthCode k len (a .length-lead) (a .length-octets) length-rising h (octets-after (a .tag-octets) (a .length-octets) (b .1)) (a .length-form) in
     let pl = p .long in
     let ql = q .long in
     let m = length-part tag len c a in

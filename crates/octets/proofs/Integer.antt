@@ -14,7 +14,7 @@ use lib.Pow.{pow-add}
 use lib.Dec.{leb}
 use borrow.Author.Tests.{leb-true, leb-false, le-leb}
 use Rattle.octets.specs.declared.Least.{Least}
-use Rattle.octets.specs.Number.{Octets, number, octetsOf, width, widthWithin}
+use Rattle.octets.specs.Number.{Octets, bigEndian, octetsOf, width, widthWithin}
 use Rattle.octets.specs.Signed.{lowest, withSign, integer, signedWidth, signedBits, leastInt}
 use Rattle.octets.specs.internal.Least.{intWidthBits}
 use Rattle.octets.specs.internal.Bounded.{signed}
@@ -56,11 +56,11 @@ unfolding lowest
 lowest-is n a b = let h = lowest-bounds n a b in rw (one-mul (2 ^ (8 * n - 1))) (mod-eq-of-lt (omega arith))
 
 -- Octets whose leftmost bit is clear.
-integer-of-small : (x : ℕ) (s : List ℕ) → number (x ∷ s) < lowest (suc (length s)) → integer (x ∷ s) ≡ pos (number (x ∷ s))
-unfolding integer number withSign
+integer-of-small : (x : ℕ) (s : List ℕ) → bigEndian (x ∷ s) < lowest (suc (length s)) → integer (x ∷ s) ≡ pos (bigEndian (x ∷ s))
+unfolding integer bigEndian withSign
 integer-of-small x s h = go (leb 128 x) refl
   where
-    go : (t : Bool) → leb 128 x ≡ t → withSign (suc (length s)) t (x % 128 * 256 ^ length s + number s) ≡ pos (x * 256 ^ length s + number s)
+    go : (t : Bool) → leb 128 x ≡ t → withSign (suc (length s)) t (x % 128 * 256 ^ length s + bigEndian s) ≡ pos (x * 256 ^ length s + bigEndian s)
     go true e =
         let k = mul-le-mul-right (256 ^ length s) (leb-true 128 x e) in
         let l = lowest-half (length s) in
@@ -68,12 +68,12 @@ integer-of-small x s h = go (leb 128 x) refl
     go false e = let k : x % 128 ≡ x = mod-eq-of-lt (leb-false 128 x e) in rw k
 
 -- Octets whose leftmost bit is set.
-integer-of-large : (x : ℕ) (s : List ℕ) (m : ℕ) → Octets (x ∷ s) → number (x ∷ s) ≡ lowest (suc (length s)) + m
+integer-of-large : (x : ℕ) (s : List ℕ) (m : ℕ) → Octets (x ∷ s) → bigEndian (x ∷ s) ≡ lowest (suc (length s)) + m
     → integer (x ∷ s) ≡ withSign (suc (length s)) true m
-unfolding integer number Octets
+unfolding integer bigEndian Octets
 integer-of-large x s m o e = go (leb 128 x) refl
   where
-    go : (t : Bool) → leb 128 x ≡ t → withSign (suc (length s)) t (x % 128 * 256 ^ length s + number s) ≡ withSign (suc (length s)) true m
+    go : (t : Bool) → leb 128 x ≡ t → withSign (suc (length s)) t (x % 128 * 256 ^ length s + bigEndian s) ≡ withSign (suc (length s)) true m
     go true t =
         let k = leb-true 128 x t in
         let l = lowest-half (length s) in
@@ -82,27 +82,27 @@ integer-of-large x s m o e = go (leb 128 x) refl
         let f : x * 256 ^ length s ≡ 128 * 256 ^ length s + x % 128 * 256 ^ length s = ap (λ (n : ℕ). n * 256 ^ length s) y ∙ omega arith in
         ap (withSign (suc (length s)) true) (omega arith)
     go false t =
-        let k : x * 256 ^ length s + number s < 128 * 256 ^ length s = digits-lt (leb-false 128 x t) (number-below s (o .1)) in
+        let k : x * 256 ^ length s + bigEndian s < 128 * 256 ^ length s = digits-lt (leb-false 128 x t) (number-below s (o .1)) in
         let l = lowest-half (length s) in
         absurd (omega arith)
 
 -- The value and the bits of octets, by the two cases of their leftmost bit.
 data Halves (n : ℕ) (s : List ℕ) : Type 0 where
-  small : number s < lowest n → integer s ≡ pos (number s) → Halves n s
-  large : (m : ℕ) → m < lowest n → number s ≡ lowest n + m → integer s ≡ withSign n true m → Halves n s
+  small : bigEndian s < lowest n → integer s ≡ pos (bigEndian s) → Halves n s
+  large : (m : ℕ) → m < lowest n → bigEndian s ≡ lowest n + m → integer s ≡ withSign n true m → Halves n s
 
 halves : (x : ℕ) (s : List ℕ) → Octets (x ∷ s) → Halves (suc (length s)) (x ∷ s)
-halves x s o = go (leb (lowest (suc (length s))) (number (x ∷ s))) refl
+halves x s o = go (leb (lowest (suc (length s))) (bigEndian (x ∷ s))) refl
   where
-    go : (t : Bool) → leb (lowest (suc (length s))) (number (x ∷ s)) ≡ t → Halves (suc (length s)) (x ∷ s)
+    go : (t : Bool) → leb (lowest (suc (length s))) (bigEndian (x ∷ s)) ≡ t → Halves (suc (length s)) (x ∷ s)
     go true e =
-        let k = leb-true (lowest (suc (length s))) (number (x ∷ s)) e in
+        let k = leb-true (lowest (suc (length s))) (bigEndian (x ∷ s)) e in
         let b = number-below (x ∷ s) o in
         let w = lowest-twice (length s) in
-        let m = number (x ∷ s) - lowest (suc (length s)) in
-        let f : number (x ∷ s) ≡ lowest (suc (length s)) + m = omega arith in
+        let m = bigEndian (x ∷ s) - lowest (suc (length s)) in
+        let f : bigEndian (x ∷ s) ≡ lowest (suc (length s)) + m = omega arith in
         large m (omega arith) f (integer-of-large x s m o f)
-    go false e = let k = leb-false (lowest (suc (length s))) (number (x ∷ s)) e in small k (integer-of-small x s k)
+    go false e = let k = leb-false (lowest (suc (length s))) (bigEndian (x ∷ s)) e in small k (integer-of-small x s k)
 
 -- A set sign over a magnitude below half.
 mag-withSign : (n m : ℕ) → m < lowest (suc n) → mag (withSign (suc n) true m) < lowest (suc n)
@@ -130,10 +130,10 @@ mag-integer x s o = go (halves x s o)
     go (small h e) = rw e h
     go (large m h f e) = rw e (mag-withSign (length s) m h)
 
-pub bits-integer : (x : ℕ) (s : List ℕ) → Octets (x ∷ s) → signedBits (suc (length s)) (integer (x ∷ s)) ≡ number (x ∷ s)
+pub bits-integer : (x : ℕ) (s : List ℕ) → Octets (x ∷ s) → signedBits (suc (length s)) (integer (x ∷ s)) ≡ bigEndian (x ∷ s)
 bits-integer x s o = go (halves x s o)
   where
-    go : Halves (suc (length s)) (x ∷ s) → signedBits (suc (length s)) (integer (x ∷ s)) ≡ number (x ∷ s)
+    go : Halves (suc (length s)) (x ∷ s) → signedBits (suc (length s)) (integer (x ∷ s)) ≡ bigEndian (x ∷ s)
     go (small h e) = rw e (unfold signedBits in refl)
     go (large m h f e) = rw e (bits-withSign (length s) m h ∙ sym f)
 
@@ -174,14 +174,14 @@ bits-below (negsuc k) n h = let w = lowest-twice n in let m = mod-lt (suc k) (lo
 
 -- Octets that hold the bits of a signed number hold that number.
 integer-of-bits : (z : ℤ) (x : ℕ) (s : List ℕ) → Octets (x ∷ s) → mag z < lowest (suc (length s))
-    → number (x ∷ s) ≡ signedBits (suc (length s)) z → integer (x ∷ s) ≡ z
+    → bigEndian (x ∷ s) ≡ signedBits (suc (length s)) z → integer (x ∷ s) ≡ z
 unfolding signedBits
 integer-of-bits (pos v) x s o h e = integer-of-small x s (omega arith) ∙ ap pos e
 integer-of-bits (negsuc k) x s o h e = ⊎-elim equal below (eq-or-lt-of-le h)
   where
     equal : suc k ≡ lowest (suc (length s)) → integer (x ∷ s) ≡ negsuc k
     equal f =
-        let g : number (x ∷ s) ≡ lowest (suc (length s)) + 0 = e ∙ rw (f, mod-self (lowest (suc (length s)))) in
+        let g : bigEndian (x ∷ s) ≡ lowest (suc (length s)) + 0 = e ∙ rw (f, mod-self (lowest (suc (length s)))) in
         integer-of-large x s 0 o g ∙ unfold withSign in ap (λ (n : ℕ). negℤ (pos n)) (sym f)
 
     below : suc k < lowest (suc (length s)) → integer (x ∷ s) ≡ negsuc k
@@ -192,7 +192,7 @@ integer-octetsOf z n h =
     go (octetsOf (suc n) (signedBits (suc n) z)) (length-octetsOf (suc n) (signedBits (suc n) z))
     (octets-octetsOf (suc n) (signedBits (suc n) z)) (number-octetsOf (suc n) (signedBits (suc n) z) (bits-below z n h))
   where
-    go : (s : List ℕ) → length s ≡ suc n → Octets s → number s ≡ signedBits (suc n) z → integer s ≡ z
+    go : (s : List ℕ) → length s ≡ suc n → Octets s → bigEndian s ≡ signedBits (suc n) z → integer s ≡ z
     go [] l o e = absurd (omega arith)
     go (x ∷ s) l o e =
         let k : n ≡ length s = omega arith in
@@ -238,8 +238,8 @@ leastInt-no-shorter (x ∷ s) o h =
         let b = bits-integer x s o in
         let n = suc (length s) in
         rw (e, b)
-        (number-injective (octetsOf n (number (x ∷ s))) (x ∷ s) (octets-octetsOf n (number (x ∷ s))) o
-        (length-octetsOf n (number (x ∷ s))) (number-octetsOf n (number (x ∷ s)) (number-below (x ∷ s) o)))
+        (number-injective (octetsOf n (bigEndian (x ∷ s))) (x ∷ s) (octets-octetsOf n (bigEndian (x ∷ s))) o
+        (length-octetsOf n (bigEndian (x ∷ s))) (number-octetsOf n (bigEndian (x ∷ s)) (number-below (x ∷ s) o)))
 
 -- Where a field may have as many octets, its signed number is read.
 pub signed-is : (s : List ℕ) → length s ≤ 8 → signed s ≡ integer s

@@ -11,7 +11,7 @@ use lib.Pow.{pow-add}
 use lib.Dec.{leb}
 use borrow.Author.Tests.{leb-true, leb-false, le-leb}
 use Rattle.octets.specs.declared.Least.{Least}
-use Rattle.octets.specs.Number.{Octets, number, octetsOf, width, widthWithin, leastUint}
+use Rattle.octets.specs.Number.{Octets, bigEndian, octetsOf, width, widthWithin, leastUint}
 use Rattle.octets.specs.internal.Least.{uintWidthBits}
 use Rattle.octets.specs.internal.Bounded.{unsigned}
 
@@ -49,19 +49,19 @@ octets-part n i s o =
     let later = octets-after (take i s) (drop i s) (rw (take-append-drop i s) o) in
     octets-before (take n (drop i s)) (drop n (drop i s)) (rw (take-append-drop n (drop i s)) later)
 
-pub number-append : (s t : List ℕ) → number (s ++ t) ≡ number s * 256 ^ length t + number t
-unfolding number
+pub number-append : (s t : List ℕ) → bigEndian (s ++ t) ≡ bigEndian s * 256 ^ length t + bigEndian t
+unfolding bigEndian
 number-append [] t = omega arith
 number-append (x ∷ s) t =
     rw (number-append s t, length-append s t, pow-add 256 (length s) (length t)) (omega arith)
 
 -- One octet more at the end.
-pub number-snoc : (s : List ℕ) (x : ℕ) → number (s ++ (x ∷ [])) ≡ number s * 256 + x
-unfolding number
+pub number-snoc : (s : List ℕ) (x : ℕ) → bigEndian (s ++ (x ∷ [])) ≡ bigEndian s * 256 + x
+unfolding bigEndian
 number-snoc s x = rw (number-append s (x ∷ [])) (omega arith)
 
-pub number-below : (s : List ℕ) → Octets s → number s < 256 ^ length s
-unfolding number Octets
+pub number-below : (s : List ℕ) → Octets s → bigEndian s < 256 ^ length s
+unfolding bigEndian Octets
 number-below [] h = omega arith
 number-below (x ∷ s) h =
     rw (pow-suc 256 (length s), mul-comm (256 ^ length s) 256) (digits-lt (h .0) (number-below s (h .1)))
@@ -74,20 +74,20 @@ digits-same p x y a b ha hb e = (
 )
 
 -- Few octets hold a number of 64 bits.
-pub number-below-most : (s : List ℕ) (n : ℕ) → Octets s → length s ≤ n → number s < 256 ^ n
+pub number-below-most : (s : List ℕ) (n : ℕ) → Octets s → length s ≤ n → bigEndian s < 256 ^ n
 number-below-most s n o h = lt-of-lt-of-le (number-below s o) (power-grows (length s) n h)
 
 -- Octets of one length that hold the same number are the same.
-pub number-injective : (s t : List ℕ) → Octets s → Octets t → length s ≡ length t → number s ≡ number t → s ≡ t
-unfolding number Octets
+pub number-injective : (s t : List ℕ) → Octets s → Octets t → length s ≡ length t → bigEndian s ≡ bigEndian t → s ≡ t
+unfolding bigEndian Octets
 number-injective [] [] a b l e = refl
 number-injective [] (y ∷ t) a b l e = absurd (omega arith)
 number-injective (x ∷ s) [] a b l e = absurd (omega arith)
 number-injective (x ∷ s) (y ∷ t) a b l e =
     let k : length s ≡ length t = suc-inj l in
-    let f : x * 256 ^ length t + number s ≡ y * 256 ^ length t + number t = rw k at e in
-    let h : number s < 256 ^ length t = rw k at (number-below s (a .1)) in
-    let d = digits-same (256 ^ length t) x y (number s) (number t) h (number-below t (b .1)) f in
+    let f : x * 256 ^ length t + bigEndian s ≡ y * 256 ^ length t + bigEndian t = rw k at e in
+    let h : bigEndian s < 256 ^ length t = rw k at (number-below s (a .1)) in
+    let d = digits-same (256 ^ length t) x y (bigEndian s) (bigEndian t) h (number-below t (b .1)) f in
     ap₂ (λ (z : ℕ) (r : List ℕ). z ∷ r) (d .0) (number-injective s t (a .1) (b .1) k (d .1))
 
 pub length-octetsOf : (n v : ℕ) → length (octetsOf n v) ≡ n
@@ -100,14 +100,14 @@ unfolding octetsOf Octets
 octets-octetsOf zero v = tt
 octets-octetsOf (suc n) v = (omega arith, octets-octetsOf n v)
 
-number-octetsOf-mod : (n v : ℕ) → number (octetsOf n v) ≡ v % 256 ^ n
-unfolding number octetsOf
+number-octetsOf-mod : (n v : ℕ) → bigEndian (octetsOf n v) ≡ v % 256 ^ n
+unfolding bigEndian octetsOf
 number-octetsOf-mod zero v = omega arith
 number-octetsOf-mod (suc n) v =
     rw (number-octetsOf-mod n v, length-octetsOf n v, pow-suc 256 n, mul-comm (256 ^ n) 256)
     (sym (mod-mul v (omega arith) (power-positive n)))
 
-pub number-octetsOf : (n v : ℕ) → v < 256 ^ n → number (octetsOf n v) ≡ v
+pub number-octetsOf : (n v : ℕ) → v < 256 ^ n → bigEndian (octetsOf n v) ≡ v
 number-octetsOf n v h = number-octetsOf-mod n v ∙ mod-eq-of-lt h
 
 -- A power above another has the larger exponent.
@@ -158,7 +158,7 @@ unfolding width
 width-bound v = widthWithin-bound 8 v
 
 -- The least octets of a uint hold it.
-pub number-leastUint : (v : ℕ) → v < 256 ^ 8 → number (leastUint v) ≡ v
+pub number-leastUint : (v : ℕ) → v < 256 ^ 8 → bigEndian (leastUint v) ≡ v
 unfolding leastUint
 number-leastUint v h = number-octetsOf (width v) v (width-holds v h)
 
@@ -171,7 +171,7 @@ unfolding leastUint
 octets-leastUint v = octets-octetsOf (width v) v
 
 -- Where a field may have as many octets, its number is read.
-pub unsigned-is : (s : List ℕ) → length s ≤ 8 → unsigned s ≡ number s
+pub unsigned-is : (s : List ℕ) → length s ≤ 8 → unsigned s ≡ bigEndian s
 unfolding unsigned
 unsigned-is s h = rw (le-leb (length s) 8 h)
 

@@ -6,7 +6,7 @@ use mathlib.Core.Logic.{⊎-elim}
 use mathlib.Core.Path.{_≡_, refl, ap₂}
 use mathlib.Core.List.{List, _++_}
 use lib.ListN.{length, length-append}
-use Rattle.octets.specs.Number.{Octets, number, leastUint}
+use Rattle.octets.specs.Number.{Octets, bigEndian, leastUint}
 use Rattle.octets.proofs.Number.{number-injective, number-below, number-below-most, width-least, length-leastUint, octets-leastUint, number-leastUint}
 use Rattle.octets.specs.NoShorter.{NoShorter}
 
@@ -29,9 +29,9 @@ pub no-shorter-other : (l s : List ℕ) → NoShorter l s → (l ≡ s → ⊥) 
 no-shorter-other l s a ne = ⊎-elim (λ e. absurd (ne (a .same e))) (λ h. h) (eq-or-lt-of-le (a .long))
 
 -- Octets that hold a number are no shorter than its least octets.
-pub leastUint-no-shorter : (s : List ℕ) → Octets s → length s ≤ 8 → NoShorter (leastUint (number s)) s
+pub leastUint-no-shorter : (s : List ℕ) → Octets s → length s ≤ 8 → NoShorter (leastUint (bigEndian s)) s
 leastUint-no-shorter s o h =
-    let v = number s in
+    let v = bigEndian s in
     let shown = number-leastUint v (number-below-most s 8 o h) in
     let k = length-leastUint v in
     let m = width-least v (length s) (number-below s o) in

@@ -5,7 +5,7 @@ use mathlib.Core.Bool.{cond}
 use mathlib.Core.List.{List, [], _∷_, _++_}
 use lib.ListN.{length, getD, take, drop}
 use lib.Dec.{ltb}
-use Rattle.octets.specs.Number.{number, octetsOf}
+use Rattle.octets.specs.Number.{bigEndian, octetsOf}
 use Rattle.octets.specs.ControlPart.{Code, tagCode, lengthCode}
 use Rattle.octets.specs.declared.Control.{Control}
 use Rattle.octets.specs.declared.Control.the-variants.{Absent, Partial, Whole}
@@ -16,7 +16,7 @@ following code lead = cond (ltb lead (code .direct)) 0 (getD (code .widths) (lea
 
 -- The number that a lead and the octets that follow it stand for.
 unfoldable pub coded : Code → ℕ → List ℕ → ℕ
-coded code lead s = cond (ltb lead (code .direct)) lead (number s)
+coded code lead s = cond (ltb lead (code .direct)) lead (bigEndian s)
 
 -- A control part of which the two leads, and all octets after them, are given.
 unfoldable pub controlOf : ℕ → ℕ → List ℕ → Control

@@ -4,7 +4,7 @@ use Prim.Native.Nat.{ℕ, _+_, _*_, _<_}
 use mathlib.Core.Path.{_≡_}
 use mathlib.Core.List.{List, [], _∷_, _++_}
 use lib.ListN.{length, getD}
-use Rattle.octets.specs.Number.{number}
+use Rattle.octets.specs.Number.{bigEndian}
 
 -- How a number is coded. A lead below `direct` is the number itself. The lead `direct + i` says that the number follows in as many octets
 -- as `widths` has at i.
@@ -24,16 +24,16 @@ lengthCode = record { direct = 12; widths = 1 ∷ 2 ∷ 4 ∷ 8 ∷ [] }
 -- than needed are legal.
 pub data Form (code : Code) (v : ℕ) : ℕ → List ℕ → Type 0 where
   direct : v < code .direct → Form code v v []
-  follows : (i : ℕ) (s : List ℕ) → i < length (code .widths) → length s ≡ getD (code .widths) i 0 → number s ≡ v
+  follows : (i : ℕ) (s : List ℕ) → i < length (code .widths) → length s ≡ getD (code .widths) i 0 → bigEndian s ≡ v
       → Form code v (code .direct + i) s
 
 -- A control part of a tag and a length. The left nybble of the control octet is the tag's lead, the right nybble the length's: both are
 -- below 16, as every lead of these codes is.
 pub record ControlPart (tag len : ℕ) (part : List ℕ) : Type 0 where
-  pub left : ℕ
-  pub right : ℕ
+  pub tag-lead : ℕ
+  pub length-lead : ℕ
   pub tag-octets : List ℕ
   pub length-octets : List ℕ
-  pub is : part ≡ (left * 16 + right) ∷ tag-octets ++ length-octets
-  pub tag-form : Form tagCode tag left tag-octets
-  pub length-form : Form lengthCode len right length-octets
+  pub is : part ≡ (tag-lead * 16 + length-lead) ∷ tag-octets ++ length-octets
+  pub tag-form : Form tagCode tag tag-lead tag-octets
+  pub length-form : Form lengthCode len length-lead length-octets

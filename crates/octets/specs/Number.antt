@@ -11,9 +11,9 @@ Octets [] = Unit {0}
 Octets (x ∷ s) = (x < 256) × Octets s
 
 -- The big-endian number that octets hold; no octets hold 0.
-unfoldable pub number : List ℕ → ℕ
-number [] = 0
-number (x ∷ s) = x * 256 ^ length s + number s
+unfoldable pub bigEndian : List ℕ → ℕ
+bigEndian [] = 0
+bigEndian (x ∷ s) = x * 256 ^ length s + bigEndian s
 
 -- A number's last n octets.
 unfoldable pub octetsOf : ℕ → ℕ → List ℕ

@@ -5,7 +5,7 @@ use mathlib.Core.List.{List, [], _∷_}
 use lib.ListN.{length}
 use lib.Dec.{leb}
 use lib.IntN.{ℤ, pos, negsuc, negℤ}
-use Rattle.octets.specs.Number.{number, octetsOf, width}
+use Rattle.octets.specs.Number.{bigEndian, octetsOf, width}
 
 -- Where the sign is set and all other bits are clear, n octets mean minus this.
 unfoldable pub lowest : ℕ → ℕ
@@ -20,7 +20,7 @@ withSign n true (suc m) = negℤ (pos (suc m))
 -- The signed number that octets hold; no octets hold 0.
 unfoldable pub integer : List ℕ → ℤ
 integer [] = pos 0
-integer (x ∷ s) = withSign (length (x ∷ s)) (leb 128 x) (number (x % 128 ∷ s))
+integer (x ∷ s) = withSign (length (x ∷ s)) (leb 128 x) (bigEndian (x % 128 ∷ s))
 
 -- How many octets a signed number needs: none for 0, else a bit for the sign beside the magnitude. Below zero, one less than the magnitude
 -- has to fit beside the sign, since n octets also hold minus `lowest n`.

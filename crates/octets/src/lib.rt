@@ -1,15 +1,15 @@
 // Octets: big-endian numbers, signed numbers, text and control parts. This crate has the definitions (specs/) and the laws about them
-// (proofs/); its only code is the types below, which the definitions and the functions of the crates above share.
+// (proofs/). Its only code is the types below, which the definitions share with the functions of the crates above.
 
-// What stands at the front of octets: nothing, the beginning of a control part, or a whole one with its tag, the length that it
-// announces and the number of octets that it takes itself.
+// The control part at the start of octets: absent if there are no octets, partial if the octets end inside it, or whole. A whole one has a
+// tag, the length of the contents, and its own size in octets.
 pub enum Control {
     Absent,
     Partial,
     Whole { tag: u64, length: u64, size: u64 },
 }
 
-// The least octets of a number: how many, and the number that they hold when they are read as an unsigned one.
+// The least octets of a number: how many, and their value when read as an unsigned number.
 pub struct Least {
     pub width: u64,
     pub bits: u64,

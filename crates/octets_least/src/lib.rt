@@ -1,4 +1,4 @@
-// Least forms: how few octets hold a number, a signed number or a control part, and what they are.
+// The least forms of numbers, signed numbers and control parts: how many octets they have, and their value.
 use octets::Least;
 use octets::LeastControl;
 ghost use mathlib.Core.Path.{_≡_};
@@ -10,7 +10,7 @@ ghost use Rattle.octets.specs.Signed.{lowest};
 ghost use Rattle.octets.specs.ControlPart.{tagCode, lengthCode};
 ghost use Rattle.octets_least.specs.internal.Lead.{LeastLead};
 
-// How many octets a number needs.
+// Returns how many octets a number needs.
 fn width(v: u64) -> u64
     ensures { λ r. ⌜ r ≡ width-of v ⌝ }
 {
@@ -41,7 +41,7 @@ fn width(v: u64) -> u64
     8
 }
 
-// The least octets of an unsigned number.
+// Returns the least octets of an unsigned number.
 pub fn uint_least(v: u64) -> Least
     ensures { λ r. ⌜ r ≡ uintWidthBits v ⌝ }
 {
@@ -51,7 +51,7 @@ pub fn uint_least(v: u64) -> Least
     }
 }
 
-// The number whose sign bit stands alone in n octets.
+// Returns the number of n octets of which only the sign bit is set.
 fn sign_bit(n: u64) -> u64
     requires { ⌜ (0 < n) × (n ≤ 8) ⌝ }
     ensures { λ r. ⌜ r ≡ lowest n ⌝ }
@@ -59,7 +59,7 @@ fn sign_bit(n: u64) -> u64
     1u64 << (8 * n - 1)
 }
 
-// The least octets of the number below zero whose magnitude is k + 1. The mask drops the magnitude where it is the sign bit itself.
+// Returns the least octets of the negative number with the magnitude k + 1. The mask clears the magnitude if it equals the sign bit.
 fn least_below(k: u64) -> Least
     requires { ⌜ k < 2 ^ 63 ⌝ }
     ensures { λ r. ⌜ r ≡ intWidthBits (negsuc k) ⌝ }
@@ -72,7 +72,7 @@ fn least_below(k: u64) -> Least
     }
 }
 
-// The least octets of a signed number.
+// Returns the least octets of a signed number.
 pub fn int_least(z: i64) -> Least
     ensures { λ r. ⌜ r ≡ intWidthBits z ⌝ }
 {
@@ -86,13 +86,13 @@ pub fn int_least(z: i64) -> Least
     }
 }
 
-// A lead, and how many octets follow it.
+// A lead, and the number of octets that follow it.
 struct Lead {
     octet: u8,
     width: u64,
 }
 
-// The least form of a tag.
+// Returns the least form of a tag.
 fn tag_lead(tag: u16) -> Lead
     ensures { λ r. ⌜ LeastLead tagCode tag (r .octet) (r .width) ⌝ }
 {
@@ -114,7 +114,7 @@ fn tag_lead(tag: u16) -> Lead
     }
 }
 
-// The least form of a length.
+// Returns the least form of a length.
 fn length_lead(length: u64) -> Lead
     ensures { λ r. ⌜ LeastLead lengthCode length (r .octet) (r .width) ⌝ }
 {
@@ -148,7 +148,7 @@ fn length_lead(length: u64) -> Lead
     }
 }
 
-// The least control part of a tag and a length.
+// Returns the least control part of a tag and a length.
 pub fn control_least(tag: u16, length: u64) -> LeastControl
     ensures { λ r. ⌜ r ≡ controlWidths tag length ⌝ }
 {

@@ -5,10 +5,10 @@ use mathlib.Core.Path.{_≡_, refl, sym, subst}
 use mathlib.Core.List.{List}
 use lib.ListN.{length, take}
 use borrow.Author.Tests.{lt-ltb, le-ltb}
-use Rattle.octets.specs.Number.{number}
+use Rattle.octets.specs.Number.{bigEndian}
 use Rattle.octets.specs.ControlPart.{Code, tagCode, lengthCode}
 use Rattle.octets.specs.Control.{following, coded}
-use Rattle.octets_read.proofs.Numbers.{all-held}
+use Rattle.octets_read.proofs.Numbers.{all-octets}
 
 -- What holds at each lead that octets follow.
 by-tag : (P : ℕ → Type 0) → P 14 → P 15 → (t : ℕ) → 14 ≤ t → t < 16 → P t
@@ -43,12 +43,12 @@ pub coded-direct : (code : Code) (t : ℕ) (s : List ℕ) → t < code .direct �
 unfolding coded
 coded-direct code t s h = rw (lt-ltb t (code .direct) h)
 
-pub coded-after : (code : Code) (t : ℕ) (s : List ℕ) (v : ℕ) → code .direct ≤ t → v ≡ number s → v ≡ coded code t s
+pub coded-after : (code : Code) (t : ℕ) (s : List ℕ) (v : ℕ) → code .direct ≤ t → v ≡ bigEndian s → v ≡ coded code t s
 unfolding coded
 coded-after code t s v h e = rw (le-ltb t (code .direct) h) e
 
-coded-first : (code : Code) (t : ℕ) (s : List ℕ) (v n : ℕ) → code .direct ≤ t → length s ≤ n → v ≡ number (take n s) → v ≡ coded code t s
-coded-first code t s v n h k e = coded-after code t s v h (all-held s v n k e)
+coded-first : (code : Code) (t : ℕ) (s : List ℕ) (v n : ℕ) → code .direct ≤ t → length s ≤ n → v ≡ bigEndian (take n s) → v ≡ coded code t s
+coded-first code t s v n h k e = coded-after code t s v h (all-octets s v n k e)
 
 -- The octets after a tag's lead, which are one or two.
 module _ (t : ℕ) (s : List ℕ) (h : t < 16) (e : length s ≡ following tagCode t) (k : 14 ≤ t) where
@@ -58,10 +58,10 @@ module _ (t : ℕ) (s : List ℕ) (h : t < 16) (e : length s ≡ following tagCo
   pub tag-two : (t ≡ 14 → ⊥) → (1 < length s) × (length s ≤ 8)
   tag-two ne = let f = tag-follow t k h in (omega arith, omega arith)
 
-  pub tag-of-one : (v : ℕ) → t ≡ 14 → v ≡ number (take 1 s) → v ≡ coded tagCode t s
+  pub tag-of-one : (v : ℕ) → t ≡ 14 → v ≡ bigEndian (take 1 s) → v ≡ coded tagCode t s
   tag-of-one v q r = let f = tag-follow t k h in coded-first tagCode t s v 1 k (omega arith) r
 
-  pub tag-of-two : (v : ℕ) → v ≡ number (take 2 s) → v ≡ coded tagCode t s
+  pub tag-of-two : (v : ℕ) → v ≡ bigEndian (take 2 s) → v ≡ coded tagCode t s
   tag-of-two v r = let f = tag-follow t k h in coded-first tagCode t s v 2 k (omega arith) r
 
 -- How the widths of lengths rise with their leads.
@@ -97,14 +97,14 @@ module _ (l : ℕ) (s : List ℕ) (h : l < 16) (e : length s ≡ following lengt
   pub length-eight : (l ≡ 12 → ⊥) → (l ≡ 13 → ⊥) → (l ≡ 14 → ⊥) → length s ≡ 8
   length-eight a b c = let r = length-rise l k h in omega (arith, r .four, r .most)
 
-  pub length-of-one : (v : ℕ) → l ≡ 12 → v ≡ number (take 1 s) → v ≡ coded lengthCode l s
+  pub length-of-one : (v : ℕ) → l ≡ 12 → v ≡ bigEndian (take 1 s) → v ≡ coded lengthCode l s
   unfolding following
   length-of-one v q r = coded-first lengthCode l s v 1 k (rw (e, q) (omega arith)) r
 
-  pub length-of-two : (v : ℕ) → l ≡ 13 → v ≡ number (take 2 s) → v ≡ coded lengthCode l s
+  pub length-of-two : (v : ℕ) → l ≡ 13 → v ≡ bigEndian (take 2 s) → v ≡ coded lengthCode l s
   unfolding following
   length-of-two v q r = coded-first lengthCode l s v 2 k (rw (e, q) (omega arith)) r
 
-  pub length-of-four : (v : ℕ) → l ≡ 14 → v ≡ number (take 4 s) → v ≡ coded lengthCode l s
+  pub length-of-four : (v : ℕ) → l ≡ 14 → v ≡ bigEndian (take 4 s) → v ≡ coded lengthCode l s
   unfolding following
   length-of-four v q r = coded-first lengthCode l s v 4 k (rw (e, q) (omega arith)) r

@@ -12,15 +12,15 @@ use mir.Syntax.{w64}
 use mir.Val.{SFits, toZ, ofZ}
 use mir.ValLaws.{toZ-ofZ, toZ-pos}
 use borrow.Author.Tests.{le-leb, lt-leb}
-use Rattle.octets.specs.Number.{Octets, number}
+use Rattle.octets.specs.Number.{Octets, bigEndian}
 use Rattle.octets.specs.Signed.{lowest, withSign, integer}
 use Rattle.octets.specs.internal.Bounded.{signed}
 use Rattle.octets.proofs.Number.{number-below, power-grows}
 use Rattle.octets.proofs.Integer.{lowest-half}
 
 -- A number whose leftmost bit is clear.
-pub clear-bound : (s : List ℕ) → Octets s → 0 < length s → length s ≤ 8 → getD s 0 0 < 128 → number s < 2 ^ 63
-unfolding number Octets
+pub clear-bound : (s : List ℕ) → Octets s → 0 < length s → length s ≤ 8 → getD s 0 0 < 128 → bigEndian s < 2 ^ 63
+unfolding bigEndian Octets
 clear-bound [] o a b h = absurd (omega arith)
 clear-bound (x ∷ s) o a b h =
     let g = power-grows (length s) 7 (omega arith) in
@@ -28,8 +28,8 @@ clear-bound (x ∷ s) o a b h =
     omega arith
 
 -- A number whose leftmost bit is set is that bit and the rest.
-pub set-splits : (x : ℕ) (s : List ℕ) → x < 256 → 128 ≤ x → number (x ∷ s) ≡ lowest (suc (length s)) + number (x % 128 ∷ s)
-unfolding number
+pub set-splits : (x : ℕ) (s : List ℕ) → x < 256 → 128 ≤ x → bigEndian (x ∷ s) ≡ lowest (suc (length s)) + bigEndian (x % 128 ∷ s)
+unfolding bigEndian
 set-splits x s b h =
     let e = lowest-half (length s) in
     let y : x ≡ 128 + x % 128 = omega arith in
@@ -38,7 +38,7 @@ set-splits x s b h =
 
 -- Taking that bit away leaves a number from 0 on, and no larger one than the bit.
 pub set-bounds : (s : List ℕ) → Octets s → 0 < length s → 128 ≤ getD s 0 0
-    → (lowest (length s) ≤ number s) × (number s - lowest (length s) ≤ lowest (length s))
+    → (lowest (length s) ≤ bigEndian s) × (bigEndian s - lowest (length s) ≤ lowest (length s))
 unfolding Octets
 set-bounds [] o a h = absurd (omega arith)
 set-bounds (x ∷ s) o a h =
@@ -56,7 +56,7 @@ unfolding signed integer
 signed-none [] h = refl
 signed-none (x ∷ s) h = absurd (omega arith)
 
-pub signed-clear : (s : List ℕ) → 0 < length s → length s ≤ 8 → getD s 0 0 < 128 → pos (number s) ≡ signed s
+pub signed-clear : (s : List ℕ) → 0 < length s → length s ≤ 8 → getD s 0 0 < 128 → pos (bigEndian s) ≡ signed s
 unfolding signed integer withSign
 signed-clear [] a b h = absurd (omega arith)
 signed-clear (x ∷ s) a b h = rw (le-leb (length (x ∷ s)) 8 b, lt-leb 128 x h, mod-eq-of-lt h)
@@ -72,22 +72,22 @@ with-some n zero h = absurd (h refl)
 with-some n (suc m) h = refl
 
 -- Where the leftmost bit is set, the magnitude is what is left without it.
-set-rest : (x : ℕ) (s : List ℕ) → x < 256 → 128 ≤ x → number (x ∷ s) - lowest (suc (length s)) ≡ number (x % 128 ∷ s)
+set-rest : (x : ℕ) (s : List ℕ) → x < 256 → 128 ≤ x → bigEndian (x ∷ s) - lowest (suc (length s)) ≡ bigEndian (x % 128 ∷ s)
 set-rest x s b h = let e = set-splits x s b h in omega arith
 
 signed-set : (x : ℕ) (s : List ℕ) → x < 256 → 128 ≤ x → length (x ∷ s) ≤ 8
-    → withSign (length (x ∷ s)) true (number (x ∷ s) - lowest (length (x ∷ s))) ≡ signed (x ∷ s)
+    → withSign (length (x ∷ s)) true (bigEndian (x ∷ s) - lowest (length (x ∷ s))) ≡ signed (x ∷ s)
 unfolding signed integer
 signed-set x s b h l = rw (le-leb (length (x ∷ s)) 8 l, le-leb 128 x h, set-rest x s b h)
 
-pub signed-lowest : (s : List ℕ) → Octets s → 0 < length s → length s ≤ 8 → 128 ≤ getD s 0 0 → number s - lowest (length s) ≡ 0
+pub signed-lowest : (s : List ℕ) → Octets s → 0 < length s → length s ≤ 8 → 128 ≤ getD s 0 0 → bigEndian s - lowest (length s) ≡ 0
     → negℤ (pos (lowest (length s))) ≡ signed s
 unfolding Octets
 signed-lowest [] o a b h z = absurd (omega arith)
 signed-lowest (x ∷ s) o a b h z = with-none (length (x ∷ s)) _ z ∙ signed-set x s (o .0) h b
 
-pub signed-minus : (s : List ℕ) → Octets s → 0 < length s → length s ≤ 8 → 128 ≤ getD s 0 0 → (number s - lowest (length s) ≡ 0 → ⊥)
-    → negℤ (pos (number s - lowest (length s))) ≡ signed s
+pub signed-minus : (s : List ℕ) → Octets s → 0 < length s → length s ≤ 8 → 128 ≤ getD s 0 0 → (bigEndian s - lowest (length s) ≡ 0 → ⊥)
+    → negℤ (pos (bigEndian s - lowest (length s))) ≡ signed s
 unfolding Octets
 signed-minus [] o a b h z = absurd (omega arith)
 signed-minus (x ∷ s) o a b h z = with-some (length (x ∷ s)) _ z ∙ signed-set x s (o .0) h b

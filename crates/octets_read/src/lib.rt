@@ -1,30 +1,30 @@
-// Reading octets: numbers, signed numbers and control parts. Each public function takes every slice and answers what one definition of
-// octets says of it.
+// Reading octets: numbers, signed numbers and control parts. Each public function accepts every slice and returns what a definition of
+// crate octets says.
 use octets::Control;
 ghost use mathlib.Core.Path.{_≡_};
 ghost use Prim.Native.Nat.{_+_, _<_, _≤_, _^_};
 ghost use lib.ListN.{length, take, drop};
 ghost use lib.IntN.{pos, negℤ};
-ghost use Rattle.octets.specs.Number.{number};
+ghost use Rattle.octets.specs.Number.{bigEndian};
 ghost use Rattle.octets.specs.internal.Bounded.{unsigned, signed};
 ghost use Rattle.octets.specs.Signed.{lowest};
 ghost use Rattle.octets.specs.ControlPart.{tagCode, lengthCode};
 ghost use Rattle.octets.specs.Control.{control as control-of, controlOf, following, coded};
 
-// The number that the octet at i and those before it hold, where v is what those before it hold. More than eight octets could hold one
-// too large for the result.
+// Returns the value of the octets up to and including that at i, given the value v of those before it. With at most eight octets it
+// cannot overflow.
 fn one_more(s: &[u8], i: usize, v: u64) -> u64
     requires { ⌜ (i < length (now s)) × (length (now s) ≤ 8) ⌝ }
-    requires { ⌜ v ≡ number (take i (now s)) ⌝ }
-    ensures { λ r. ⌜ r ≡ number (take (i + 1) (now (s .entry))) ⌝ }
+    requires { ⌜ v ≡ bigEndian (take i (now s)) ⌝ }
+    ensures { λ r. ⌜ r ≡ bigEndian (take (i + 1) (now (s .entry))) ⌝ }
 {
     v * 256 + numbers::wide(s[i])
 }
 
-// The number that a few octets hold.
+// Returns the big-endian value of at most eight octets.
 fn big_endian(s: &[u8]) -> u64
     requires { ⌜ length (now s) ≤ 8 ⌝ }
-    ensures { λ r. ⌜ r ≡ number (now (s .entry)) ⌝ }
+    ensures { λ r. ⌜ r ≡ bigEndian (now (s .entry)) ⌝ }
 {
     let mut v: u64 = 0;
     let mut i = 0;
@@ -35,14 +35,14 @@ fn big_endian(s: &[u8]) -> u64
     v
 }
 
-// The unsigned number that at most eight octets hold, 0 for more.
+// Returns the unsigned number that at most eight octets hold, 0 for more octets.
 pub fn uint(s: &[u8]) -> u64
     ensures { λ r. ⌜ r ≡ unsigned (now (s .entry)) ⌝ }
 {
     if s.len() <= 8 { big_endian(s) } else { 0 }
 }
 
-// Minus k. The step by one keeps each number on the way within range where k is the largest magnitude.
+// Returns minus k. Subtracting one first keeps every intermediate value in range when k is 2^63.
 fn minus(k: u64) -> i64
     requires { ⌜ (0 < k) × (k ≤ 2 ^ 63) ⌝ }
     ensures { λ r. ⌜ r ≡ negℤ (pos k) ⌝ }
@@ -51,7 +51,7 @@ fn minus(k: u64) -> i64
     -1 - d
 }
 
-// The number whose sign bit stands alone in n octets.
+// Returns the number of n octets of which only the sign bit is set.
 fn sign_bit(n: usize) -> u64
     requires { ⌜ (0 < n) × (n ≤ 8) ⌝ }
     ensures { λ r. ⌜ r ≡ lowest n ⌝ }
@@ -59,8 +59,8 @@ fn sign_bit(n: usize) -> u64
     1u64 << (8 * n - 1)
 }
 
-// The signed number that at most eight octets hold, 0 for more. With the sign set, a magnitude of 0 stands for the lowest number:
-// there is no minus zero.
+// Returns the signed number that at most eight octets hold, 0 for more octets. With the sign set, a magnitude of 0 means the lowest
+// number: there is no minus zero.
 pub fn int(s: &[u8]) -> i64
     ensures { λ r. ⌜ r ≡ signed (now (s .entry)) ⌝ }
 {
@@ -80,7 +80,7 @@ pub fn int(s: &[u8]) -> i64
     if m == 0 { minus(low) } else { minus(m) }
 }
 
-// How many octets of a tag follow its lead: one after 14, two after 15.
+// Returns how many octets of a tag follow its lead: one after 14, two after 15.
 fn tag_width(t: u64) -> usize
     requires { ⌜ t < 16 ⌝ }
     ensures { λ r. ⌜ r ≡ following tagCode t ⌝ }
@@ -92,7 +92,7 @@ fn tag_width(t: u64) -> usize
     (t - 13) as usize
 }
 
-// How many octets of a length follow its lead: one after 12, and twice as many after each next lead.
+// Returns how many octets of a length follow its lead: one after 12, and twice as many for each higher lead.
 fn length_width(l: u64) -> usize
     requires { ⌜ l < 16 ⌝ }
     ensures { λ r. ⌜ r ≡ following lengthCode l ⌝ }
@@ -104,7 +104,7 @@ fn length_width(l: u64) -> usize
     1usize << (l - 12)
 }
 
-// The tag that a lead and the octets after it stand for. With no loop few octets take fewer steps.
+// Returns the tag that a lead and the octets after it encode. For one or two octets a loop would be slower.
 fn tag_value(t: u64, s: &[u8]) -> u64
     requires { ⌜ (t < 16) × (length (now s) ≡ following tagCode t) ⌝ }
     ensures { λ r. ⌜ r ≡ coded tagCode t (now (s .entry)) ⌝ }
@@ -119,11 +119,11 @@ fn tag_value(t: u64, s: &[u8]) -> u64
     one_more(s, 1, a)
 }
 
-// The number that eight octets hold, where v is what the first four hold.
+// Returns the value of eight octets, given the value v of the first four.
 fn four_more(s: &[u8], v: u64) -> u64
     requires { ⌜ length (now s) ≡ 8 ⌝ }
-    requires { ⌜ v ≡ number (take 4 (now s)) ⌝ }
-    ensures { λ r. ⌜ r ≡ number (now (s .entry)) ⌝ }
+    requires { ⌜ v ≡ bigEndian (take 4 (now s)) ⌝ }
+    ensures { λ r. ⌜ r ≡ bigEndian (now (s .entry)) ⌝ }
 {
     let a = one_more(s, 4, v);
     let b = one_more(s, 5, a);
@@ -131,7 +131,7 @@ fn four_more(s: &[u8], v: u64) -> u64
     one_more(s, 7, c)
 }
 
-// The length that a lead and the octets after it stand for.
+// Returns the length that a lead and the octets after it encode.
 fn length_value(l: u64, s: &[u8]) -> u64
     requires { ⌜ (l < 16) × (length (now s) ≡ following lengthCode l) ⌝ }
     ensures { λ r. ⌜ r ≡ coded lengthCode l (now (s .entry)) ⌝ }
@@ -155,7 +155,7 @@ fn length_value(l: u64, s: &[u8]) -> u64
     four_more(s, d)
 }
 
-// A control part of which the octets after the first are given.
+// Reads a control part, given its two leads and the octets after the control octet.
 fn after_leads(t: u64, l: u64, s: &[u8]) -> Control
     requires { ⌜ (t < 16) × (l < 16) ⌝ }
     ensures { λ r. ⌜ r ≡ controlOf t l (now (s .entry)) ⌝ }
@@ -172,7 +172,7 @@ fn after_leads(t: u64, l: u64, s: &[u8]) -> Control
     }
 }
 
-// The control part at the front of octets. Most are one octet, so that case is tested first.
+// Reads the control part at the start of octets. Most have one octet, so that case is tested first.
 pub fn control(s: &[u8]) -> Control
     ensures { λ r. ⌜ r ≡ control-of (now (s .entry)) ⌝ }
 {
@@ -192,7 +192,7 @@ pub fn control(s: &[u8]) -> Control
     after_leads(t, l, &s[1..])
 }
 
-// The control part at an offset. A caller that has tested for one octet itself has no use for that test here.
+// Reads the control part at an offset. Callers have already handled control parts of one octet, so there is no test for them.
 pub fn control_at(s: &[u8], i: usize) -> Control
     ensures { λ r. ⌜ r ≡ control-of (drop i (now (s .entry))) ⌝ }
 {

@@ -1,4 +1,4 @@
-// Whether octets are text: octets that stand alone, and groups of a lead and the octets that follow it.
+// Testing octets for text: single octets below 0x80, and groups of a lead octet and the octets that follow it.
 ghost use mathlib.Core.Path.{_≡_};
 ghost use mathlib.Core.Bool.{cond, false};
 ghost use mathlib.Core.List.{List, _∷_};
@@ -9,7 +9,7 @@ ghost use Rattle.octets.specs.Text.{text as text-of, textAfter};
 ghost use Rattle.octets_text.specs.internal.Last.{toCome};
 ghost use Rattle.octets_text.specs.internal.Group.{follow, groupSize};
 
-// A number of octets at the front that all stand alone, eight at once. In most texts every octet does, and one by one takes longer.
+// Returns a number of leading octets that are all below 0x80, tested eight at a time. Most texts have no other octets.
 fn plain_front(s: &[u8]) -> usize
     ensures { λ r. ⌜ r ≤ length (now (s .entry)) ⌝ }
     ensures { λ r. ⌜ text-of (now (s .entry)) ≡ textAfter 0 (drop r (now (s .entry))) ⌝ }
@@ -26,7 +26,7 @@ fn plain_front(s: &[u8]) -> usize
     i
 }
 
-// All octets at the front that stand alone. A short text mostly ends here.
+// Returns the number of leading octets that are below 0x80. Most short texts have no other octets.
 fn plain_run(s: &[u8]) -> usize
     ensures { λ r. ⌜ r ≤ length (now (s .entry)) ⌝ }
     ensures { λ r. ⌜ text-of (now (s .entry)) ≡ textAfter 0 (drop r (now (s .entry))) ⌝ }
@@ -41,14 +41,14 @@ fn plain_run(s: &[u8]) -> usize
     i
 }
 
-// Whether the last three octets, of which c is the last, want more octets: one of them leads a group that reaches past c.
+// Returns whether a group is incomplete after the octets a, b and c, the last three so far: one of them leads a group that extends past c.
 fn wanting(a: u8, b: u8, c: u8) -> bool
     ensures { λ r. ⌜ r ≡ ltb 0 (toCome a b c) ⌝ }
 {
     (0xc0 <= c) | (0xe0 <= b) | (0xf0 <= a)
 }
 
-// Whether x cannot stand after these three octets.
+// Returns whether x is not allowed after the octets a, b and c.
 fn wrong(a: u8, b: u8, c: u8, x: u8) -> bool
     ensures { λ r. ⌜ ((s : List ℕ) → textAfter (toCome a b c) (x ∷ s) ≡ cond r false (textAfter (toCome b c x) s)) ⌝ }
 {
@@ -56,8 +56,8 @@ fn wrong(a: u8, b: u8, c: u8, x: u8) -> bool
     (wanting(a, b, c) ^ follows) | (0xf8 <= x)
 }
 
-// Whether octets are text, of which those before `from` are whole groups. Each octet is judged by the three before it alone, and no
-// turn leaves the loop, so that the compiler can make it one over many octets at once.
+// Returns whether octets are text, given that those before `from` are whole groups. Each octet is tested against the three before it only,
+// and the loop has no early exit, so that the compiler can vectorize it.
 fn long_text(s: &[u8], from: usize) -> bool
     requires { ⌜ from ≤ length (now s) ⌝ }
     requires { ⌜ text-of (now s) ≡ textAfter 0 (drop from (now s)) ⌝ }
@@ -79,7 +79,7 @@ fn long_text(s: &[u8], from: usize) -> bool
     !(bad | wanting(a, b, c))
 }
 
-// Whether an octet that follows a lead stands at i.
+// Returns whether the octet at i may follow a lead.
 fn one_follows(s: &[u8], i: usize) -> bool
     ensures { λ r. ⌜ r ≡ follow 1 (drop i (now (s .entry))) ⌝ }
 {
@@ -90,7 +90,7 @@ fn one_follows(s: &[u8], i: usize) -> bool
     (0x80 <= x) & (x < 0xc0)
 }
 
-// Whether two such octets stand at i and after it.
+// Returns whether the two octets from i on may follow a lead.
 fn two_follow(s: &[u8], i: usize) -> bool
     ensures { λ r. ⌜ r ≡ follow 2 (drop i (now (s .entry))) ⌝ }
 {
@@ -100,7 +100,7 @@ fn two_follow(s: &[u8], i: usize) -> bool
     false
 }
 
-// Whether three such octets stand at i and after it.
+// Returns whether the three octets from i on may follow a lead.
 fn three_follow(s: &[u8], i: usize) -> bool
     ensures { λ r. ⌜ r ≡ follow 3 (drop i (now (s .entry))) ⌝ }
 {
@@ -110,7 +110,7 @@ fn three_follow(s: &[u8], i: usize) -> bool
     false
 }
 
-// How many octets the group at i has, 0 where none stands there.
+// Returns how many octets the group at i has, 0 if no group starts there.
 fn group(s: &[u8], i: usize) -> usize
     requires { ⌜ i < length (now s) ⌝ }
     ensures { λ r. ⌜ r ≡ groupSize (drop i (now (s .entry))) ⌝ }
@@ -143,7 +143,7 @@ fn group(s: &[u8], i: usize) -> usize
     0
 }
 
-// The same as `long_text`, group by group, which takes fewer steps where few octets are left.
+// The same as `long_text`, group by group, which is faster when few octets remain.
 fn short_text(s: &[u8], from: usize) -> bool
     requires { ⌜ from ≤ length (now s) ⌝ }
     requires { ⌜ text-of (now s) ≡ textAfter 0 (drop from (now s)) ⌝ }
@@ -160,7 +160,7 @@ fn short_text(s: &[u8], from: usize) -> bool
     true
 }
 
-// Whether octets are text. Where each octet stands alone, nothing is left to read after the first run.
+// Returns whether octets are text. If all octets are below 0x80, the first run reads them all.
 pub fn text(s: &[u8]) -> bool
     ensures { λ r. ⌜ r ≡ text-of (now (s .entry)) ⌝ }
 {

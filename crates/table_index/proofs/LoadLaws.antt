@@ -11,7 +11,7 @@ use lib.Seq.{set-at, take-at, append-snoc}
 use lib.Dec.{ltb}
 use borrow.Author.Count.{below-more}
 use borrow.Author.Tests.{ltb-true, ltb-false}
-use Rattle.octets.specs.Number.{number}
+use Rattle.octets.specs.Number.{bigEndian}
 use Rattle.hproto_table.specs.Entry.{entry}
 use Rattle.hproto_table.specs.Load.{inRange, wellFormed, recordAt, wordAt, wordsBefore, pair, seen, faulty, refused, accepted, tableOf, load}
 use Rattle.hproto_table.specs.Repeat.{distinct}
@@ -40,7 +40,7 @@ pub records-continue : (s : List ℕ) (n w : ℕ) (words : List ℕ) → Records
     → RecordsLoop s (n + 1) (set words n w)
 unfolding wordsBefore wordAt
 records-continue s n w words k l e =
-    let q : (wellFormed (recordAt s n) ≡ true) × (w ≡ number (drop 3 (recordAt s n))) = recordOf-word (recordAt s n) w (rw (← place-is s n) e) in
+    let q : (wellFormed (recordAt s n) ≡ true) × (w ≡ bigEndian (drop 3 (recordAt s n))) = recordOf-word (recordAt s n) w (rw (← place-is s n) e) in
     let now : 64 - n ≡ suc (63 - n) = omega arith in
     let then : 64 - suc n ≡ 63 - n = omega arith in
     record {

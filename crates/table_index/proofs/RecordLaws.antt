@@ -10,7 +10,7 @@ use lib.ListN.{length, take, drop, getD, length-take, length-drop}
 use lib.Seq.{drop-cons}
 use lib.Dec.{eqb}
 use borrow.Author.Tests.{ne-eqb}
-use Rattle.octets.specs.Number.{number}
+use Rattle.octets.specs.Number.{bigEndian}
 use Rattle.hproto_table.specs.Entry.{entry}
 use Rattle.hproto_table.specs.Load.{inRange, wellFormed, recordAt}
 use Rattle.hproto_table.proofs.Load.{wellFormed-whole}
@@ -26,8 +26,8 @@ next s k at after h e = rw (drop-cons s at 0 h, ← e, add-one at) refl
 
 pub five-octets : (s : List ℕ) (at : ℕ) → at + 5 ≤ length s
     → (((getD s at 0 * 256 + getD s (at + 1) 0) * 256 + getD s (at + 2) 0) * 256 + getD s (at + 3) 0) * 256 + getD s (at + 4) 0
-    ≡ number (take 5 (drop at s))
-unfolding number
+    ≡ bigEndian (take 5 (drop at s))
+unfolding bigEndian
 five-octets s at h =
     rw (
       next s 4 at (at + 1) (omega arith) (omega arith),
@@ -40,7 +40,7 @@ five-octets s at h =
 
 -- The same of octets that were read one by one.
 pub five-read : (s : List ℕ) (at a b c d e : ℕ) → at + 5 ≤ length s → a ≡ getD s at 0 → b ≡ getD s (at + 1) 0 → c ≡ getD s (at + 2) 0
-    → d ≡ getD s (at + 3) 0 → e ≡ getD s (at + 4) 0 → (((a * 256 + b) * 256 + c) * 256 + d) * 256 + e ≡ number (take 5 (drop at s))
+    → d ≡ getD s (at + 3) 0 → e ≡ getD s (at + 4) 0 → (((a * 256 + b) * 256 + c) * 256 + d) * 256 + e ≡ bigEndian (take 5 (drop at s))
 five-read s at a b c d e h p q r t u = rw (p, q, r, t, u) (five-octets s at h)
 
 -- ---- a record
@@ -51,8 +51,8 @@ answer t w = cond t (Word w) Wrong
 
 module _ (s : List ℕ) (at : ℕ) (whole : at + 8 ≤ length s) where
   record-is : recordOf (take 8 (drop at s))
-      ≡ answer (eqb (getD s at 0) 1 && eqb (getD s (at + 1) 0 * 256 + getD s (at + 2) 0) 5 && inRange (entry (number (take 5 (drop (at + 3) s))))) (number (take 5 (drop (at + 3) s)))
-  unfolding recordOf wellFormed number answer
+      ≡ answer (eqb (getD s at 0) 1 && eqb (getD s (at + 1) 0 * 256 + getD s (at + 2) 0) 5 && inRange (entry (bigEndian (take 5 (drop (at + 3) s))))) (bigEndian (take 5 (drop (at + 3) s)))
+  unfolding recordOf wellFormed bigEndian answer
   record-is =
       let e : length (take 5 (drop (at + 3) s)) ≡ 5 = simp (length-take, length-drop) (omega arith) in
       rw (
@@ -72,7 +72,7 @@ module _ (s : List ℕ) (at : ℕ) (whole : at + 8 ≤ length s) where
   unfolding answer
   wrong-length d = rw (record-is, ne-eqb (getD s (at + 1) 0 * 256 + getD s (at + 2) 0) 5 d) (go (eqb (getD s at 0) 1))
     where
-      go : (a : Bool) → Wrong ≡ cond (a && false && inRange (entry (number (take 5 (drop (at + 3) s))))) (Word (number (take 5 (drop (at + 3) s)))) Wrong
+      go : (a : Bool) → Wrong ≡ cond (a && false && inRange (entry (bigEndian (take 5 (drop (at + 3) s))))) (Word (bigEndian (take 5 (drop (at + 3) s)))) Wrong
       go true = refl
       go false = refl
 
@@ -82,7 +82,7 @@ module _ (s : List ℕ) (at : ℕ) (whole : at + 8 ≤ length s) where
   pub wrong-low : getD s (at + 1) 0 ≡ 0 → (getD s (at + 2) 0 ≡ 5 → ⊥) → Wrong ≡ recordOf (take 8 (drop at s))
   wrong-low h d = wrong-length (λ e. d (omega arith))
 
-  module _ (w : ℕ) (tag : getD s at 0 ≡ 1) (high : getD s (at + 1) 0 ≡ 0) (low : getD s (at + 2) 0 ≡ 5) (word : w ≡ number (take 5 (drop (at + 3) s))) where
+  module _ (w : ℕ) (tag : getD s at 0 ≡ 1) (high : getD s (at + 1) 0 ≡ 0) (low : getD s (at + 2) 0 ≡ 5) (word : w ≡ bigEndian (take 5 (drop (at + 3) s))) where
     formed-is : recordOf (take 8 (drop at s)) ≡ answer (inRange (entry w)) w
     formed-is =
         let five : getD s (at + 1) 0 * 256 + getD s (at + 2) 0 ≡ 5 = omega arith in
@@ -103,11 +103,11 @@ pub place-is : (s : List ℕ) (n : ℕ) → take 8 (drop (n * 8) s) ≡ recordAt
 unfolding recordAt
 place-is s n = rw (mul-comm n 8) refl
 
-pub recordOf-word : (r : List ℕ) (w : ℕ) → Word w ≡ recordOf r → (wellFormed r ≡ true) × (w ≡ number (drop 3 r))
+pub recordOf-word : (r : List ℕ) (w : ℕ) → Word w ≡ recordOf r → (wellFormed r ≡ true) × (w ≡ bigEndian (drop 3 r))
 unfolding recordOf
 recordOf-word r w e = go (wellFormed r) e
   where
-    go : (t : Bool) → Word w ≡ cond t (Word (number (drop 3 r))) Wrong → (t ≡ true) × (w ≡ number (drop 3 r))
+    go : (t : Bool) → Word w ≡ cond t (Word (bigEndian (drop 3 r))) Wrong → (t ≡ true) × (w ≡ bigEndian (drop 3 r))
     go true q = (refl, cc)
     go false q = let z : _≡_ {A = ℕ} 0 1 = cc in absurd (omega arith)
 
@@ -115,7 +115,7 @@ pub recordOf-wrong : (r : List ℕ) → Wrong ≡ recordOf r → wellFormed r �
 unfolding recordOf
 recordOf-wrong r e = go (wellFormed r) e
   where
-    go : (t : Bool) → Wrong ≡ cond t (Word (number (drop 3 r))) Wrong → t ≡ false
+    go : (t : Bool) → Wrong ≡ cond t (Word (bigEndian (drop 3 r))) Wrong → t ≡ false
     go true q = let z : _≡_ {A = ℕ} 0 1 = cc in absurd (omega arith)
     go false q = refl
 

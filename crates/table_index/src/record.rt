@@ -3,7 +3,7 @@ use hproto_table::Table;
 ghost use mathlib.Core.Path.{_≡_};
 ghost use Prim.Native.Nat.{_+_, _≤_, _<_};
 ghost use lib.ListN.{length, take, drop, getD};
-ghost use Rattle.octets.specs.Number.{number};
+ghost use Rattle.octets.specs.Number.{bigEndian};
 ghost use Rattle.hproto_table.specs.Entry.{entry};
 ghost use Rattle.hproto_table.specs.Load.{inRange};
 ghost use Rattle.table_index.specs.internal.Pass.{Passed};
@@ -48,7 +48,7 @@ fn octet_at(s: &[u8], at: usize) -> u64
 // Returns the number in the five octets from an offset on, the most significant octet first.
 fn five(s: &[u8], at: usize) -> u64
     requires { ⌜ at + 5 ≤ length (now s) ⌝ }
-    ensures { λ r. ⌜ r ≡ number (take 5 (drop at (now (s .entry)))) ⌝ }
+    ensures { λ r. ⌜ r ≡ bigEndian (take 5 (drop at (now (s .entry)))) ⌝ }
 {
     let a = octet_at(s, at) * 256 + octet_at(s, at + 1);
     let b = a * 256 + octet_at(s, at + 2);

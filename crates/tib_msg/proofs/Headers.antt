@@ -7,7 +7,7 @@ use mathlib.Core.List.{List}
 use lib.ListN.{length, take, drop, length-drop}
 use lib.Seq.{length-take-le}
 use borrow.Author.Tests.{lt-ltb, le-ltb, eq-eqb, ne-eqb}
-use Rattle.octets.specs.Number.{number}
+use Rattle.octets.specs.Number.{bigEndian}
 use Rattle.octets.specs.internal.Bounded.{unsigned}
 use Rattle.tib_field.specs.Mark.{begins}
 use Rattle.octets.proofs.Number.{unsigned-is}
@@ -34,7 +34,7 @@ module _ (s : List ℕ) where
       other-magic e = rw (le-ltb messageLimit (length s) a, le-ltb (length s) 9 b, e)
 
       module _ (c : begins magic s ≡ true) (l : ℕ) (e : l ≡ unsigned (take (9 - 5) (drop 5 s))) where
-        size-read : number (take 4 (drop 5 s)) ≡ l
+        size-read : bigEndian (take 4 (drop 5 s)) ≡ l
         size-read =
             let m = length-drop 5 s in
             let n = length-take-le 4 (drop 5 s) (omega arith) in

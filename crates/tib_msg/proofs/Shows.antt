@@ -8,7 +8,7 @@ use lib.ListN.{length, getD, take, drop, length-drop}
 use lib.Seq.{drop-drop, length-take-le}
 use lib.Dec.{eqb}
 use borrow.Author.Tests.{eq-eqb, ne-eqb}
-use Rattle.octets.specs.Number.{number}
+use Rattle.octets.specs.Number.{bigEndian}
 use Rattle.octets.specs.internal.Bounded.{unsigned}
 use Rattle.octets.proofs.Slices.{length-zero, tail-part}
 use Rattle.octets.proofs.Number.{unsigned-is}
@@ -22,10 +22,10 @@ pub first-none : (s : List ℕ) → length s ≡ 0 → 0 ≡ getD s 0 0
 first-none s h = rw (length-zero s h)
 
 pub number-none : (k : ℕ) (s : List ℕ) → length s < 2 → 0 ≡ hintNumber k s
-unfolding hintNumber number
+unfolding hintNumber bigEndian
 number-none k s h = go (eqb k 8 || eqb k 9) s h
   where
-    go : (t : Bool) (s : List ℕ) → length s < 2 → 0 ≡ cond t (getD s 1 0) (number (drop 2 s))
+    go : (t : Bool) (s : List ℕ) → length s < 2 → 0 ≡ cond t (getD s 1 0) (bigEndian (drop 2 s))
     go true [] h = refl
     go true (x ∷ []) h = refl
     go true (x ∷ y ∷ s) h = absurd (omega arith)

@@ -4,7 +4,7 @@ use mathlib.Core.Bool.{Bool, cond, _||_}
 use mathlib.Core.List.{List}
 use lib.ListN.{length, getD, drop}
 use lib.Dec.{eqb}
-use Rattle.octets.specs.Number.{number}
+use Rattle.octets.specs.Number.{bigEndian}
 use Rattle.tib_real.specs.FromOctets.{realOf}
 use Rattle.tib_real.specs.declared.types.Real.{Real}
 use Rattle.reading.specs.Checks.{counts}
@@ -26,7 +26,7 @@ check s = counts length depth (reading s)
 
 -- The number of a hint: an array's element size and a partial's offset stand in the second octet, any other number after it.
 unfoldable pub hintNumber : ℕ → List ℕ → ℕ
-hintNumber kind hint = cond (eqb kind 8 || eqb kind 9) (getD hint 1 0) (number (drop 2 hint))
+hintNumber kind hint = cond (eqb kind 8 || eqb kind 9) (getD hint 1 0) (bigEndian (drop 2 hint))
 
 -- The real of a field of type 7, made of its data and its hint; any other field answers one of zeros.
 unfoldable pub realShown : ℕ → List ℕ → ℕ → Bool → Real

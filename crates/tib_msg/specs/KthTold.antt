@@ -4,7 +4,7 @@ use mathlib.Core.Path.{_≡_}
 use mathlib.Core.Bool.{Bool, true, false}
 use mathlib.Core.List.{List, [], _∷_, _++_}
 use lib.ListN.{length}
-use Rattle.octets.specs.Number.{number}
+use Rattle.octets.specs.Number.{bigEndian}
 use Rattle.tib_field.specs.declared.Field.{Field}
 use Rattle.tib_field.specs.Fields.{joined}
 use Rattle.tib_field.specs.Stands.{Stands}
@@ -17,7 +17,7 @@ pub data HintTold (kind : ℕ) : List ℕ → Bool → ℕ → ℕ → Type 0 wh
   absent : HintTold kind [] false 0 0
   element : (t n : ℕ) → kind ≡ 8 → HintTold kind (t ∷ n ∷ []) true t n
   offset : (n : ℕ) → kind ≡ 9 → HintTold kind (6 ∷ n ∷ []) true 6 n
-  amount : (t : ℕ) (s : List ℕ) → (kind ≡ 8 → ⊥) → (kind ≡ 9 → ⊥) → HintTold kind (t ∷ length s ∷ s) true t (number s)
+  amount : (t : ℕ) (s : List ℕ) → (kind ≡ 8 → ⊥) → (kind ≡ 9 → ⊥) → HintTold kind (t ∷ length s ∷ s) true t (bigEndian s)
 
 -- An answer tells the k-th of these fields: the one with k fields before it. Its name, with the closing zero, and its data stand at the
 -- places that the answer gives; the octet before the name is its size, and the type octet and the data's size are between name and data.

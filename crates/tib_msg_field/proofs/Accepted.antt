@@ -9,7 +9,7 @@ use lib.ListN.{length, take, drop, length-append, length-drop, take-append-drop}
 use lib.Seq.{take-at, drop-at, length-take-le, drop-drop}
 use lib.Dec.{eqb, ltb}
 use borrow.Author.Tests.{ltb-false, le-ltb, eqb-true, eq-eqb, not-false}
-use Rattle.octets.specs.Number.{number}
+use Rattle.octets.specs.Number.{bigEndian}
 use Rattle.reading.specs.Reading.{Reading, accepted, refused, onAccepted, messageLimit}
 use Rattle.tib_field.specs.Mark.{begins}
 use Rattle.tib_field.proofs.Marks.{mark-begins, begins-mark}
@@ -83,7 +83,7 @@ pub record Tested (s : List ℕ) (fs : List Parts) : Type 0 where
   pub short : length s ≤ messageLimit
   pub header : 9 ≤ length s
   pub marked : begins magic s ≡ true
-  pub counted : number (take 4 (drop 5 s)) ≡ length s - 9
+  pub counted : bigEndian (take 4 (drop 5 s)) ≡ length s - 9
   pub fields : Fields (drop 9 s) fs
 
 pub accepted-tested : (s : List ℕ) (fs : List Parts) → reading s ≡ accepted fs → Tested s fs
@@ -94,12 +94,12 @@ accepted-tested s fs e =
     let a = fails q (ltb messageLimit n) (refused 1 0) _ (not-accepted 1 0 fs) e in
     let b = fails q (ltb n 9) (refused 3 0) _ (not-accepted 3 0 fs) (a .1) in
     let c = fails q (not (begins magic s)) (refused 13 0) _ (not-accepted 13 0 fs) (b .1) in
-    let d = fails q (not (eqb (number (take 4 (drop 5 s))) (n - 9))) (refused 14 0) _ (not-accepted 14 0 fs) (c .1) in
+    let d = fails q (not (eqb (bigEndian (take 4 (drop 5 s))) (n - 9))) (refused 14 0) _ (not-accepted 14 0 fs) (c .1) in
     record {
       short = ltb-false messageLimit n (a .0);
       header = ltb-false n 9 (b .0);
       marked = not-false (begins magic s) (c .0);
-      counted = eqb-true (number (take 4 (drop 5 s))) (n - 9) (not-false (eqb (number (take 4 (drop 5 s))) (n - 9)) (d .0));
+      counted = eqb-true (bigEndian (take 4 (drop 5 s))) (n - 9) (not-false (eqb (bigEndian (take 4 (drop 5 s))) (n - 9)) (d .0));
       fields = fields-whole (suc n) 9 (drop 9 s) fs (d .1);
     }
 
@@ -132,11 +132,11 @@ whole-accepted s fs w =
     let n = length s in
     let z : length s ≡ 9 + length b = ap length (w .divides) ∙ m in
     let u = w .short in
-    let e : number (w .size) ≡ length s - 9 = w .counted ∙ omega arith in
+    let e : bigEndian (w .size) ≡ length s - 9 = w .counted ∙ omega arith in
     let p : begins magic s ≡ true = rw (w .divides) (mark-begins magic r) in
     let q : take 4 (drop 5 s) ≡ w .size = rw (w .divides) t in
     let v : drop 9 s ≡ b = rw (w .divides) d in
-    rw (le-ltb (messageLimit) (length s) u, le-ltb (length s) 9 (omega arith), p, q, eq-eqb (number (w .size)) (length s - 9) e, v)
+    rw (le-ltb (messageLimit) (length s) u, le-ltb (length s) 9 (omega arith), p, q, eq-eqb (bigEndian (w .size)) (length s - 9) e, v)
     (fields-accepted fs (suc (length s)) 9 (w .allowed) (omega arith))
 
 -- The reading accepts a message with a division exactly where the message is whole and that is its division.

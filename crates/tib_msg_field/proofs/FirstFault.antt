@@ -9,7 +9,7 @@ use lib.ListN.{length, take, drop, length-append, length-drop, take-append-drop}
 use lib.Seq.{take-at, drop-at, length-take-le, drop-drop}
 use lib.Dec.{eqb, ltb}
 use borrow.Author.Tests.{ltb-true, ltb-false, lt-ltb, le-ltb, eqb-true, eqb-false, eq-eqb, ne-eqb}
-use Rattle.octets.specs.Number.{number}
+use Rattle.octets.specs.Number.{bigEndian}
 use Rattle.reading.specs.Reading.{Reading, accepted, refused, onAccepted, messageLimit}
 use Rattle.tib_field.specs.Mark.{begins}
 use Rattle.tib_field.specs.Fields.{Each, joined}
@@ -118,7 +118,7 @@ fault-refused s k p (otherSize h size rest e m d) =
     let a : begins magic s ≡ true = rw e (mark-begins magic (size ++ rest)) in
     let b : take 4 (drop 5 s) ≡ size = ap (λ (r : List ℕ). take 4 (drop 5 r)) e ∙ take-at size rest 4 m in
     let c : length s - 9 ≡ length rest = omega arith in
-    rw (le-ltb messageLimit (length s) h, le-ltb (length s) 9 (omega arith), a, b, c, ne-eqb (number size) (length rest) d)
+    rw (le-ltb messageLimit (length s) h, le-ltb (length s) 9 (omega arith), a, b, c, ne-eqb (bigEndian size) (length rest) d)
 fault-refused s k p (field h j size fs rest e m c a w) =
     let r = joined octets fs ++ rest in
     let x : length s ≡ 5 + length (size ++ r) = ap length e ∙ length-append magic (size ++ r) in
@@ -127,7 +127,7 @@ fault-refused s k p (field h j size fs rest e m c a w) =
     let d : take 4 (drop 5 s) ≡ size = ap (λ (q : List ℕ). take 4 (drop 5 q)) e ∙ take-at size r 4 m in
     let f : drop 9 s ≡ r = ap (drop 9) e ∙ drop-at size r 4 m in
     let g : length s - 9 ≡ length r = omega arith in
-    rw (le-ltb messageLimit (length s) h, le-ltb (length s) 9 (omega arith), b, d, g, eq-eqb (number size) (length r) c, f)
+    rw (le-ltb messageLimit (length s) h, le-ltb (length s) 9 (omega arith), b, d, g, eq-eqb (bigEndian size) (length r) c, f)
     (fields-refused fs rest j (suc (length s)) 9 a w (omega arith))
 
 -- What a reading that refuses tells.
@@ -157,10 +157,10 @@ module _ (s : List ℕ) (h : length s ≤ messageLimit) (l : 9 ≤ length s) whe
     wide : length size ≡ 4
     wide = length-take-le 4 (drop 5 s) (rw length-drop (omega arith))
 
-    size-told : (number size ≡ length s - 9 → ⊥) → FirstFault s 14 0
+    size-told : (bigEndian size ≡ length s - 9 → ⊥) → FirstFault s 14 0
     size-told e = otherSize h size (drop 9 s) parted wide (λ q. e (q ∙ length-drop 9 s))
 
-    fields-of : number size ≡ length s - 9 → (r : Reading (List Parts)) → FieldsTold 9 (drop 9 s) r → Told s r
+    fields-of : bigEndian size ≡ length s - 9 → (r : Reading (List Parts)) → FieldsTold 9 (drop 9 s) r → Told s r
     unfolding FieldsTold Told
     fields-of c (accepted fs) f = tt
     fields-of c (refused k p) f =
@@ -176,12 +176,12 @@ reading-told s = long (ltb messageLimit (length s)) refl
     inside = fieldsFrom (suc (length s)) 9 (drop 9 s)
 
     sized : Bool
-    sized = eqb (number (take 4 (drop 5 s))) (length s - 9)
+    sized = eqb (bigEndian (take 4 (drop 5 s))) (length s - 9)
 
     counted : length s ≤ messageLimit → 9 ≤ length s → begins magic s ≡ true → (t : Bool) → sized ≡ t → Told s (cond (not t) (refused 14 0) inside)
-    counted h l m false e = size-told s h l m (eqb-false (number (take 4 (drop 5 s))) (length s - 9) e)
+    counted h l m false e = size-told s h l m (eqb-false (bigEndian (take 4 (drop 5 s))) (length s - 9) e)
     counted h l m true e =
-        fields-of s h l m (eqb-true (number (take 4 (drop 5 s))) (length s - 9) e) inside
+        fields-of s h l m (eqb-true (bigEndian (take 4 (drop 5 s))) (length s - 9) e) inside
         (fields-told (suc (length s)) 9 (drop 9 s) (rw length-drop (omega arith)))
 
     marked : length s ≤ messageLimit → 9 ≤ length s → (t : Bool) → begins magic s ≡ t

@@ -9,7 +9,7 @@ use lib.Seq.{length-take-le}
 use lib.Dec.{eqb}
 use borrow.Author.Tests.{lt-ltb, le-ltb}
 use Rattle.tib_msg_field.specs.declared.HintPart.the-variants.{Fault as HintFault}
-use Rattle.octets.specs.Number.{number}
+use Rattle.octets.specs.Number.{bigEndian}
 use Rattle.octets.specs.internal.Bounded.{unsigned}
 use Rattle.octets.proofs.Slices.{length-zero, tail-part, front-part}
 use Rattle.octets.proofs.Number.{unsigned-is}
@@ -54,7 +54,7 @@ module _ (n c w : ℕ) (s : List ℕ) (e : w ≡ sizeWidth c) where
   size-cut h = rw (← e, lt-ltb (length s) w h)
 
   module _ (h : w ≤ length s) (l : ℕ) (r : l ≡ unsigned (take (w - 0) (drop 0 s))) where
-    size-read : l ≡ number (take w s)
+    size-read : l ≡ bigEndian (take w s)
     size-read =
         let a = length-take-le w s h in
         let b = size-few c in

@@ -3,7 +3,7 @@ use Prim.Native.Nat.{ℕ, _<_}
 use native.Mathlib.Omega.{arith}
 use mathlib.Core.Path.{_≡_}
 use mathlib.Core.List.{List}
-use Rattle.octets.specs.Number.{number}
+use Rattle.octets.specs.Number.{bigEndian}
 use Rattle.reading.specs.Reading.{refused}
 use Rattle.tib_field.proofs.WrongNames.{of-named}
 use Rattle.tib_msg_field.specs.Layout.{kind}
@@ -24,7 +24,7 @@ data-positive c size k s (faults.hint j contents r e f h) = hint-positive (kind 
 size-positive : (c k : ℕ) (s : List ℕ) → WrongSize c k s → 0 < k
 size-positive c k s (faults.cut r h) = omega arith
 size-positive c k s (faults.bad size r e h) = omega arith
-size-positive c k s (faults.later j size r e t h) = data-positive c (number size) j r h
+size-positive c k s (faults.later j size r e t h) = data-positive c (bigEndian size) j r h
 
 type-positive : (k : ℕ) (s : List ℕ) → WrongType k s → 0 < k
 type-positive k s faults.missing = omega arith

@@ -7,7 +7,7 @@ use lib.ListN.{length, take, drop, length-append, take-append-drop}
 use lib.Seq.{take-at, drop-at, length-take-le}
 use lib.Dec.{ltb}
 use borrow.Author.Tests.{ltb-false, le-ltb}
-use Rattle.octets.specs.Number.{number}
+use Rattle.octets.specs.Number.{bigEndian}
 use Rattle.tib_field.specs.Name.{Name, nameFront, afterName}
 use Rattle.tib_field.proofs.Choices.{passes, fails}
 use Rattle.tib_field.proofs.Fronts.{next-of-name, name-found}
@@ -50,7 +50,7 @@ module _ (name : List ℕ) (good : Name name) (z : Sizes) where
   type-found [] e = let y : _≡_ {A = ℕ} 0 1 = cc in absurd (omega arith)
   type-found (c ∷ s) e =
       let w = sizeWidth c in
-      let l = number (take w s) in
+      let l = bigEndian (take w s) in
       let p = passes (Over z) (typeAllowed c) (fromSize (length name) c w s) (Fault 16) (fault-not-over 16 z) e in
       let q = fails (Over z) (ltb (length s) w) (Fault 3) _ (fault-not-over 3 z) (p .1) in
       let r = passes (Over z) (sizeAllowed (kind c) l) (fromData (length name) c w l (drop w s)) (Fault 16) (fault-not-over 16 z) (q .1) in

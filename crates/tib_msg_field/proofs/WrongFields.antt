@@ -8,7 +8,7 @@ use lib.ListN.{length, take, drop, replicate, length-append, length-replicate, t
 use lib.Seq.{take-at, drop-at, length-take-le}
 use lib.Dec.{eqb, leb, ltb}
 use borrow.Author.Tests.{leb-true, eqb-true, eqb-false, ltb-true, ltb-false, lt-ltb, le-ltb}
-use Rattle.octets.specs.Number.{number}
+use Rattle.octets.specs.Number.{bigEndian}
 use Rattle.tib_field.proofs.Choices.{both}
 use Rattle.tib_field.proofs.Fronts.{next-done}
 use Rattle.tib_field.proofs.WrongNames.{name-told, name-wrong}
@@ -170,7 +170,7 @@ size-told n c s = go (ltb (length s) (sizeWidth c)) refl
     w = sizeWidth c
 
     v : ℕ
-    v = number (take (sizeWidth c) s)
+    v = bigEndian (take (sizeWidth c) s)
 
     allowed : length (take w s) ≡ w → (t : Bool) → sizeAllowed (kind c) v ≡ t
         → StepTold (λ (k : ℕ). WrongSize c k s) (cond t (fromData n c w v (drop w s)) (Fault 16))
@@ -252,15 +252,15 @@ unfolding fromSize
 wrong-size c k s (faults.cut r h) n = rw (lt-ltb (length r) (sizeWidth c) h)
 wrong-size c k s (faults.bad size r e h) n =
     let x = length-append size r in
-    rw (le-ltb (length (size ++ r)) (sizeWidth c) (omega arith), take-at size r (sizeWidth c) e, unset (sizeAllowed (kind c) (number size)) refl)
+    rw (le-ltb (length (size ++ r)) (sizeWidth c) (omega arith), take-at size r (sizeWidth c) e, unset (sizeAllowed (kind c) (bigEndian size)) refl)
   where
-    unset : (t : Bool) → sizeAllowed (kind c) (number size) ≡ t → sizeAllowed (kind c) (number size) ≡ false
-    unset true f = absurd (h (is-true (sizeAllowed (kind c) (number size)) f))
+    unset : (t : Bool) → sizeAllowed (kind c) (bigEndian size) ≡ t → sizeAllowed (kind c) (bigEndian size) ≡ false
+    unset true f = absurd (h (is-true (sizeAllowed (kind c) (bigEndian size)) f))
     unset false f = f
 wrong-size c k s (faults.later j size r e t h) n =
     let x = length-append size r in
-    rw (le-ltb (length (size ++ r)) (sizeWidth c) (omega arith), take-at size r (sizeWidth c) e, drop-at size r (sizeWidth c) e, true-is (sizeAllowed (kind c) (number size)) t)
-    (wrong-data c (number size) j r h n (sizeWidth c))
+    rw (le-ltb (length (size ++ r)) (sizeWidth c) (omega arith), take-at size r (sizeWidth c) e, drop-at size r (sizeWidth c) e, true-is (sizeAllowed (kind c) (bigEndian size)) t)
+    (wrong-data c (bigEndian size) j r h n (sizeWidth c))
 
 wrong-type : (k n : ℕ) (s : List ℕ) → WrongType k s → fromType n s ≡ Fault k
 unfolding fromType

@@ -6,7 +6,7 @@ use mathlib.Core.Bool.{true}
 use mathlib.Core.List.{List, [], _∷_, _++_}
 use lib.ListN.{length}
 use lib.Dec.{T}
-use Rattle.octets.specs.Number.{number}
+use Rattle.octets.specs.Number.{bigEndian}
 use Rattle.reading.specs.Reading.{messageLimit}
 use Rattle.tib_field.specs.WrongName.{WrongNamed}
 use Rattle.tib_field.specs.Fields.{Each, joined}
@@ -35,9 +35,9 @@ pub data WrongData (octet size : ℕ) : ℕ → List ℕ → Type 0 where
 
 pub data WrongSize (octet : ℕ) : ℕ → List ℕ → Type 0 where
   cut : (s : List ℕ) → length s < sizeWidth octet → WrongSize octet 3 s
-  bad : (size s : List ℕ) → length size ≡ sizeWidth octet → (T (sizeAllowed (kind octet) (number size)) → ⊥) → WrongSize octet 16 (size ++ s)
-  later : (k : ℕ) (size s : List ℕ) → length size ≡ sizeWidth octet → T (sizeAllowed (kind octet) (number size))
-      → WrongData octet (number size) k s → WrongSize octet k (size ++ s)
+  bad : (size s : List ℕ) → length size ≡ sizeWidth octet → (T (sizeAllowed (kind octet) (bigEndian size)) → ⊥) → WrongSize octet 16 (size ++ s)
+  later : (k : ℕ) (size s : List ℕ) → length size ≡ sizeWidth octet → T (sizeAllowed (kind octet) (bigEndian size))
+      → WrongData octet (bigEndian size) k s → WrongSize octet k (size ++ s)
 
 pub data WrongType : ℕ → List ℕ → Type 0 where
   missing : WrongType 3 []
@@ -55,7 +55,7 @@ pub data FirstFault (s : List ℕ) : ℕ → ℕ → Type 0 where
   otherMark : length s ≤ messageLimit → (mark rest : List ℕ) → s ≡ mark ++ rest → length mark ≡ 5 → 4 ≤ length rest → (mark ≡ magic → ⊥)
       → FirstFault s 13 0
   otherSize : length s ≤ messageLimit → (size rest : List ℕ) → s ≡ magic ++ (size ++ rest) → length size ≡ 4
-      → (number size ≡ length rest → ⊥) → FirstFault s 14 0
+      → (bigEndian size ≡ length rest → ⊥) → FirstFault s 14 0
   field : length s ≤ messageLimit → (k : ℕ) (size : List ℕ) (fs : List Parts) (rest : List ℕ) → s ≡ magic ++ (size ++ (joined octets fs ++ rest))
-      → length size ≡ 4 → number size ≡ length (joined octets fs ++ rest) → Each Allowed fs → WrongField k rest
+      → length size ≡ 4 → bigEndian size ≡ length (joined octets fs ++ rest) → Each Allowed fs → WrongField k rest
       → FirstFault s k (9 + length (joined octets fs))

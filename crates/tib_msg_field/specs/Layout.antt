@@ -5,7 +5,7 @@ use mathlib.Core.Bool.{Bool, true, false, cond, _||_}
 use mathlib.Core.List.{List, [], _∷_, _++_}
 use lib.ListN.{length}
 use lib.Dec.{T, eqb}
-use Rattle.octets.specs.Number.{number}
+use Rattle.octets.specs.Number.{bigEndian}
 use Rattle.reading.specs.Reading.{messageLimit}
 use Rattle.tib_field.specs.Name.{Name}
 use Rattle.tib_field.specs.Fields.{Each, joined}
@@ -56,7 +56,7 @@ pub record Allowed (f : Parts) : Type 0 where
   pub clear : f .octet / 16 % 4 ≡ 0
   pub known : kind (f .octet) ≤ 10
   pub width : length (f .size) ≡ sizeWidth (f .octet)
-  pub size : number (f .size) ≡ length (f .contents)
+  pub size : bigEndian (f .size) ≡ length (f .contents)
   pub contents : T (sizeAllowed (kind (f .octet)) (length (f .contents)))
   pub hint : Hint (kind (f .octet)) (length (f .contents)) (hinted (f .octet)) (f .hint)
 
@@ -69,6 +69,6 @@ pub record Whole (s : List ℕ) (fs : List Parts) : Type 0 where
   pub size : List ℕ
   pub divides : s ≡ magic ++ (size ++ joined octets fs)
   pub width : length size ≡ 4
-  pub counted : number size ≡ length (joined octets fs)
+  pub counted : bigEndian size ≡ length (joined octets fs)
   pub allowed : Each Allowed fs
   pub short : length s ≤ messageLimit

@@ -5,7 +5,7 @@ use mathlib.Core.Bool.{Bool, cond, _&&_, _||_, not}
 use mathlib.Core.List.{List, [], _∷_}
 use lib.ListN.{length, take, drop}
 use lib.Dec.{eqb, leb, ltb}
-use Rattle.octets.specs.Number.{number}
+use Rattle.octets.specs.Number.{bigEndian}
 use Rattle.reading.specs.Reading.{Reading, accepted, refused, onAccepted, messageLimit}
 use Rattle.tib_field.specs.Mark.{begins}
 use Rattle.tib_field.specs.Name.{nameFront, afterName}
@@ -56,7 +56,7 @@ fromData n c w l s = cond (ltb (length s) l) (Fault 4) (withHint n c w l (hintAt
 unfoldable pub fromSize : ℕ → ℕ → ℕ → List ℕ → Step
 fromSize n c w s =
     cond (ltb (length s) w) (Fault 3)
-    (cond (sizeAllowed (kind c) (number (take w s))) (fromData n c w (number (take w s)) (drop w s)) (Fault 16))
+    (cond (sizeAllowed (kind c) (bigEndian (take w s))) (fromData n c w (bigEndian (take w s)) (drop w s)) (Fault 16))
 
 -- The field from its type on, after a name of n octets.
 unfoldable pub fromType : ℕ → List ℕ → Step
@@ -102,5 +102,5 @@ reading s =
     cond (ltb messageLimit (length s)) (refused 1 0)
     (cond (ltb (length s) 9) (refused 3 0)
     (cond (not (begins magic s)) (refused 13 0)
-    (cond (not (eqb (number (take 4 (drop 5 s))) (length s - 9))) (refused 14 0)
+    (cond (not (eqb (bigEndian (take 4 (drop 5 s))) (length s - 9))) (refused 14 0)
     (fieldsFrom (suc (length s)) 9 (drop 9 s)))))

@@ -6,14 +6,14 @@ use mathlib.Core.Bool.{Bool, false}
 use mathlib.Core.List.{List}
 use lib.ListN.{length}
 use borrow.Author.Tests.{ne-eqb}
-use Rattle.octets.specs.Number.{Octets, number}
+use Rattle.octets.specs.Number.{Octets, bigEndian}
 use Rattle.octets.specs.internal.Bounded.{unsigned}
 use Rattle.octets.proofs.Number.{number-below, unsigned-is}
 use Rattle.tib_real.specs.Widened.{widened}
 use Rattle.tib_real.specs.FromOctets.{made, realOf}
 
 pub four-octets : (s : List ℕ) → Octets s → length s ≡ 4 → unsigned s < 2 ^ 32
-four-octets s o h = rw (unsigned-is s (omega arith)) (subst (λ (n : ℕ). number s < 256 ^ n) h (number-below s o))
+four-octets s o h = rw (unsigned-is s (omega arith)) (subst (λ (n : ℕ). bigEndian s < 256 ^ n) h (number-below s o))
 
 pub of-eight : (s : List ℕ) (h : ℕ) (p : Bool) → length s ≡ 8 → made (unsigned s) h p ≡ realOf s h p
 unfolding realOf

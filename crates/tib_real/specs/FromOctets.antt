@@ -5,7 +5,7 @@ use mathlib.Core.List.{List}
 use lib.Dec.{eqb}
 use lib.ListN.{length}
 use lib.Ieee.{binary64, ofBits}
-use Rattle.octets.specs.Number.{number}
+use Rattle.octets.specs.Number.{bigEndian}
 use Rattle.tib_real.specs.declared.types.Real.{Real}
 use Rattle.tib_real.specs.Widened.{widened}
 
@@ -16,6 +16,6 @@ made b h present = record { value = ofBits binary64 b; bits = b; hint = h; hinte
 -- The real that octets hold, with its hint. Octets of another length than eight and four are no real and answer one of zeros.
 unfoldable pub realOf : List ℕ → ℕ → Bool → Real
 realOf s h present =
-    cond (eqb (length s) 8) (made (number s) h present)
-    (cond (eqb (length s) 4) (made (widened (number s)) h present)
+    cond (eqb (length s) 8) (made (bigEndian s) h present)
+    (cond (eqb (length s) 4) (made (widened (bigEndian s)) h present)
     (made 0 0 false))

@@ -7,7 +7,7 @@ use mathlib.Core.List.{List}
 use lib.ListN.{length, take, drop}
 use lib.Seq.{length-take-le}
 use borrow.Author.Tests.{lt-ltb, le-ltb, eq-eqb, ne-eqb}
-use Rattle.octets.specs.Number.{number}
+use Rattle.octets.specs.Number.{bigEndian}
 use Rattle.octets.specs.internal.Bounded.{unsigned}
 use Rattle.tib_field.specs.Mark.{begins}
 use Rattle.octets.proofs.Slices.{tail-part}
@@ -41,7 +41,7 @@ module _ (s : List ℕ) where
     other-magic h = rw (le-ltb (length s) 8 w, mark-read, h)
 
     module _ (l : ℕ) (f : l ≡ unsigned (take (4 - 0) (drop 0 s))) (g : t ≡ true) where
-      size-read : number (take 4 s) ≡ l
+      size-read : bigEndian (take 4 s) ≡ l
       size-read =
           let n = length-take-le 4 s (omega arith) in
           sym (f ∙ unsigned-is (take 4 s) (omega arith))

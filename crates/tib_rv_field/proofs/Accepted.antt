@@ -9,7 +9,7 @@ use lib.ListN.{length, take, drop, length-append, length-drop, take-append-drop}
 use lib.Seq.{take-at, drop-at, length-take-le, drop-drop}
 use lib.Dec.{eqb, ltb}
 use borrow.Author.Tests.{ltb-false, le-ltb, eqb-true, eq-eqb, not-false}
-use Rattle.octets.specs.Number.{number}
+use Rattle.octets.specs.Number.{bigEndian}
 use Rattle.reading.specs.Reading.{Reading, accepted, refused, onAccepted, inOrder, messageLimit}
 use Rattle.tib_field.specs.Mark.{begins}
 use Rattle.tib_field.proofs.Marks.{mark-begins, begins-mark}
@@ -120,23 +120,23 @@ module _ (levels : ℕ) (inner : Inner)
 pub record GoodHeader (s : List ℕ) : Type 0 where
   pub whole : 8 ≤ length s
   pub marked : begins magic (drop 4 s) ≡ true
-  pub counted : number (take 4 s) ≡ length s
+  pub counted : bigEndian (take 4 s) ≡ length s
 
 pub header-good : (s : List ℕ) → headerFault s ≡ 0 → GoodHeader s
 unfolding headerFault
 header-good s e =
     let n = length s in
     let m = begins magic (drop 4 s) in
-    let c = eqb (number (take 4 s)) n in
+    let c = eqb (bigEndian (take 4 s)) n in
     let p = fails 0 (ltb n 8) 3 (cond (not m) 13 (cond (not c) 14 0)) (omega arith) e in
     let q = fails 0 (not m) 13 (cond (not c) 14 0) (omega arith) (p .1) in
     let r = fails 0 (not c) 14 0 (omega arith) (q .1) in
-    record { whole = ltb-false n 8 (p .0); marked = not-false m (q .0); counted = eqb-true (number (take 4 s)) n (not-false c (r .0)) }
+    record { whole = ltb-false n 8 (p .0); marked = not-false m (q .0); counted = eqb-true (bigEndian (take 4 s)) n (not-false c (r .0)) }
 
 pub good-header : (s : List ℕ) → GoodHeader s → headerFault s ≡ 0
 unfolding headerFault
 good-header s g =
-    rw (le-ltb (length s) 8 (g .whole), g .marked, eq-eqb (number (take 4 s)) (length s) (g .counted))
+    rw (le-ltb (length s) 8 (g .whole), g .marked, eq-eqb (bigEndian (take 4 s)) (length s) (g .counted))
 
 -- A header and the fields after it are a message.
 one-message : (levels : ℕ) (s : List ℕ) (fs : Fields) → GoodHeader s → Good levels (drop 8 s) fs → GoodMessage levels s fs
@@ -173,7 +173,7 @@ unfolding message
 message-counted size fs h =
     let t : take 4 (message size fs) ≡ size = take-at size (magic ++ joined fs) 4 (h .width) in
     let l : length (message size fs) ≡ 4 + (4 + length (joined fs)) = rw (length-append, h .width) (omega arith) in
-    (record { four = omega arith; same = ap number t ∙ h .counted }, t)
+    (record { four = omega arith; same = ap bigEndian t ∙ h .counted }, t)
 
 -- Where good nested messages are accepted, so is a message of good fields.
 module _ (levels : ℕ) (inner : Inner)

@@ -3,7 +3,7 @@ use Prim.Native.Nat.{ℕ}
 use mathlib.Core.Path.{_≡_, sym, ap₂, _∙_, subst}
 use mathlib.Core.List.{List}
 use lib.ListN.{length, take}
-use Rattle.octets.specs.Number.{number}
+use Rattle.octets.specs.Number.{bigEndian}
 use Rattle.tib_rv_field.specs.declared.Sizes.{Sizes}
 use Rattle.tib_rv_field.specs.declared.Step.the-variants.{Into}
 use Rattle.tib_rv_field.specs.Layout.{Parts, holder}
@@ -20,5 +20,5 @@ module _ (s : List ℕ) (z : Sizes) (e : nextField s ≡ Into z) where
       subst (λ (x : Parts). Counted (x .contents)) (sym p) (h .measured)
 
   -- A nested message announces exactly the octets that it has.
-  pub inner-size : number (take 4 (partsAt s z .contents)) ≡ length (partsAt s z .contents)
+  pub inner-size : bigEndian (take 4 (partsAt s z .contents)) ≡ length (partsAt s z .contents)
   inner-size = inner-counted .same

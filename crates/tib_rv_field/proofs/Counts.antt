@@ -9,7 +9,7 @@ use lib.Seq.{take-at, length-take-le}
 use lib.Dec.{eqb, leb, ltb}
 use borrow.Author.Tests.{ltb-true, ltb-false, lt-ltb, eqb-true, eqb-false, eq-eqb, ne-eqb, leb-true, le-leb}
 use Rattle.tib_field.proofs.Choices.{both}
-use Rattle.octets.specs.Number.{number}
+use Rattle.octets.specs.Number.{bigEndian}
 use Rattle.tib_rv_field.specs.Layout.{Size, one, two, four}
 use Rattle.tib_rv_field.specs.Reading.{following, own, counted, countAllowed}
 
@@ -58,10 +58,10 @@ size-found m s h w o = go (form m h)
     go (short l) = short-found m s l o
     go (middle e) =
         subst (λ (x : ℕ). following x ≤ length s → own x ≤ counted x s → Size (x ∷ take (following x) s) (counted x s - own x)) (sym e)
-        (λ p q. two (take 2 s) (number (take 2 s) - 2) (length-take-le 2 s p) (omega arith)) w o
+        (λ p q. two (take 2 s) (bigEndian (take 2 s) - 2) (length-take-le 2 s p) (omega arith)) w o
     go (long e) =
         subst (λ (x : ℕ). following x ≤ length s → own x ≤ counted x s → Size (x ∷ take (following x) s) (counted x s - own x)) (sym e)
-        (λ p q. four (take 4 s) (number (take 4 s) - 4) (length-take-le 4 s p) (omega arith)) w o
+        (λ p q. four (take 4 s) (bigEndian (take 4 s) - 4) (length-take-le 4 s p) (omega arith)) w o
 
 -- The octets of a size, and what is read of them where other octets follow.
 pub record Announced (size : List ℕ) (n : ℕ) : Type 0 where

@@ -9,7 +9,7 @@ use lib.ListN.{length, take, drop, length-append, length-drop, take-append-drop}
 use lib.Seq.{take-at, drop-at, length-take-le, drop-drop}
 use lib.Dec.{eqb, ltb}
 use borrow.Author.Tests.{ltb-true, ltb-false, lt-ltb, le-ltb, eqb-true, eqb-false, ne-eqb}
-use Rattle.octets.specs.Number.{number}
+use Rattle.octets.specs.Number.{bigEndian}
 use Rattle.reading.specs.Reading.{Reading, accepted, refused, onAccepted, inOrder, messageLimit}
 use Rattle.tib_field.specs.Name.{Name}
 use Rattle.tib_field.specs.Mark.{begins}
@@ -39,7 +39,7 @@ opens-header s fields o =
       record {
         whole = omega arith;
         marked = ap (begins magic) p ∙ mark-begins magic fields;
-        counted = ap number (ap (take 4) e ∙ take-at (o .size) (magic ++ fields) 4 w) ∙ o .counted;
+        counted = ap bigEndian (ap (take 4) e ∙ take-at (o .size) (magic ++ fields) 4 w) ∙ o .counted;
       },
       sym (drop-drop 4 4 s) ∙ ap (drop 4) p,
     )
@@ -62,7 +62,7 @@ holds-counted name held h =
     let e = h .divides in
     let w = h .width in
     let x : length held ≡ length (h .size) + length (h .rest) = ap length e ∙ length-append (h .size) (h .rest) in
-    record { four = omega arith; same = ap number (ap (take 4) e ∙ take-at (h .size) (h .rest) 4 w) ∙ h .counted }
+    record { four = omega arith; same = ap bigEndian (ap (take 4) e ∙ take-at (h .size) (h .rest) 4 w) ∙ h .counted }
 
 counted-holds : (name held : List ℕ) → Name name → Counted held → Holds name held
 counted-holds name held good c =

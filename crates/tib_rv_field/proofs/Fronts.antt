@@ -8,7 +8,7 @@ use lib.ListN.{length, getD, take, drop, length-drop}
 use lib.Seq.{length-take-le}
 use lib.Dec.{ltb}
 use borrow.Author.Tests.{lt-ltb, le-ltb, ne-eqb}
-use Rattle.octets.specs.Number.{number}
+use Rattle.octets.specs.Number.{bigEndian}
 use Rattle.octets.specs.internal.Bounded.{unsigned}
 use Rattle.octets.proofs.Slices.{length-zero, tail-part, front-part}
 use Rattle.octets.proofs.Number.{unsigned-is}
@@ -28,7 +28,7 @@ size-some n c [] m h e = absurd (h refl)
 size-some n c (x ∷ s) m h e = let l : suc (length s) - 1 ≡ length s = omega arith in rw (l, e)
 
 abbrev long : ℕ → ℕ → ℕ → ℕ → List ℕ → Step
-long n c m w s = cond (ltb (length s) w) (Fault 3) (fromCount n c m (number (take w s)) (length s - w))
+long n c m w s = cond (ltb (length s) w) (Fault 3) (fromCount n c m (bigEndian (take w s)) (length s - w))
 
 module _ (n c : ℕ) (s : List ℕ) (m : ℕ) (h : length s ≡ 0 → ⊥) (e : m ≡ getD s 0 0) where
   pub marker-bad : 0x7a < m → Fault 16 ≡ fromSize n c s
@@ -64,7 +64,7 @@ module _ (n c m w : ℕ) (s : List ℕ) where
   pub long-whole : w ≤ length s → w ≤ 4 → (k : ℕ) → k ≡ unsigned (take (w - 0) (drop 0 s)) → fromCount n c m k (length s - w) ≡ long n c m w s
   long-whole g few k r =
       let d = length-take-le w s g in
-      let a : k ≡ number (take w s) = r ∙ rw (front-part s w) (unsigned-is (take w s) (omega arith)) in
+      let a : k ≡ bigEndian (take w s) = r ∙ rw (front-part s w) (unsigned-is (take w s) (omega arith)) in
       rw (le-ltb (length s) w g, a)
 
 pub type-cut : (n : ℕ) (s : List ℕ) → length s ≡ 0 → Fault 3 ≡ fromType n s

@@ -5,7 +5,7 @@ use mathlib.Core.Path.{_≡_, refl, sym, ap, _∙_}
 use mathlib.Core.List.{List, _++_}
 use lib.ListN.{length, take}
 use lib.Seq.{take-at}
-use Rattle.octets.specs.Number.{number}
+use Rattle.octets.specs.Number.{bigEndian}
 use Rattle.reading.specs.Reading.{refused}
 use Rattle.tib_field.proofs.WrongNames.{of-named}
 use Rattle.tib_rv_field.specs.Layout.{magic}
@@ -15,11 +15,11 @@ use Rattle.tib_rv_field.specs.Reading.{reading}
 use Rattle.tib_rv_field.proofs.FirstFault.{holds-counted, refused-exactly}
 
 -- A header is refused with 3, with 13, or with 14 where its size is not the count of the message's octets.
-of-header : (P : ℕ → Type 0) → P 3 → P 13 → (s : List ℕ) → ((number (take 4 s) ≡ length s → ⊥) → P 14) → (k : ℕ) → WrongHeader s k → P k
+of-header : (P : ℕ → Type 0) → P 3 → P 13 → (s : List ℕ) → ((bigEndian (take 4 s) ≡ length s → ⊥) → P 14) → (k : ℕ) → WrongHeader s k → P k
 of-header P three mark s size k (faults.cut h) = three
 of-header P three mark s size k (faults.otherMark first second rest d w v n) = mark
 of-header P three mark s size k (faults.otherSize first rest d w n) =
-    size (λ c. n (ap number (sym (ap (take 4) d ∙ take-at first (magic ++ rest) 4 w)) ∙ c))
+    size (λ c. n (ap bigEndian (sym (ap (take 4) d ∙ take-at first (magic ++ rest) 4 w)) ∙ c))
 
 -- A field is refused with 3, 4, 15 or 16; a message that a field holds also with 5 and 13, and not with 14: its size gave its octets.
 module _ (P : ℕ → Type 0) (three : P 3) (four : P 4) (name : P 15) (rule : P 16) (deep : P 5) (mark : P 13) where
@@ -56,11 +56,11 @@ refusal-positive s k place e = go k place (refused-exactly s k place .0 e)
         of-fields Positive (omega arith) (omega arith) (omega arith) (omega arith) (omega arith) (omega arith) 8 rest j q f
 
 -- Where a message is refused with 14, it is its own size that is not the count of its octets, not that of a message nested in it.
-pub size-refused-outermost : (s : List ℕ) (place : ℕ) → reading s ≡ refused 14 place → (number (take 4 s) ≡ length s → ⊥) × (place ≡ 0)
+pub size-refused-outermost : (s : List ℕ) (place : ℕ) → reading s ≡ refused 14 place → (bigEndian (take 4 s) ≡ length s → ⊥) × (place ≡ 0)
 size-refused-outermost s place e = go 14 place (refused-exactly s 14 place .0 e) refl
   where
     Own : ℕ → Type 0
-    Own p = (number (take 4 s) ≡ length s → ⊥) × (p ≡ 0)
+    Own p = (bigEndian (take 4 s) ≡ length s → ⊥) × (p ≡ 0)
 
     go : (k p : ℕ) → FirstFault s k p → k ≡ 14 → Own p
     go k p (faults.tooLong h) f = absurd (omega arith)

@@ -8,7 +8,7 @@ use lib.ListN.{length, take, drop, length-append, length-drop, take-append-drop}
 use lib.Seq.{take-at, drop-at, length-take-le, take-append-le, take-take}
 use lib.Dec.{eqb, ltb}
 use borrow.Author.Tests.{ltb-false, le-ltb, eqb-true, eqb-false, ne-eqb, le-leb}
-use Rattle.octets.specs.Number.{number}
+use Rattle.octets.specs.Number.{bigEndian}
 use Rattle.tib_field.specs.Name.{Name, nameFront, afterName}
 use Rattle.tib_field.proofs.Choices.{passes, fails}
 use Rattle.tib_field.proofs.Fronts.{next-of-name, AfterName, name-found}
@@ -37,7 +37,7 @@ pub record Found (s : List ℕ) (z : Sizes) : Type 0 where
 -- Octets that begin with four that count them all.
 pub record Counted (m : List ℕ) : Type 0 where
   pub four : 4 ≤ length m
-  pub same : number (take 4 m) ≡ length m
+  pub same : bigEndian (take 4 m) ≡ length m
 
 -- A field of these sizes at the front of octets that holds octets which may be a message.
 pub record Held (s : List ℕ) (z : Sizes) : Type 0 where
@@ -171,7 +171,7 @@ step-held s z e =
     let o = found-into (length (n .name)) (y .0) m (counted m (t .tail)) z (t .same) in
     let g = good-count (y .0) m (counted m (t .tail)) (t .count) in
     let i : m ≡ 0x7a = g .marked (o .0) in
-    let k = number (take 4 (t .tail)) in
+    let k = bigEndian (take 4 (t .tail)) in
     let c : counted m (t .tail) ≡ k = ap (λ (x : ℕ). counted x (t .tail)) i in
     let w : 4 ≤ length (t .tail) = subst (λ (x : ℕ). following x ≤ length (t .tail)) i (t .wide) in
     let q : 4 ≤ k = subst (λ (x : ℕ). own x ≤ counted x (t .tail)) i (g .enough) in
@@ -227,7 +227,7 @@ step-of-held name m rest good e =
     let s = m ++ rest in
     let p = length-append m rest in
     let q = e .four in
-    let k : number (take 4 s) ≡ length m = rw (take-append-le 4 m rest q) (e .same) in
+    let k : bigEndian (take 4 s) ≡ length m = rw (take-append-le 4 m rest q) (e .same) in
     rw (
       flat (holder name m) rest,
       next-of-name Done Fault fromType name (1 ∷ (0x7a ∷ s)) good,

@@ -8,7 +8,7 @@ use lib.ListN.{length, take, drop, replicate, length-append, length-drop, length
 use lib.Seq.{take-at, drop-at, length-take-le, drop-drop}
 use lib.Dec.{eqb, ltb}
 use borrow.Author.Tests.{le-leb, eqb-true, eqb-false, eq-eqb, ne-eqb, ltb-true, ltb-false, lt-ltb, le-ltb}
-use Rattle.octets.specs.Number.{number}
+use Rattle.octets.specs.Number.{bigEndian}
 use Rattle.octets.proofs.Slices.{length-zero}
 use Rattle.tib_field.specs.Mark.{begins}
 use Rattle.tib_field.proofs.Marks.{mark-begins, begins-mark}
@@ -220,17 +220,17 @@ pub header-told : (s : List ℕ) → (headerFault s ≡ 0 → ⊥) → WrongHead
 unfolding headerFault HeaderTold
 header-told s ne = cut (ltb (length s) 8) refl ne
   where
-    size : 8 ≤ length s → begins magic (drop 4 s) ≡ true → (t : Bool) → eqb (number (take 4 s)) (length s) ≡ t → HeaderTold s (cond (not t) 14 0)
+    size : 8 ≤ length s → begins magic (drop 4 s) ≡ true → (t : Bool) → eqb (bigEndian (take 4 s)) (length s) ≡ t → HeaderTold s (cond (not t) 14 0)
     size h m true e x = absurd (x refl)
     size h m false e x =
         faults.otherSize (take 4 s) (drop 8 s)
         (sym (take-append-drop 4 s)
         ∙ ap (λ (r : List ℕ). take 4 s ++ r) (begins-mark magic (drop 4 s) m ∙ ap (λ (r : List ℕ). magic ++ r) (drop-drop 4 4 s)))
-        (length-take-le 4 s (omega arith)) (eqb-false (number (take 4 s)) (length s) e)
+        (length-take-le 4 s (omega arith)) (eqb-false (bigEndian (take 4 s)) (length s) e)
 
     mark : 8 ≤ length s → (t : Bool) → begins magic (drop 4 s) ≡ t
-        → HeaderTold s (cond (not t) 13 (cond (not (eqb (number (take 4 s)) (length s))) 14 0))
-    mark h true e x = size h e (eqb (number (take 4 s)) (length s)) refl x
+        → HeaderTold s (cond (not t) 13 (cond (not (eqb (bigEndian (take 4 s)) (length s))) 14 0))
+    mark h true e x = size h e (eqb (bigEndian (take 4 s)) (length s)) refl x
     mark h false e x =
         let d = length-drop 4 s in
         let a = take-append-drop 4 (drop 4 s) in
@@ -244,7 +244,7 @@ header-told s ne = cut (ltb (length s) 8) refl ne
         absurd (omega arith))
 
     cut : (t : Bool) → ltb (length s) 8 ≡ t
-        → HeaderTold s (cond t 3 (cond (not (begins magic (drop 4 s))) 13 (cond (not (eqb (number (take 4 s)) (length s))) 14 0)))
+        → HeaderTold s (cond t 3 (cond (not (begins magic (drop 4 s))) 13 (cond (not (eqb (bigEndian (take 4 s)) (length s))) 14 0)))
     cut true e x = faults.cut (ltb-true (length s) 8 e)
     cut false e x = mark (ltb-false (length s) 8 e) (begins magic (drop 4 s)) refl x
 
@@ -268,4 +268,4 @@ wrong-header s k (faults.otherSize size rest e w d) =
     let y = length-append magic rest in
     let a : begins magic (drop 4 s) ≡ true = ap (begins magic) (ap (drop 4) e ∙ drop-at size (magic ++ rest) 4 w) ∙ mark-begins magic rest in
     let b : take 4 s ≡ size = ap (take 4) e ∙ take-at size (magic ++ rest) 4 w in
-    (rw (le-ltb (length s) 8 (omega arith), a, b, ne-eqb (number size) (length s) d), λ e. omega arith)
+    (rw (le-ltb (length s) 8 (omega arith), a, b, ne-eqb (bigEndian size) (length s) d), λ e. omega arith)

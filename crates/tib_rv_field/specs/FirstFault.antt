@@ -4,7 +4,7 @@ use Prim.Native.Nat.{ℕ, suc, _+_, _≤_, _<_}
 use mathlib.Core.Path.{_≡_}
 use mathlib.Core.List.{List, [], _∷_, _++_}
 use lib.ListN.{length}
-use Rattle.octets.specs.Number.{number}
+use Rattle.octets.specs.Number.{bigEndian}
 use Rattle.reading.specs.Reading.{messageLimit, depthLimit}
 use Rattle.tib_field.specs.Name.{Name}
 use Rattle.tib_field.specs.WrongName.{WrongNamed}
@@ -44,14 +44,14 @@ WrongField k s = WrongNamed WrongType k s
 pub data WrongHeader (s : List ℕ) : ℕ → Type 0 where
   cut : length s < 8 → WrongHeader s 3
   otherMark : (size mark rest : List ℕ) → s ≡ size ++ (mark ++ rest) → length size ≡ 4 → length mark ≡ 4 → (mark ≡ magic → ⊥) → WrongHeader s 13
-  otherSize : (size rest : List ℕ) → s ≡ size ++ (magic ++ rest) → length size ≡ 4 → (number size ≡ length s → ⊥) → WrongHeader s 14
+  otherSize : (size rest : List ℕ) → s ≡ size ++ (magic ++ rest) → length size ≡ 4 → (bigEndian size ≡ length s → ⊥) → WrongHeader s 14
 
 -- A header that is good, and the octets of the fields after it.
 pub record Opens (s fields : List ℕ) : Type 0 where
   pub size : List ℕ
   pub divides : s ≡ size ++ (magic ++ fields)
   pub width : length size ≡ 4
-  pub counted : number size ≡ length s
+  pub counted : bigEndian size ≡ length s
 
 -- A field of type 1: the first four of the octets that it holds count them. What it holds may be a message or not.
 pub record Holds (name held : List ℕ) : Type 0 where
@@ -60,7 +60,7 @@ pub record Holds (name held : List ℕ) : Type 0 where
   pub rest : List ℕ
   pub divides : held ≡ size ++ rest
   pub width : length size ≡ 4
-  pub counted : number size ≡ length held
+  pub counted : bigEndian size ≡ length held
 
 -- The first fault in the fields of a message that may be `levels` messages deep, itself counted: its number, and its place from the first of
 -- these octets on. It is here, at the first field; over a field that holds no message; past a field whose message is good; or in a field of

@@ -4,7 +4,7 @@ use Prim.Native.Nat.{ℕ, suc, _+_, _≤_, max}
 use mathlib.Core.Path.{_≡_}
 use mathlib.Core.List.{List, [], _∷_, _++_}
 use lib.ListN.{length}
-use Rattle.octets.specs.Number.{number}
+use Rattle.octets.specs.Number.{bigEndian}
 use Rattle.reading.specs.Reading.{messageLimit, depthLimit}
 use Rattle.tib_field.specs.Name.{Name}
 
@@ -22,8 +22,8 @@ octets f = length (f .name) ∷ (f .name ++ (f .octet ∷ (f .size ++ f .content
 -- two octets and after `7a` four count themselves and not the marker.
 pub data Size : List ℕ → ℕ → Type 0 where
   one : (n : ℕ) → suc n ≤ 0x78 → Size (suc n ∷ []) n
-  two : (s : List ℕ) (n : ℕ) → length s ≡ 2 → number s ≡ 2 + n → Size (0x79 ∷ s) n
-  four : (s : List ℕ) (n : ℕ) → length s ≡ 4 → number s ≡ 4 + n → Size (0x7a ∷ s) n
+  two : (s : List ℕ) (n : ℕ) → length s ≡ 2 → bigEndian s ≡ 2 + n → Size (0x79 ∷ s) n
+  four : (s : List ℕ) (n : ℕ) → length s ≡ 4 → bigEndian s ≡ 4 + n → Size (0x7a ∷ s) n
 
 -- A field that holds no message.
 pub record Leaf (f : Parts) : Type 0 where
@@ -62,7 +62,7 @@ depth (nested name size inside rest) = max (suc (depth inside)) (depth rest)
 -- The size of a message takes four octets and counts the whole message, its header too.
 pub record Header (size : List ℕ) (fields : Fields) : Type 0 where
   pub width : length size ≡ 4
-  pub counted : number size ≡ length (message size fields)
+  pub counted : bigEndian size ≡ length (message size fields)
 
 -- Every field, at all depths, is as the layout allows.
 unfoldable pub Allowed : Fields → Type 0

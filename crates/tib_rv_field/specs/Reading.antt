@@ -5,7 +5,7 @@ use mathlib.Core.Bool.{Bool, cond, _&&_, _||_, not}
 use mathlib.Core.List.{List, [], _∷_}
 use lib.ListN.{length, take, drop}
 use lib.Dec.{eqb, leb, ltb}
-use Rattle.octets.specs.Number.{number}
+use Rattle.octets.specs.Number.{bigEndian}
 use Rattle.reading.specs.Reading.{Reading, accepted, refused, onAccepted, inOrder, messageLimit, depthLimit}
 use Rattle.tib_field.specs.Mark.{begins}
 use Rattle.tib_field.specs.Name.{nameFront, afterName}
@@ -24,7 +24,7 @@ own m = cond (ltb m 0x79) 1 (following m)
 
 -- What a size says, by its first octet and the octets after that.
 unfoldable pub counted : ℕ → List ℕ → ℕ
-counted m s = cond (ltb m 0x79) m (number (take (following m) s))
+counted m s = cond (ltb m 0x79) m (bigEndian (take (following m) s))
 
 -- A count is no smaller than what it counts of the size, and type 1 uses `7a`.
 unfoldable pub countAllowed : ℕ → ℕ → ℕ → Bool
@@ -104,7 +104,7 @@ unfoldable pub headerFault : List ℕ → ℕ
 headerFault s =
     cond (ltb (length s) 8) 3
     (cond (not (begins magic (drop 4 s))) 13
-    (cond (not (eqb (number (take 4 s)) (length s))) 14
+    (cond (not (eqb (bigEndian (take 4 s)) (length s))) 14
     0))
 
 -- A message, at most `levels` messages deep. It is refused with 5 at the field that holds it where it is too deep. A field takes an octet or

@@ -5,7 +5,7 @@ ghost use mathlib.Core.Bool.{cond};
 ghost use Prim.Native.Nat.{_-_, _≤_};
 ghost use lib.Dec.{ltb};
 ghost use lib.ListN.{length, take};
-ghost use Rattle.octets.specs.Number.{number};
+ghost use Rattle.octets.specs.Number.{bigEndian};
 ghost use Rattle.tib_rv_field.specs.Reading.{following as following-of, own as own-of, countAllowed, found as found-of, fromCount, fromSize, fromType, nextField};
 
 // The sizes of the parts of a field, and its type octet. Of a field that holds a message the width is 1, for the marker alone, and the
@@ -99,7 +99,7 @@ fn from_count(n: usize, c: u8, m: u64, k: u64, left: usize) -> Step
 // The field from the w octets of its size that follow the first.
 fn from_long(n: usize, c: u8, m: u64, w: usize, s: &[u8]) -> Step
     requires { ⌜ w ≤ 4 ⌝ }
-    ensures { λ r. ⌜ r ≡ cond (ltb (length (now (s .entry))) w) (Step.Fault 3) (fromCount n c m (number (take w (now (s .entry)))) (length (now (s .entry)) - w)) ⌝ }
+    ensures { λ r. ⌜ r ≡ cond (ltb (length (now (s .entry))) w) (Step.Fault 3) (fromCount n c m (bigEndian (take w (now (s .entry)))) (length (now (s .entry)) - w)) ⌝ }
 {
     if s.len() < w {
         return Step::Fault(3);

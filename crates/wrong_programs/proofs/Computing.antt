@@ -62,7 +62,7 @@ unfolding kinds.always kinds.below kinds.array kinds.octets kinds.word kinds.wor
     lookup.lookup lookup.lookupLast shorten.fits shorten.shorten frameRead.frameRead frameWrite.fits frameWrite.frameWrite show.fits show.show
     valid.valid loads.load loads.loadFrom loads.accepted loads.refused loads.tableOf loads.wordsBefore loads.faulty
     loads.wellFormed loads.recordAt loads.wordAt loads.inRange loads.seen loads.pair schemas.schema schemas.schemaOf entries.entry entries.entries
-    entries.find entries.meaning entries.innerOf entries.kindNumber valids.valid valids.allInRange valids.allZero repeats.distinct octets.number
+    entries.find entries.meaning entries.innerOf entries.kindNumber valids.valid valids.allInRange valids.allZero repeats.distinct octets.bigEndian
     octets.octetsOf octets.width octets.widthWithin octets.leastUint signs.integer signs.withSign signs.lowest controls.control controls.controlOf
     controls.following controls.coded controls.leastControl controls.leastCode controls.firstFit onAccepted inOrder readings.reading
     readings.messageFrom readings.fieldsFrom readings.afterStep readings.step readings.stepFrom readings.stepByKind cuts.joined trees.tree
@@ -87,7 +87,7 @@ writer = Unit {0}
 
 unfoldable pub tib : Type 0
 unfolding kinds.always kinds.below kinds.octets kinds.word tibs.check tibs.fieldFits tibs.field reals.realFits reals.real reals.fractionsFits
-    reals.fractions onAccepted inOrder octets.number answers.counts answers.refusal marks.begins names.nameFront names.named names.closes
+    reals.fractions onAccepted inOrder octets.bigEndian answers.counts answers.refusal marks.begins names.nameFront names.named names.closes
     names.afterName fields.placed kths.fieldOf kths.answerFor msgLayout.kind msgLayout.hinted msgLayout.sizeWidth msgLayout.isWidth
     msgLayout.sizeAllowed msgLayout.octets msgReading.typeAllowed msgReading.hintAt msgReading.hintFront msgReading.valueHint msgReading.withHint
     msgReading.fromData msgReading.fromSize msgReading.fromType msgReading.nextField msgReading.total msgReading.partsAt msgReading.afterStep

@@ -10,7 +10,7 @@ use lib.Ieee as ieee
 use lib.Ieee.{fin}
 use lib.IntN.{pos}
 use borrow.Author.Tests.{eqb-false}
-use Rattle.octets.specs.Number.{number}
+use Rattle.octets.specs.Number.{bigEndian}
 use Rattle.tib_real.specs.FromOctets.{made}
 use Rattle.tib_real.specs.declared.types.Real.{Real}
 use Rattle.wrong_programs.specs.Kinds.{RuledOut, Invents, SeesOnly, always}
@@ -56,7 +56,7 @@ abbrev has-four-octets : RealCall → Type 0
 has-four-octets x = length (x .value .contents) ≡ 4
 
 abbrev as-they-stand : RealCall → ℕ
-as-they-stand x = number (x .value .contents)
+as-they-stand x = bigEndian (x .value .contents)
 
 pub four-octets-as-they-are : RuledOut (Invents bits as-they-stand has-four-octets) real
 unfolding one

@@ -1,4 +1,4 @@
--- What the private functions `tag_lead` and `length_lead` answer.
+-- What the private functions `tag_lead` and `length_lead` return.
 use Prim.Native.Nat.{ℕ, _<_}
 use mathlib.Core.Path.{_≡_}
 use lib.ListN.{length}

@@ -3,7 +3,7 @@ use Prim.Native.Nat.{_≤_, _<_}
 use native.Mathlib.Omega.{arith}
 use lib.ListN.{length}
 use Rattle.octets.specs.ControlPart.{lengthCode}
-use Rattle.octets_read.proofs.Numbers.{none-held}
+use Rattle.octets_read.proofs.Numbers.{no-octets}
 use Rattle.octets_read.proofs.Coded.{coded-direct, coded-after, length-one, length-two, length-four, length-eight, length-of-one, length-of-two, length-of-four}
 use Rattle.octets_read.proofs.length_value.Statement.{statement}
 use Rattle.octets_read.proofs.length_value.Tie as tie
@@ -14,7 +14,7 @@ returns c = let b = c .before .before in coded-direct lengthCode (b .args .l) (b
 one-more-requires : tie.Need-one-more-requires
 one-more-requires c κs =
     let b = c .before .before in
-    (length-one (b .args .l) (b .args .s .now) (b .pre .0) (b .pre .1) (c .if1 .left), none-held (b .args .s .now))
+    (length-one (b .args .l) (b .args .s .now) (b .pre .0) (b .pre .1) (c .if1 .left), no-octets (b .args .s .now))
 
 returns-2 : tie.Need-returns-2
 returns-2 c =

@@ -3,7 +3,7 @@ use Prim.Native.Nat.{_+_, _*_, _^_, _<_}
 use native.Mathlib.Omega.{arith}
 use borrow.Author.Needs.{needs}
 use Rattle.octets.proofs.Number.{octets-of-slice}
-use Rattle.octets_read.proofs.Numbers.{room, next-held}
+use Rattle.octets_read.proofs.Numbers.{room, next-octet}
 use Rattle.octets_read.proofs.one_more.Statement.{statement}
 use Rattle.octets_read.proofs.one_more.Tie as tie
 
@@ -30,7 +30,7 @@ add-result c =
 returns : tie.Need-returns
 returns c =
     let b = c .before .before .before in
-    rw (c .wide .ensures) (next-held (b .args .s .now) (b .args .v) (b .args .i) (b .pre .0 .0) (b .pre .1))
+    rw (c .wide .ensures) (next-octet (b .args .s .now) (b .args .v) (b .args .i) (b .pre .0 .0) (b .pre .1))
 
 pub one-more-spec : {M : Type 1} → statement M
 one-more-spec =

@@ -1,6 +1,6 @@
 -- `octets_read::tag_value` meets its contract.
 use Rattle.octets.specs.ControlPart.{tagCode}
-use Rattle.octets_read.proofs.Numbers.{none-held}
+use Rattle.octets_read.proofs.Numbers.{no-octets}
 use Rattle.octets_read.proofs.Coded.{coded-direct, tag-one, tag-two, tag-of-one, tag-of-two}
 use Rattle.octets_read.proofs.tag_value.Statement.{statement}
 use Rattle.octets_read.proofs.tag_value.Tie as tie
@@ -11,7 +11,7 @@ returns c = let b = c .before .before in coded-direct tagCode (b .args .t) (b .a
 one-more-requires : tie.Need-one-more-requires
 one-more-requires c κs =
     let b = c .before .before in
-    (tag-one (b .args .t) (b .args .s .now) (b .pre .0) (b .pre .1) (c .if1 .left), none-held (b .args .s .now))
+    (tag-one (b .args .t) (b .args .s .now) (b .pre .0) (b .pre .1) (c .if1 .left), no-octets (b .args .s .now))
 
 returns-2 : tie.Need-returns-2
 returns-2 c =

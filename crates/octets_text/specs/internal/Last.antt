@@ -1,4 +1,4 @@
--- What the last octets of a text tell about the next one, for the private functions `wanting` and `wrong`.
+-- How many octets of an incomplete group are still to come, by the last three octets. For the private functions `wanting` and `wrong`.
 use Prim.Native.Nat.{ℕ, _-_, max}
 use mathlib.Core.Bool.{cond}
 use lib.Dec.{ltb}

@@ -3,11 +3,11 @@ use Prim.Native.Nat.{ℕ}
 use mathlib.Core.Bool.{cond}
 use mathlib.Core.List.{List}
 use lib.ListN.{drop}
-use Rattle.octets.specs.Number.{number}
+use Rattle.octets.specs.Number.{bigEndian}
 use Rattle.hproto_table.specs.Load.{wellFormed}
 use Rattle.table_index.specs.declared.record.Record.{Record}
 use Rattle.table_index.specs.declared.record.Record.the-variants.{Word, Wrong}
 
 -- The word of a well-formed record, or `Wrong`.
 unfoldable pub recordOf : List ℕ → Record
-recordOf r = cond (wellFormed r) (Word (number (drop 3 r))) Wrong
+recordOf r = cond (wellFormed r) (Word (bigEndian (drop 3 r))) Wrong

@@ -1,7 +1,7 @@
 -- `lines::uint` puts the digits of the number that was read.
 use mathlib.Core.Path.{ap, _∙_}
 use denote.Ref.{now}
-use Rattle.octets.specs.Number.{number}
+use Rattle.octets.specs.Number.{bigEndian}
 use Rattle.octets.proofs.Number.{unsigned-is}
 use Rattle.text_window.specs.Digits.{decimal}
 use Rattle.text_window.proofs.Windows.{same-place}
@@ -22,7 +22,7 @@ returns : tie.Need-returns
 returns c =
     let b = c .before .before .before .before .before .before .before in
     let e = c .before .before .before .before .uint .ensures ∙ unsigned-is (now (b .args .s)) (b .pre) in
-    same-place (decimal (number (now (b .args .s)))) (ap decimal e) (c .before .before .decimal .ensures)
+    same-place (decimal (bigEndian (now (b .args .s)))) (ap decimal e) (c .before .before .decimal .ensures)
 
 pub uint-spec : {M : Type 1} → statement M
 uint-spec = tie.close (tie.spec uint-requires decimal-requires same-length returns)
