@@ -1,4 +1,4 @@
--- The refusals of a close, its answer and the buffer afterwards, case by case.
+-- The refusals of a close, its answer and the buffer after it, case by case.
 use Prim.Native.Nat.{ℕ, _-_, _≤_, _<_}
 use native.Mathlib.Omega.{arith}
 use mathlib.Core.Path.{_≡_, refl, sym, _∙_}
@@ -58,12 +58,12 @@ module _ (t : Table) (s : State) (len got : ℕ) (e : got ≡ closeEarly t s len
   unfolding closeEarly
   close-kept next ne = kept (eqb len (s .length)) (sound s) (valid t) (leb 1 (s .opened)) got next e ne
 
--- Where nothing comes before the refusal for want of room, that decides.
+-- If no earlier refusal applies, the room decides.
 pub close-decides : (t : Table) (s : State) (len next : ℕ) → CloseMet t s len 0 → closeEarly t s len next ≡ next
 close-decides t s len next m = sym (close-some t s len next (m .same) (sym (m .good)) (sym (m .table)) (m .some-open))
 
 module _ (t : Table) (s : State) (d : List ℕ) where
-  -- What is promised of the answer r and of the buffer afterwards.
+  -- What the contract says of the answer r and of the buffer after the close.
   pub record CloseDone (r : Written) (after : List ℕ) : Type 0 where
     pub answer : r ≡ writes.answer t s d closeField
     pub buffer : after ≡ writes.buffer t s d closeField

@@ -1,4 +1,4 @@
--- The answer of a put and the buffer afterwards, case by case.
+-- The answer of a put and the buffer after it, for a refused and for an accepted put.
 use Prim.Native.Nat.{ℕ, _+_, _-_}
 use mathlib.Core.Path.{_≡_, refl, sym, _∙_}
 use mathlib.Core.Bool.{Bool}
@@ -16,7 +16,7 @@ use Rattle.hproto_message.proofs.Fields.{field-length}
 use Rattle.hproto_puts.specs.internal.Stores.{Before}
 
 module _ (t : Table) (s : State) (tag : ℕ) (agrees reads : Bool) (xs d : List ℕ) where
-  -- What is promised of the answer r and of the buffer afterwards.
+  -- What the contract says of the answer r and of the buffer after the put.
   pub record PutDone (r : Written) (after : List ℕ) : Type 0 where
     pub answer : r ≡ put t s tag agrees reads xs (length d)
     pub buffer : after ≡ putBuffer t s tag agrees reads xs d

@@ -7,7 +7,7 @@ use lib.Dec.{leb}
 use borrow.Author.Tests.{lt-leb}
 use Rattle.hproto_store.proofs.Room.{fits-after}
 
--- The contents alone do not fit, or the control part has to fit into what they leave.
+-- The contents alone do not fit, or the control part has to fit beside them.
 pub room-none : (size n free : ℕ) → free < n → false ≡ leb (size + n) free
 room-none size n free h = sym (lt-leb (size + n) free (omega arith))
 

@@ -1,4 +1,4 @@
--- What stands in the buffer from the start on after a call that is accepted: the octets of its field before all the earlier ones.
+-- The stored octets after an accepted call: the octets of its field, then those stored earlier.
 use Prim.Native.Nat.{ℕ, _+_, _-_, _≤_}
 use native.Mathlib.Omega.{arith}
 use mathlib.Core.Path.{_≡_, refl, _∙_}

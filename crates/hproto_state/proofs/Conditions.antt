@@ -1,4 +1,4 @@
--- What a call that is not refused has met.
+-- The conditions that an accepted call meets.
 use Prim.Native.Nat.{ℕ, _≤_, _<_}
 use native.Mathlib.Omega.{arith}
 use mathlib.Core.Path.{_≡_, refl}
@@ -13,7 +13,7 @@ use Rattle.hproto_state.specs.Sound.{sound}
 use Rattle.hproto_state.specs.Calls.{orRefuse, startRefusal, putRefusal, openRefusal, closingPart, closeEarly, closeRefusal}
 use Rattle.hproto_state.specs.declared.State.{State}
 
--- Where no refusal came, a test that has one is met, and nothing after it is refused.
+-- If a chain of tests gives no refusal, its first test holds and the rest of the chain gives no refusal.
 pub passed : (test : Bool) (n next : ℕ) → 0 < n → orRefuse test n next ≡ 0 → (test ≡ true) × (next ≡ 0)
 unfolding orRefuse
 passed true n next h e = (refl, e)
@@ -21,7 +21,7 @@ passed false n next h e = absurd (omega arith)
 
 module _ (t : Table) (number len : ℕ) where
   pub record StartMet : Type 0 where
-    pub short : len ≤ messageLimit
+    pub within-limit : len ≤ messageLimit
     pub table : valid t ≡ true
     pub small : number ≤ 15
 
@@ -33,7 +33,7 @@ module _ (t : Table) (number len : ℕ) where
       let a = passed (leb len messageLimit) 1 n1 (omega arith) e in
       let b = passed (valid t) 2 n2 (omega arith) (a .1) in
       let d = passed (leb number 15) 2 0 (omega arith) (b .1) in
-      record { short = leb-true len messageLimit (a .0); table = b .0; small = leb-true number 15 (d .0) }
+      record { within-limit = leb-true len messageLimit (a .0); table = b .0; small = leb-true number 15 (d .0) }
 
 module _ (t : Table) (s : State) (len : ℕ) (agrees reads : Bool) (size : ℕ) where
   pub record PutMet : Type 0 where
@@ -72,7 +72,7 @@ module _ (t : Table) (s : State) (agrees : Bool) where
       let h = passed (leb (s .opened) 6) 5 0 (omega arith) (f .1) in
       (f .0, leb-true (s .opened) 6 (h .0))
 
--- A close: what comes before its refusal for want of room, and `next`, which is that.
+-- A close: the refusals that come before that for want of room, which is `next`.
 module _ (t : Table) (s : State) (len next : ℕ) where
   pub record CloseMet : Type 0 where
     pub same : len ≡ s .length
@@ -99,7 +99,7 @@ module _ (t : Table) (s : State) (len next : ℕ) where
         later = f .1;
       }
 
--- And that refusal does not come.
+-- An accepted close has room for its control part.
 pub close-room : (t : Table) (s : State) (len : ℕ) → closeRefusal t s len ≡ 0
     → CloseMet t s len (orRefuse (leb (length (closingPart s)) (s .start)) 9 0) × (length (closingPart s) ≤ s .start)
 unfolding closeRefusal

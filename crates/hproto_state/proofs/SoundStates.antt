@@ -1,4 +1,4 @@
--- What a sound state keeps.
+-- What holds of a sound state.
 use Prim.Native.Nat.{ℕ, zero, suc, _+_, _≤_, _<_}
 use native.Mathlib.Omega.{arith}
 use mathlib.Core.Path.{_≡_}

@@ -1,4 +1,4 @@
--- The refusals that put and open share, case by case, and what a tag is where there is none.
+-- The refusals that put and open share, case by case, and the answer of `tag_kind`.
 use Prim.Native.Nat.{ℕ, _≤_, _<_}
 use native.Mathlib.Omega.{arith}
 use mathlib.Core.Path.{_≡_, refl, sym, ap, _∙_}
@@ -64,11 +64,11 @@ module _ (t : Table) (s : State) (len : ℕ) (agrees : Bool) where
 
 -- ---- after it
 
--- The four refusals that come first, and what comes after them.
+-- The four tests that come first, and the tests after them.
 unfoldable first : Bool → Bool → Bool → Bool → ℕ → ℕ
 first a b d f next = orRefuse a 10 (orRefuse b 10 (orRefuse d 2 (orRefuse f 8 next)))
 
--- One of them is kept whatever comes after; else what comes after decides.
+-- If one of the four fails, its refusal is the answer; else the tests after them decide.
 first-kept : (a b d f : Bool) (x y : ℕ) → x ≡ 0 → (first a b d f x ≡ 0 → ⊥) → first a b d f x ≡ first a b d f y
 unfolding first orRefuse
 first-kept false b d f x y z n = refl
@@ -121,9 +121,9 @@ module _ (t : Table) (s : State) (agrees : Bool) (got : ℕ) (e : got ≡ putRef
   unfolding openRefusal first orRefuse
   open-rest z = first-none true (sound s) (valid t) agrees (rest s true 0) deep (sym early ∙ z)
 
--- ---- what a tag is
+-- ---- the meaning of a tag
 
--- What the index of the table says of the tag is what the table says.
+-- The index of the table gives a tag the same meaning as the table.
 pub means-found : (t : Table) (s : State) (tag : ℕ) {number : ℕ} {sc : Schema} {r : Meaning} → sc ≡ schema t → number ≡ level s → r ≡ sc .means number tag → r ≡ meant t s tag
 unfolding meant
 means-found t s tag e f q = q ∙ rw (e, f) refl
@@ -145,7 +145,7 @@ module _ (t : Table) (s : State) (len tag wanted : ℕ) where
   unfolding tagKind
   tag-known k i e = rw (k, i, ← e) refl
 
-  -- What an answer says.
+  -- What the answer of `tag_kind` tells.
   pub record TagRead (r : Tagged) : Type 0 where
     pub refused : r .refusal ≡ putRefusal t s len suits true 0
     pub kind : r .refusal ≡ 0 → r .kind ≡ kindNumber means

@@ -1,4 +1,4 @@
--- What tags mean in the innermost message that is open.
+-- The meaning of tags in the innermost open message.
 use Prim.Native.Nat.{ℕ, _≤_, _<_}
 use native.Mathlib.Omega.{arith}
 use mathlib.Core.Path.{_≡_, refl, _∙_}

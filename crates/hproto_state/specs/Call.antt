@@ -1,4 +1,4 @@
--- The calls of the writer, and what a writer has to say about them.
+-- The calls of the writer, and the functions that describe a writer.
 use Prim.Native.Nat.{ℕ}
 use mathlib.Core.List.{List}
 use lib.IntN.{ℤ}
@@ -15,8 +15,8 @@ pub data Call : Type 0 where
   openField : ℕ → Call
   closeField : Call
 
--- What the calls of a writer answer: start by a table, a message number and the length of the lent buffer; a call by a table, a state and a
--- buffer, with the buffer afterwards; finish by a state.
+-- The answers of a writer. Start takes a table, a message number and the length of the lent buffer. A call takes a table, a state and a buffer;
+-- `buffer` is the buffer after it. Finish takes a state.
 pub record Writer : Type 0 where
   pub start : Table → ℕ → ℕ → Written
   pub answer : Table → State → List ℕ → Call → Written

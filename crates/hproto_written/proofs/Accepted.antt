@@ -1,4 +1,4 @@
--- Every run reaches a state with what proofs/Reached.antt says: each accepted call keeps it.
+-- The state after every run is reached (proofs/Reached.antt): each accepted call keeps this invariant.
 use Prim.Native.Nat.{ℕ, _-_}
 use native.Mathlib.Omega.{arith}
 use mathlib.Core.Path.{_≡_, refl, sym, ap, _∙_}
@@ -34,7 +34,7 @@ reached-start : (t : Table) (number : ℕ) (lent : List ℕ) → started t numbe
 unfolding started callResult
 reached-start t number lent e =
     let m = start-met t number (length lent) e in
-    rw e (reached-begun t number lent (m .table) (m .small) (m .short))
+    rw e (reached-begun t number lent (m .table) (m .small) (m .within-limit))
 
 module _ (t : Table) (number : ℕ) (lent : List ℕ) (s : State) (d : List ℕ) where
   module _ (g : Given) (r : Reached t number lent s d g) (tag : ℕ) where

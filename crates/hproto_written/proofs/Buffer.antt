@@ -1,4 +1,4 @@
--- What stands in a lent buffer while it is filled from its end.
+-- The contents of a lent buffer while it is filled from its end.
 use Prim.Native.Nat.{ℕ, _+_, _-_, _≤_}
 use native.Mathlib.Omega.{arith}
 use mathlib.Core.Path.{_≡_, refl, sym, ap, _∙_}
@@ -9,7 +9,7 @@ use Rattle.hproto_store.specs.Store.{stored}
 use Rattle.hproto_store.proofs.Stores.{length-stored, drop-stored, take-before-stored}
 use Rattle.hproto_written.specs.Written.{AtEnd}
 
--- The octets xs stand from a place to the end, and the octets before that place are as they were lent.
+-- The octets xs stand from an offset to the end, and the octets before that offset are unchanged.
 pub record Filled (lent d : List ℕ) (start : ℕ) (xs : List ℕ) : Type 0 where
   pub size : length d ≡ length lent
   pub place : start + length xs ≡ length lent

@@ -9,7 +9,7 @@ use borrow.Author.Tests.{le-leb, leb-true}
 use Rattle.hproto_table.proofs.Bools.{and-left, and-right, and-both}
 use Rattle.hproto_state.specs.Sound.{falling, small}
 
--- Marks that fall to a last one fall to it also where it is one of them, and they lie above every lower place.
+-- Falling marks still fall with one more mark at their end, and they lie above every lower offset.
 pub falling-last : (low last high : ℕ) (ms : List ℕ) → low ≤ last → last ≤ high → falling last high ms ≡ true
     → falling low high (ms ++ (last ∷ [])) ≡ true
 unfolding falling

@@ -1,4 +1,4 @@
--- The states after a start, a stored field, an open and a close are reached where the state before them is.
+-- The state after a start is reached; if a state is reached, so is the state after a stored field, an open or a close.
 use Prim.Native.Nat.{ℕ, suc, _+_, _-_, _≤_, _<_}
 use native.Mathlib.Omega.{arith}
 use native.Mathlib.Numerals.{add-one}

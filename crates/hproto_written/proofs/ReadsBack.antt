@@ -1,4 +1,4 @@
--- Trees whose shortest form reads back as the tree, and that a field put before such a tree makes another.
+-- Trees whose shortest form reads back as the tree. A field put before such a tree gives another such tree.
 use Prim.Native.Nat.{ℕ, suc, _≤_, _<_}
 use native.Mathlib.Omega.{arith}
 use mathlib.Core.Path.{_≡_, refl, sym, ap, ap₂, subst}

@@ -1,4 +1,4 @@
--- Start and the calls after a run are refused just as specs/Refusal.antt says.
+-- The refusals of start and of the calls after a run are those of specs/Refusal.antt.
 use Prim.Native.Nat.{ℕ, _-_}
 use native.Mathlib.Omega.{arith}
 use mathlib.Core.Path.{_≡_, refl, ap, _∙_}

@@ -1,4 +1,4 @@
--- What a tag means in a table that the loader can give.
+-- The meaning of a tag in a valid table.
 use Prim.Native.Nat.{ℕ, _≤_}
 use native.Mathlib.Omega.{arith}
 use mathlib.Core.Path.{_≡_}
@@ -17,7 +17,7 @@ use Rattle.hproto_table.specs.declared.Meaning.the-variants.{Raw, Uint, Int, St
 use Rattle.hproto_table.specs.declared.Table.{Table}
 use Rattle.hproto_table.proofs.Bools.{and-left, and-right}
 
--- The inner number of an entry in range is at most 15, of whatever kind it is.
+-- The inner number of an entry in range is at most 15, for every kind.
 entry-small : (e : Entry) → inRange e ≡ true → innerOf (meaning e) ≤ 15
 unfolding inRange meaning innerOf
 entry-small e h = kinds (eqb (e .kind) 1) (eqb (e .kind) 2) (eqb (e .kind) 3) (eqb (e .kind) 4) (eqb (e .kind) 5)
@@ -44,7 +44,7 @@ words-small (w ∷ ws) number tag h =
     (entry-small (entry w) (and-left (inRange (entry w)) (allInRange ws) h))
     (words-small ws number tag (and-right (inRange (entry w)) (allInRange ws) h))
 
--- No inner number of a table that the loader can give is above 15.
+-- No inner number of a valid table is above 15.
 pub inner-small : (t : Table) (number tag : ℕ) → valid t ≡ true → innerOf (schema t .means number tag) ≤ 15
 unfolding valid schema schemaOf entries
 inner-small t number tag v =

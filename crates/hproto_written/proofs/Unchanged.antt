@@ -44,7 +44,7 @@ module _ (t : Table) (s : State) (d : List ℕ) where
       let e = ne-eqb (closeRefusal t s (length d)) 0 ne in
       record { same-state = rw e refl; same-buffer = rw e refl }
 
--- Finish hands the state back, refused or not.
+-- Finish returns the state that it was given, refused or not.
 pub finish-unchanged : (s : State) → finished s .state ≡ s
 unfolding finished
 finish-unchanged s = refl

@@ -1,4 +1,4 @@
--- The writer answers 0 where specs/Zeros.antt says so.
+-- The writer returns 0 where specs/Zeros.antt says so.
 use Prim.Native.Nat.{ℕ}
 use mathlib.Core.Path.{_≡_, refl}
 use mathlib.Core.List.{List}

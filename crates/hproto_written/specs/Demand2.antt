@@ -1,6 +1,6 @@
--- Demand 2 of the order, its part about the writer. It is stated of any functions that say what the calls of a writer, and a check, answer.
--- The contracts of the calls name these functions, and the law `demand-2` shows the demand of them: how they are computed need not be read.
--- It is about runs. Which other states, buffers and tables are refused with 10 or 2, the contracts say.
+-- Demand 2 of the order, its part about the writer. It is stated for any functions that give the answers of a writer's calls and of a check.
+-- The contracts of the calls name these functions, and the law `demand-2` proves the demand for them, so a reader need not read how they are computed.
+-- It is about runs. The contracts say which other states, buffers and tables are refused.
 use Prim.Native.Nat.{ℕ}
 use mathlib.Core.Path.{_≡_}
 use mathlib.Core.List.{List}
@@ -20,10 +20,10 @@ use Rattle.hproto_written.specs.Refusal.{refusalOfStart, Refusals}
 use Rattle.hproto_written.specs.Unchanged.{Unchanged}
 use Rattle.hproto_written.specs.Zeros.{Zeros}
 
--- What the check answers, by a table, a message number and a message.
+-- The answer of the check for a table, a message number and a message.
 module _ (check : Table → ℕ → List ℕ → Checked) where
   -- What holds after a run (specs/Run.antt) over a lent buffer, which left the buffer `after` and gave the fields `given`, last given
-  -- first, where finish is accepted and answers the place `from`.
+  -- first, where finish is accepted and returns the start `from`.
   pub record Demand2 (t : Table) (number : ℕ) (lent : List ℕ) (from : ℕ) (after : List ℕ) (given : Given) : Type 0 where
     -- All that was opened is closed, so the fields given are those of one message.
     pub whole : Tree
@@ -58,5 +58,5 @@ module _ (check : Table → ℕ → List ℕ → Checked) where
     -- On every table, state and buffer, a refused call changes neither state nor buffer, and finish never changes the state.
     pub refused : (t : Table) (s : State) (d : List ℕ) (c : Call) → (w .answer t s d c .refusal ≡ 0 → ⊥) → Unchanged w t s d c
     pub finish-keeps : (s : State) → w .finish s .state ≡ s
-    -- What a refusal has beside its number is 0, but for the state that a call or finish hands back.
+    -- In a refusal all but the refusal itself is 0, except for the state that a call or finish returns.
     pub zeros : Zeros w

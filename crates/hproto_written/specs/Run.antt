@@ -1,4 +1,4 @@
--- Runs of the writer: a start and the calls after it, each on the state and the buffer that the last one left, all accepted.
+-- Runs of the writer: a start and the calls after it, each on the state and the buffer after the call before it, all accepted.
 use Prim.Native.Nat.{ℕ, _^_, _<_}
 use mathlib.Core.Path.{_≡_}
 use mathlib.Core.Bool.{cond}
@@ -15,7 +15,7 @@ use Rattle.hproto_state.specs.declared.State.{State}
 use Rattle.hproto_written.specs.Given.{Given, message, opened, onFields, closed, innermost}
 
 -- The values that the calls take: a uint of 64 bits, and an int of 64 bits, from minus 2 to the power 63 on (`mag` of a number below
--- zero is one less than its size). Octets are taken whatever they are.
+-- zero is one less than its size). All octets are accepted.
 unfoldable pub InRange : Call → Type 0
 InRange (putUint tag v) = v < 2 ^ 64
 InRange (putInt tag z) = mag z < 2 ^ 63
@@ -31,7 +31,7 @@ kindIn t number g tag = kindNumber (schema t .means (innermost (schema t) number
 unfoldable pub octetsAs : ℕ → List ℕ → Value
 octetsAs kind xs = cond (eqb kind 4) (text xs) (string xs)
 
--- What is given after a call, under a table and the number of the outermost message.
+-- The fields given after a call, under a table and the number of the outermost message.
 unfoldable pub giving : Table → ℕ → Call → Given → Given
 giving t number (putUint tag v) g = onFields (leaf tag (uint v)) g
 giving t number (putInt tag z) g = onFields (leaf tag (int z)) g
@@ -39,8 +39,8 @@ giving t number (putOctets tag xs) g = onFields (leaf tag (octetsAs (kindIn t nu
 giving t number (openField tag) g = opened tag end g
 giving t number closeField g = closed g
 
--- A run of a writer under a table, with a message number, over a lent buffer: the state and the buffer that its last call left, and what
--- its calls gave.
+-- A run of a writer under a table, with a message number, over a lent buffer: the state and the buffer after its last call, and the fields
+-- that its calls gave.
 pub data Run (w : Writer) (t : Table) (number : ℕ) (lent : List ℕ) : State → List ℕ → Given → Type 0 where
   start : w .start t number (length lent) .refusal ≡ 0
       → Run w t number lent (w .start t number (length lent) .state) lent (message end)

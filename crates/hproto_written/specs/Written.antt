@@ -11,7 +11,7 @@ unfoldable pub written : Given → List ℕ
 written (message w) = shortest w
 written (opened tag w around) = shortest w ++ written around
 
--- A lent buffer afterwards: these octets stand in it from a place to its end, and the octets before that place are as they were lent.
+-- A lent buffer after the calls: these octets stand in it from an offset to its end, and the octets before that offset are as they were lent.
 pub record AtEnd (lent : List ℕ) (from : ℕ) (octets after : List ℕ) : Type 0 where
   pub to-the-end : from + length octets ≡ length lent
   pub others-kept : after ≡ take from lent ++ octets

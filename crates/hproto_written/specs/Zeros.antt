@@ -1,4 +1,4 @@
--- What is 0 in the answers of a writer.
+-- The parts of a writer's answers that are 0.
 use Prim.Native.Nat.{ℕ}
 use mathlib.Core.Path.{_≡_}
 use mathlib.Core.List.{List}
@@ -11,7 +11,7 @@ use Rattle.hproto_state.specs.declared.State.{State}
 abbrev pub noState : State
 noState = record { length = 0; start = 0; opened = 0; numbers = replicate 8 0; marks = replicate 7 0; tags = replicate 7 0 }
 
--- Every place is 0. In a refused start the state is 0 too, and in a refused finish where the message starts.
+-- Every place is 0. A refused start also returns a state of zeros, and a refused finish the start 0.
 pub record Zeros (w : Writer) : Type 0 where
   pub start-place : (t : Table) (number len : ℕ) → w .start t number len .place ≡ 0
   pub call-place : (t : Table) (s : State) (d : List ℕ) (c : Call) → w .answer t s d c .place ≡ 0

@@ -172,7 +172,7 @@ start-accepts-bad-table =
 
 -- It accepts a buffer over 65,536 octets, or a number over 15.
 pub start-accepts-long-buffer : RuledOut (AcceptsSome refusal (λ (x : StartCall). 65536 < length (x .value .buffer))) start
-start-accepts-long-buffer = accepts-some refusal _ (λ x w e. let h = start-passed x e .short in omega arith)
+start-accepts-long-buffer = accepts-some refusal _ (λ x w e. let h = start-passed x e .within-limit in omega arith)
 
 pub start-accepts-number-over-15 : RuledOut (AcceptsSome refusal (λ (x : StartCall). 15 < x .value .number)) start
 start-accepts-number-over-15 = accepts-some refusal _ (λ x w e. let h = start-passed x e .small in omega arith)

@@ -1,4 +1,4 @@
--- `marks_fall` meets its contract: at each turn the marks that are left decide.
+-- `marks_fall` meets its contract: in each step of the loop the remaining marks decide.
 use Prim.Native.Nat.{_-_, _≤_}
 use native.Mathlib.Omega.{arith}
 use mathlib.Core.Path.{_≡_, refl, sym, _∙_}

@@ -1,4 +1,4 @@
--- `numbers_small` meets its contract: at each turn the numbers that are left decide.
+-- `numbers_small` meets its contract: in each step of the loop the remaining numbers decide.
 use Prim.Native.Nat.{_-_, _≤_}
 use native.Mathlib.Omega.{arith}
 use mathlib.Core.Path.{_≡_, refl, sym, _∙_}
