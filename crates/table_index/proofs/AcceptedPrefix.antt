@@ -18,9 +18,9 @@ use Rattle.hproto_table.proofs.Schemas.{same-schema, find-large}
 use Rattle.table_index.specs.internal.Cells.{keyOf, wordKey, cellOf, meaningIn, orderIn, search, insertable, insertableAt, prefixEnd, cellFor, indexed}
 use Rattle.table_index.proofs.Meanings.{none}
 use Rattle.table_index.proofs.Words.{Small, cell-some, cell-order, cell-means, key-fits, key-pair}
-use Rattle.table_index.proofs.Found.{standing, indexAfter, found-standing}
+use Rattle.table_index.proofs.Found.{lastCell, indexAfter, found-last}
 
--- The first k words, each given by its place.
+-- The first k words, each given by its index.
 unfoldable pub wordsOf : (ℕ → ℕ) → ℕ → List ℕ
 wordsOf word zero = []
 wordsOf word (suc k) = wordsOf word k ++ (word k ∷ [])
@@ -35,29 +35,29 @@ module _ (word : ℕ → ℕ) where
   abbrev SmallBefore : ℕ → Type 0
   SmallBefore k = (j : ℕ) → j < k → Small (word j)
 
-  -- A pair was seen exactly where a cell stands for its key.
-  seen-standing : (w k : ℕ) → Small w → k ≤ 64 → SmallBefore k → seen (pair w) (wordsOf word k) ≡ not (eqb (standing word k (wordKey w)) 0)
-  unfolding wordsOf standing seen
-  seen-standing w zero s few small = refl
-  seen-standing w (suc k) s few small =
+  -- A pair was seen exactly if its key has a cell.
+  seen-last : (w k : ℕ) → Small w → k ≤ 64 → SmallBefore k → seen (pair w) (wordsOf word k) ≡ not (eqb (lastCell word k (wordKey w)) 0)
+  unfolding wordsOf lastCell seen
+  seen-last w zero s few small = refl
+  seen-last w (suc k) s few small =
       seen-append (pair w) (wordsOf word k) (word k ∷ [])
-      ∙ rw (seen-one (pair w) (word k), ← key-pair w s (word k) (small k (omega arith)), seen-standing w k s (omega arith) (λ j l. small j (omega arith)))
+      ∙ rw (seen-one (pair w) (word k), ← key-pair w s (word k) (small k (omega arith)), seen-last w k s (omega arith) (λ j l. small j (omega arith)))
       (go (eqb (wordKey (word k)) (wordKey w)))
     where
-      go : (t : Bool) → not (eqb (standing word k (wordKey w)) 0) || t ≡ not (eqb (cond t (cellOf (word k) k) (standing word k (wordKey w))) 0)
-      go true = rw (ne-eqb (cellOf (word k) k) 0 (cell-some (word k) (small k (omega arith)) k few)) (or-true (not (eqb (standing word k (wordKey w)) 0)))
-      go false = or-false (not (eqb (standing word k (wordKey w)) 0))
+      go : (t : Bool) → not (eqb (lastCell word k (wordKey w)) 0) || t ≡ not (eqb (cond t (cellOf (word k) k) (lastCell word k (wordKey w))) 0)
+      go true = rw (ne-eqb (cellOf (word k) k) 0 (cell-some (word k) (small k (omega arith)) k few)) (or-true (not (eqb (lastCell word k (wordKey w)) 0)))
+      go false = or-false (not (eqb (lastCell word k (wordKey w)) 0))
 
   module _ (n t : ℕ) (h : t < 65536) where
-    -- Words of which none stands for a key are passed over.
-    find-past : (k : ℕ) → SmallBefore k → k ≤ 64 → standing word k (keyOf n t) ≡ 0 → (ws : List ℕ) → find (map entry (wordsOf word k ++ ws)) n t ≡ find (map entry ws) n t
-    unfolding wordsOf standing find
+    -- Words without a cell for the key do not change what `find` returns.
+    find-past : (k : ℕ) → SmallBefore k → k ≤ 64 → lastCell word k (keyOf n t) ≡ 0 → (ws : List ℕ) → find (map entry (wordsOf word k ++ ws)) n t ≡ find (map entry ws) n t
+    unfolding wordsOf lastCell find
     find-past zero small few e ws = refl
     find-past (suc k) small few e ws =
         go (eqb (wordKey (word k)) (keyOf n t)) refl e (λ z. find-past k (λ j l. small j (omega arith)) (omega arith) z (word k ∷ ws))
       where
-        go : (b : Bool) → eqb (wordKey (word k)) (keyOf n t) ≡ b → cond b (cellOf (word k) k) (standing word k (keyOf n t)) ≡ 0
-            → (standing word k (keyOf n t) ≡ 0 → find (map entry (wordsOf word k ++ (word k ∷ ws))) n t ≡ find (map entry (word k ∷ ws)) n t)
+        go : (b : Bool) → eqb (wordKey (word k)) (keyOf n t) ≡ b → cond b (cellOf (word k) k) (lastCell word k (keyOf n t)) ≡ 0
+            → (lastCell word k (keyOf n t) ≡ 0 → find (map entry (wordsOf word k ++ (word k ∷ ws))) n t ≡ find (map entry (word k ∷ ws)) n t)
             → find (map entry (wordsOf word (suc k) ++ ws)) n t ≡ find (map entry ws) n t
         go true p z rest = absurd (cell-some (word k) (small k (omega arith)) k few z)
         go false p z rest =
@@ -69,36 +69,36 @@ module _ (word : ℕ → ℕ) where
     find-snoc [] w e = rw e refl
     find-snoc (x ∷ ws) w e = rw (find-snoc ws w e) refl
 
-    -- The cell that stands for a key means what the first word for its number and tag says, where no key stood before its word.
-    find-standing : (k : ℕ) → SmallBefore k → k ≤ 64 → ((j : ℕ) → j < k → standing word j (wordKey (word j)) ≡ 0)
-        → meaningIn (standing word k (keyOf n t)) ≡ find (map entry (wordsOf word k)) n t
-    unfolding wordsOf standing find
-    find-standing zero small few new = none
-    find-standing (suc k) small few new =
-        go (eqb (wordKey (word k)) (keyOf n t)) refl (find-standing k (λ j l. small j (omega arith)) (omega arith) (λ j l. new j (omega arith)))
+    -- If no key is repeated, the kind in the cell of a key is that of the first word for its number and tag.
+    find-last : (k : ℕ) → SmallBefore k → k ≤ 64 → ((j : ℕ) → j < k → lastCell word j (wordKey (word j)) ≡ 0)
+        → meaningIn (lastCell word k (keyOf n t)) ≡ find (map entry (wordsOf word k)) n t
+    unfolding wordsOf lastCell find
+    find-last zero small few new = none
+    find-last (suc k) small few new =
+        go (eqb (wordKey (word k)) (keyOf n t)) refl (find-last k (λ j l. small j (omega arith)) (omega arith) (λ j l. new j (omega arith)))
       where
         s : Small (word k)
         s = small k (omega arith)
 
-        go : (b : Bool) → eqb (wordKey (word k)) (keyOf n t) ≡ b → meaningIn (standing word k (keyOf n t)) ≡ find (map entry (wordsOf word k)) n t
-            → meaningIn (cond b (cellOf (word k) k) (standing word k (keyOf n t))) ≡ find (map entry (wordsOf word k ++ (word k ∷ []))) n t
+        go : (b : Bool) → eqb (wordKey (word k)) (keyOf n t) ≡ b → meaningIn (lastCell word k (keyOf n t)) ≡ find (map entry (wordsOf word k)) n t
+            → meaningIn (cond b (cellOf (word k) k) (lastCell word k (keyOf n t))) ≡ find (map entry (wordsOf word k ++ (word k ∷ []))) n t
         go true p rest =
             let f : fits n t (word k) ≡ true = sym (key-fits (word k) s n t h) ∙ p in
-            let z : standing word k (keyOf n t) ≡ 0 = ap (standing word k) (sym (eqb-true (wordKey (word k)) (keyOf n t) p)) ∙ new k (omega arith) in
+            let z : lastCell word k (keyOf n t) ≡ 0 = ap (lastCell word k) (sym (eqb-true (wordKey (word k)) (keyOf n t) p)) ∙ new k (omega arith) in
             cell-means (word k) s k few ∙ sym (find-past k (λ j l. small j (omega arith)) (omega arith) z (word k ∷ []) ∙ rw f refl)
         go false p rest =
             let f : fits n t (word k) ≡ false = sym (key-fits (word k) s n t h) ∙ p in
             rest ∙ sym (find-snoc (wordsOf word k) (word k) f)
 
-  -- A cell that stands for a key has the order of a word with that key.
-  pub standing-order : (k key : ℕ) → SmallBefore k → k ≤ 64 → (standing word k key ≡ 0 → ⊥) → (standing word k key % 64 < k) × (wordKey (word (standing word k key % 64)) ≡ key)
-  unfolding standing
-  standing-order zero key small few d = absurd (d refl)
-  standing-order (suc k) key small few d = go (eqb (wordKey (word k)) key) refl d (standing-order k key (λ j l. small j (omega arith)) (omega arith))
+  -- The cell of a key has the order of a word with that key.
+  pub last-order : (k key : ℕ) → SmallBefore k → k ≤ 64 → (lastCell word k key ≡ 0 → ⊥) → (lastCell word k key % 64 < k) × (wordKey (word (lastCell word k key % 64)) ≡ key)
+  unfolding lastCell
+  last-order zero key small few d = absurd (d refl)
+  last-order (suc k) key small few d = go (eqb (wordKey (word k)) key) refl d (last-order k key (λ j l. small j (omega arith)) (omega arith))
     where
-      go : (b : Bool) → eqb (wordKey (word k)) key ≡ b → (cond b (cellOf (word k) k) (standing word k key) ≡ 0 → ⊥)
-          → ((standing word k key ≡ 0 → ⊥) → (standing word k key % 64 < k) × (wordKey (word (standing word k key % 64)) ≡ key))
-          → (cond b (cellOf (word k) k) (standing word k key) % 64 < suc k) × (wordKey (word (cond b (cellOf (word k) k) (standing word k key) % 64)) ≡ key)
+      go : (b : Bool) → eqb (wordKey (word k)) key ≡ b → (cond b (cellOf (word k) k) (lastCell word k key) ≡ 0 → ⊥)
+          → ((lastCell word k key ≡ 0 → ⊥) → (lastCell word k key % 64 < k) × (wordKey (word (lastCell word k key % 64)) ≡ key))
+          → (cond b (cellOf (word k) k) (lastCell word k key) % 64 < suc k) × (wordKey (word (cond b (cellOf (word k) k) (lastCell word k key) % 64)) ≡ key)
       go true p d rest =
           let o = cell-order (word k) (small k (omega arith)) k few in
           (omega (arith, o), rw o (eqb-true (wordKey (word k)) key p))
@@ -157,14 +157,14 @@ module _ (good : ℕ → Bool) (word : ℕ → ℕ) (range : (j : ℕ) → good 
   small-before : (i : ℕ) → i ≤ k → (j : ℕ) → j < i → Small (word j)
   small-before i h j l = range j (each-good j (omega arith))
 
-  found : (i : ℕ) → i ≤ k → (key : ℕ) → search (indexAfter word i) key ≡ standing word i key
-  found i h = found-standing word i (omega (arith, within)) (small-before i h) (λ j l. each-insertable j (omega arith))
+  found : (i : ℕ) → i ≤ k → (key : ℕ) → search (indexAfter word i) key ≡ lastCell word i key
+  found i h = found-last word i (omega (arith, within)) (small-before i h) (λ j l. each-insertable j (omega arith))
 
   -- A good word is insertable exactly if its pair was not seen.
   seen-is : (i : ℕ) → i ≤ k → good i ≡ true → seen (pair (word i)) (wordsOf word i) ≡ not (insertable (word i) (indexAfter word i))
   unfolding insertable
   seen-is i h g =
-      seen-standing word (word i) i (range i g) (omega (arith, within)) (small-before i h) ∙ rw (found i h (wordKey (word i))) refl
+      seen-last word (word i) i (range i g) (omega (arith, within)) (small-before i h) ∙ rw (found i h (wordKey (word i))) refl
 
   pub apart : (i : ℕ) → i ≤ k → distinct (wordsOf word i) ≡ true
   unfolding wordsOf distinct
@@ -172,7 +172,7 @@ module _ (good : ℕ → Bool) (word : ℕ → ℕ) (range : (j : ℕ) → good 
   apart (suc i) h =
       distinct-snoc (wordsOf word i) (word i) (apart i (omega arith)) (seen-is i (omega arith) (each-good i h) ∙ rw (each-insertable i h) refl)
 
-  -- The word at which it stops is not good, or its pair was seen.
+  -- The word after the prefix is not good, or its pair was seen.
   pub stopped : k < most → good k ≡ true → seen (pair (word k)) (wordsOf word k) ≡ true
   unfolding insertableAt
   stopped l g =
@@ -181,7 +181,7 @@ module _ (good : ℕ → Bool) (word : ℕ → ℕ) (range : (j : ℕ) → good 
       let f : insertable (word k) (indexAfter word k) ≡ false = ap (λ (b : Bool). b && insertable (word k) (indexAfter word k)) (sym g) ∙ e in
       seen-is k (omega arith) g ∙ rw f refl
 
-  new-before : (j : ℕ) → j < k → standing word j (wordKey (word j)) ≡ 0
+  new-before : (j : ℕ) → j < k → lastCell word j (wordKey (word j)) ≡ 0
   unfolding insertable
   new-before j l = sym (found j (omega arith) (wordKey (word j))) ∙ eqb-true (search (indexAfter word j) (wordKey (word j))) 0 (each-insertable j l)
 
@@ -192,7 +192,7 @@ module _ (good : ℕ → Bool) (word : ℕ → ℕ) (range : (j : ℕ) → good 
       go : (n t : ℕ) (b : Bool) → ltb t 65536 ≡ b → meaningIn (cond b (search (indexAfter word k) (keyOf n t)) 0) ≡ find (map entry (wordsOf word k)) n t
       go n t true e =
           ap meaningIn (found k (omega arith) (keyOf n t))
-          ∙ find-standing word n t (ltb-true t 65536 e) k (small-before k (omega arith)) (omega (arith, within)) new-before
+          ∙ find-last word n t (ltb-true t 65536 e) k (small-before k (omega arith)) (omega (arith, within)) new-before
       go n t false e = none ∙ sym (find-large (wordsOf word k) n t (ltb-false t 65536 e))
 
   -- The cell of a number and a tag has the order of the word whose entry is for them.
@@ -206,8 +206,8 @@ module _ (good : ℕ → Bool) (word : ℕ → ℕ) (range : (j : ℕ) → good 
       go : (b : Bool) → ltb t 65536 ≡ b → (cond b (search (indexAfter word k) (keyOf n t)) 0 ≡ 0 → ⊥) → Ordered n t (cond b (search (indexAfter word k) (keyOf n t)) 0)
       go true e d =
           let f = found k (omega arith) (keyOf n t) in
-          let c = standing word k (keyOf n t) in
-          let o = standing-order word k (keyOf n t) (small-before k (omega arith)) (omega (arith, within)) (λ z. d (f ∙ z)) in
+          let c = lastCell word k (keyOf n t) in
+          let o = last-order word k (keyOf n t) (small-before k (omega arith)) (omega (arith, within)) (λ z. d (f ∙ z)) in
           let s = small-before k (omega arith) (c % 64) (o .0) in
           rw f (o .0, sym (key-fits (word (c % 64)) s n t (ltb-true t 65536 e)) ∙ eq-eqb (wordKey (word (c % 64))) (keyOf n t) (o .1))
       go false e d = absurd (d refl)

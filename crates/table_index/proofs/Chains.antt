@@ -1,4 +1,4 @@
--- Searching a chain, cell by cell.
+-- Laws of searching a chain cell by cell.
 use Prim.Native.Nat.{ℕ, zero, suc, _+_, _*_, _/_, _%_, _≤_, _<_, min}
 use native.Mathlib.Omega.{arith}
 use mathlib.Core.Path.{_≡_, refl, sym, _∙_}
@@ -49,7 +49,7 @@ module _ (cells : List ℕ) (key : ℕ) where
       unfolding chase
       chase-on h = rw (ne-eqb (c / 2048) key other, lt-ltb (next c % 64) (c % 64) h) refl
 
-  -- One cell more changes nothing where there is room for the order of the first.
+  -- More fuel changes nothing if the fuel exceeds the order of the first cell.
   pub chase-more : (fuel c : ℕ) → c % 64 < fuel → chase fuel cells key c ≡ chase (suc fuel) cells key c
   unfolding chase
   chase-more zero c h = absurd (omega arith)
@@ -85,7 +85,7 @@ module _ (cells : List ℕ) (c n : ℕ) (e : n ≡ getD cells (64 + c % 64) 0) w
   unfolding nextIn
   next-on h = rw (← e, lt-ltb (n % 64) (c % 64) h) refl
 
--- A chain ends, or its order falls: twice the order, and one for a cell that is not 0, falls at each step.
+-- The measure of the loops over a chain: twice the order, and one more for a cell that is not 0, falls in each iteration.
 pub next-less : (cells : List ℕ) (c n : ℕ) → n ≡ nextIn cells c → (c ≡ 0 → ⊥) → n % 64 * 2 + min n 1 < c % 64 * 2 + min c 1
 unfolding nextIn
 next-less cells c n e d = go (ltb (getD cells (64 + c % 64) 0 % 64) (c % 64)) refl e

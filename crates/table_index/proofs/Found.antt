@@ -31,7 +31,7 @@ module _ (cells : List ℕ) (n bucket old new : ℕ) (head : bucket < 64) where
   head-kept h l d =
       getD-set-other (set cells (64 + n) old) bucket h new 0 d ∙ getD-set-other cells (64 + n) h old 0 (λ e. omega arith)
 
-  -- A chain of older cells is as it was.
+  -- A chain of older cells is unchanged.
   chase-kept : (key fuel c : ℕ) → Older n c → chase fuel After key c ≡ chase fuel cells key c
   unfolding chase
   chase-kept key zero c low = refl
@@ -93,7 +93,7 @@ module _ (w n : ℕ) (s : Small w) (few : n < 64) (cells : List ℕ) (long : len
     not-here : cellOf w n / 2048 ≡ key → ⊥
     not-here e = other (sym (cell-key w s n few) ∙ e)
 
-    -- Behind the new head stands the old one.
+    -- Behind the new head comes the old one.
     past-head : (t : Bool) → eqb Old 0 ≡ t → chase 64 With key (cellOf w n) ≡ chase 64 cells key Old
     past-head true e = go (ltb 0 n) refl ∙ sym (rw (eqb-true Old 0 e) (chase-zero cells key 64))
       where
@@ -123,34 +123,34 @@ module _ (w n : ℕ) (s : Small w) (few : n < 64) (cells : List ℕ) (long : len
 
 -- ---- all words
 
--- The cell of the last of the first k words with a key; 0 where there is none.
-unfoldable pub standing : (ℕ → ℕ) → ℕ → ℕ → ℕ
-standing word zero key = 0
-standing word (suc k) key = cond (eqb (wordKey (word k)) key) (cellOf (word k) k) (standing word k key)
+-- The cell of the last of the first k words with a key; 0 if there is none.
+unfoldable pub lastCell : (ℕ → ℕ) → ℕ → ℕ → ℕ
+lastCell word zero key = 0
+lastCell word (suc k) key = cond (eqb (wordKey (word k)) key) (cellOf (word k) k) (lastCell word k key)
 
 -- The cells after inserting the first k words into cleared cells.
 abbrev pub indexAfter : (ℕ → ℕ) → ℕ → List ℕ
 indexAfter word k = insertedBefore word (replicate 128 0) k
 
-record Stands (word : ℕ → ℕ) (k : ℕ) (cells : List ℕ) : Type 0 where
+record Searches (word : ℕ → ℕ) (k : ℕ) (cells : List ℕ) : Type 0 where
   pub long : length cells ≡ 128
   pub low : (h : ℕ) → h < 64 → Older k (getD cells h 0)
-  pub found : (key : ℕ) → search cells key ≡ standing word k key
+  pub found : (key : ℕ) → search cells key ≡ lastCell word k key
 
 module _ (word : ℕ → ℕ) where
-  stands-none : Stands word 0 (replicate 128 0)
-  unfolding standing
-  stands-none =
+  searches-none : Searches word 0 (replicate 128 0)
+  unfolding lastCell
+  searches-none =
       record {
         long = length-replicate {A = ℕ} 128 0;
         low = λ h l d. absurd (d (getD-replicate 128 h 0 0 (omega arith)));
         found = λ key. search-empty (replicate 128 0) key (getD-replicate 128 (key % 64) 0 0 (omega arith));
       }
 
-  stands-more : (k : ℕ) (cells : List ℕ) → k < 64 → Small (word k) → insertable (word k) cells ≡ true → Stands word k cells → Stands word (suc k) (inserted (word k) k cells)
-  unfolding inserted linked standing
-  stands-more k cells few s new st =
-      subst (λ (t : Bool). Stands word (suc k) (cond t (With (word k) k s few cells (st .long) (st .low)) cells)) (sym new)
+  searches-more : (k : ℕ) (cells : List ℕ) → k < 64 → Small (word k) → insertable (word k) cells ≡ true → Searches word k cells → Searches word (suc k) (inserted (word k) k cells)
+  unfolding inserted linked lastCell
+  searches-more k cells few s new st =
+      subst (λ (t : Bool). Searches word (suc k) (cond t (With (word k) k s few cells (st .long) (st .low)) cells)) (sym new)
       record {
         long = long-with (word k) k s few cells (st .long) (st .low);
         low = low-with (word k) k s few cells (st .long) (st .low);
@@ -158,16 +158,16 @@ module _ (word : ℕ → ℕ) where
       }
     where
       go : (key : ℕ) (t : Bool) → eqb (wordKey (word k)) key ≡ t
-          → search (With (word k) k s few cells (st .long) (st .low)) key ≡ cond t (cellOf (word k) k) (standing word k key)
+          → search (With (word k) k s few cells (st .long) (st .low)) key ≡ cond t (cellOf (word k) k) (lastCell word k key)
       go key true e = rw (← eqb-true (wordKey (word k)) key e) (found-own (word k) k s few cells (st .long) (st .low))
       go key false e = found-other (word k) k s few cells (st .long) (st .low) key (eqb-false (wordKey (word k)) key e) ∙ st .found key
 
-  stands : (k : ℕ) → k ≤ 64 → ((j : ℕ) → j < k → Small (word j)) → ((j : ℕ) → j < k → insertable (word j) (indexAfter word j) ≡ true) → Stands word k (indexAfter word k)
+  searches : (k : ℕ) → k ≤ 64 → ((j : ℕ) → j < k → Small (word j)) → ((j : ℕ) → j < k → insertable (word j) (indexAfter word j) ≡ true) → Searches word k (indexAfter word k)
   unfolding insertedBefore
-  stands zero few small new = stands-none
-  stands (suc k) few small new =
-      stands-more k (indexAfter word k) few (small k (omega arith)) (new k (omega arith)) (stands k (omega arith) (λ j l. small j (omega arith)) (λ j l. new j (omega arith)))
+  searches zero few small new = searches-none
+  searches (suc k) few small new =
+      searches-more k (indexAfter word k) few (small k (omega arith)) (new k (omega arith)) (searches k (omega arith) (λ j l. small j (omega arith)) (λ j l. new j (omega arith)))
 
-  pub found-standing : (k : ℕ) → k ≤ 64 → ((j : ℕ) → j < k → Small (word j)) → ((j : ℕ) → j < k → insertable (word j) (indexAfter word j) ≡ true)
-      → (key : ℕ) → search (indexAfter word k) key ≡ standing word k key
-  found-standing k few small new = stands k few small new .found
+  pub found-last : (k : ℕ) → k ≤ 64 → ((j : ℕ) → j < k → Small (word j)) → ((j : ℕ) → j < k → insertable (word j) (indexAfter word j) ≡ true)
+      → (key : ℕ) → search (indexAfter word k) key ≡ lastCell word k key
+  found-last k few small new = searches k few small new .found

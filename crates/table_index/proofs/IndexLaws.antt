@@ -82,7 +82,7 @@ unfolding allInRange
 all-range [] h = refl
 all-range (w ∷ ws) h = and-both (inRange (entry w)) (allInRange ws) (h 0 (omega arith)) (all-range ws (λ j l. h (suc j) (omega arith)))
 
--- A pair that was seen before stands twice.
+-- Words with a pair that was seen before are not distinct.
 distinct-not : (ws : List ℕ) (k : ℕ) → k < length ws → seen (pair (getD ws k 0)) (take k ws) ≡ true → distinct ws ≡ false
 unfolding distinct seen
 distinct-not [] k h e = absurd (omega arith)

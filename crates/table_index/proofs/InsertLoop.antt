@@ -82,15 +82,15 @@ module _ (good : ℕ → Bool) (word : ℕ → ℕ) (cells₀ : List ℕ) (most 
       unfolding insertableAt
       insert-loop-bad e = (stops (rw e refl), k .so-far)
 
-      module _ (w : ℕ) (after : List ℕ) (result : Bool) (here : w ≡ word n) (answer : result ≡ insertable w cells) (stored : after ≡ inserted w n cells) where
+      module _ (w : ℕ) (after : List ℕ) (result : Bool) (here : w ≡ word n) (tested : result ≡ insertable w cells) (stored : after ≡ inserted w n cells) where
         result-is : result ≡ insertable (word n) (insertedBefore word cells₀ n)
-        result-is = answer ∙ rw (here, k .so-far) refl
+        result-is = tested ∙ rw (here, k .so-far) refl
 
         pub insert-loop-repeated : result ≡ false → Ends after
         unfolding insertableAt inserted
         insert-loop-repeated h =
             let f : insertable (word n) (insertedBefore word cells₀ n) ≡ false = sym result-is ∙ h in
-            let g : insertable w cells ≡ false = sym answer ∙ h in
+            let g : insertable w cells ≡ false = sym tested ∙ h in
             (stops (rw f (and-false (good n))), stored ∙ rw g (k .so-far))
 
         pub insert-loop-continues : good n ≡ true → result ≡ true → InsertLoop good word cells₀ most (n + 1) after

@@ -1,4 +1,4 @@
--- The cell of a number and a tag, and what a cell means.
+-- The cell of a number and a tag, and the kind in a cell.
 use Prim.Native.Nat.{ℕ, _+_, _-_, _≤_, _<_}
 use native.Mathlib.Omega.{arith}
 use mathlib.Core.Path.{_≡_, refl, _∙_}
@@ -43,7 +43,7 @@ module _ (c : ℕ) where
       )
       refl
 
--- No entry is a raw one.
+-- The kind in the cell 0 is raw.
 pub none : meaningIn 0 ≡ Raw
 unfolding meaningIn codeIn meaningOf
 none = refl

@@ -1,4 +1,4 @@
--- When the entry in a word is in range, by the numbers that the function compares.
+-- The entry in a word is in range exactly if the function's comparisons say so.
 use Prim.Native.Nat.{ℕ, _/_, _%_, _≤_, _<_}
 use native.Mathlib.Omega.{arith}
 use mathlib.Core.Path.{_≡_, refl, sym}

@@ -1,4 +1,4 @@
--- A record's octets, one by one.
+-- Laws of a record by its octets.
 use Prim.Native.Nat.{ℕ, suc, _+_, _*_, _/_, _≤_, _<_}
 use native.Mathlib.Nat.{mul-comm}
 use native.Mathlib.Numerals.{add-one}
@@ -18,7 +18,7 @@ use Rattle.table_index.specs.internal.Record.{recordOf}
 use Rattle.table_index.specs.declared.record.Record.{Record}
 use Rattle.table_index.specs.declared.record.Record.the-variants.{Word, Wrong}
 
--- A part of a list that has more than nothing begins with the element there.
+-- A slice that is not empty begins with the element at its offset.
 next : (s : List ℕ) (k at after : ℕ) → at < length s → at + 1 ≡ after → take (suc k) (drop at s) ≡ getD s at 0 ∷ take k (drop after s)
 next s k at after h e = rw (drop-cons s at 0 h, ← e, add-one at) refl
 
@@ -38,7 +38,7 @@ five-octets s at h =
     )
     (omega arith)
 
--- The same of octets that were read one by one.
+-- The same for octets that were read one by one.
 pub five-read : (s : List ℕ) (at a b c d e : ℕ) → at + 5 ≤ length s → a ≡ getD s at 0 → b ≡ getD s (at + 1) 0 → c ≡ getD s (at + 2) 0
     → d ≡ getD s (at + 3) 0 → e ≡ getD s (at + 4) 0 → (((a * 256 + b) * 256 + c) * 256 + d) * 256 + e ≡ bigEndian (take 5 (drop at s))
 five-read s at a b c d e h p q r t u = rw (p, q, r, t, u) (five-octets s at h)
@@ -46,13 +46,13 @@ five-read s at a b c d e h p q r t u = rw (p, q, r, t, u) (five-octets s at h)
 -- ---- a record
 
 -- A record by its first three octets and the five after them.
-unfoldable answer : Bool → ℕ → Record
-answer t w = cond t (Word w) Wrong
+unfoldable wordOrWrong : Bool → ℕ → Record
+wordOrWrong t w = cond t (Word w) Wrong
 
 module _ (s : List ℕ) (at : ℕ) (whole : at + 8 ≤ length s) where
   record-is : recordOf (take 8 (drop at s))
-      ≡ answer (eqb (getD s at 0) 1 && eqb (getD s (at + 1) 0 * 256 + getD s (at + 2) 0) 5 && inRange (entry (bigEndian (take 5 (drop (at + 3) s))))) (bigEndian (take 5 (drop (at + 3) s)))
-  unfolding recordOf wellFormed bigEndian answer
+      ≡ wordOrWrong (eqb (getD s at 0) 1 && eqb (getD s (at + 1) 0 * 256 + getD s (at + 2) 0) 5 && inRange (entry (bigEndian (take 5 (drop (at + 3) s))))) (bigEndian (take 5 (drop (at + 3) s)))
+  unfolding recordOf wellFormed bigEndian wordOrWrong
   record-is =
       let e : length (take 5 (drop (at + 3) s)) ≡ 5 = simp (length-take, length-drop) (omega arith) in
       rw (
@@ -65,11 +65,11 @@ module _ (s : List ℕ) (at : ℕ) (whole : at + 8 ≤ length s) where
       rw q refl)
 
   pub wrong-tag : (getD s at 0 ≡ 1 → ⊥) → Wrong ≡ recordOf (take 8 (drop at s))
-  unfolding answer
+  unfolding wordOrWrong
   wrong-tag d = rw (record-is, ne-eqb (getD s at 0) 1 d) refl
 
   wrong-length : (getD s (at + 1) 0 * 256 + getD s (at + 2) 0 ≡ 5 → ⊥) → Wrong ≡ recordOf (take 8 (drop at s))
-  unfolding answer
+  unfolding wordOrWrong
   wrong-length d = rw (record-is, ne-eqb (getD s (at + 1) 0 * 256 + getD s (at + 2) 0) 5 d) (go (eqb (getD s at 0) 1))
     where
       go : (a : Bool) → Wrong ≡ cond (a && false && inRange (entry (bigEndian (take 5 (drop (at + 3) s))))) (Word (bigEndian (take 5 (drop (at + 3) s)))) Wrong
@@ -83,22 +83,22 @@ module _ (s : List ℕ) (at : ℕ) (whole : at + 8 ≤ length s) where
   wrong-low h d = wrong-length (λ e. d (omega arith))
 
   module _ (w : ℕ) (tag : getD s at 0 ≡ 1) (high : getD s (at + 1) 0 ≡ 0) (low : getD s (at + 2) 0 ≡ 5) (word : w ≡ bigEndian (take 5 (drop (at + 3) s))) where
-    formed-is : recordOf (take 8 (drop at s)) ≡ answer (inRange (entry w)) w
+    formed-is : recordOf (take 8 (drop at s)) ≡ wordOrWrong (inRange (entry w)) w
     formed-is =
         let five : getD s (at + 1) 0 * 256 + getD s (at + 2) 0 ≡ 5 = omega arith in
         rw (record-is, five, tag, word) refl
 
     pub right : true ≡ inRange (entry w) → Word w ≡ recordOf (take 8 (drop at s))
-    unfolding answer
+    unfolding wordOrWrong
     right e = rw (formed-is, ← e) refl
 
     pub wrong-range : false ≡ inRange (entry w) → Wrong ≡ recordOf (take 8 (drop at s))
-    unfolding answer
+    unfolding wordOrWrong
     wrong-range e = rw (formed-is, ← e) refl
 
--- ---- what an answer says of a record
+-- ---- what a result says of a record
 
--- The octets of the record n, by the place that a function counts.
+-- The octets of the record n, by its offset n * 8.
 pub place-is : (s : List ℕ) (n : ℕ) → take 8 (drop (n * 8) s) ≡ recordAt s n
 unfolding recordAt
 place-is s n = rw (mul-comm n 8) refl
@@ -119,7 +119,7 @@ recordOf-wrong r e = go (wellFormed r) e
     go true q = let z : _≡_ {A = ℕ} 0 1 = cc in absurd (omega arith)
     go false q = refl
 
--- There is no record of the right form after the whole ones.
+-- After the last complete record no record is well-formed.
 pub record-cut : (s : List ℕ) (n : ℕ) → length s / 8 ≤ n → wellFormed (recordAt s n) ≡ false
 record-cut s n h = go (wellFormed (recordAt s n)) refl
   where

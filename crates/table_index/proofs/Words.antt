@@ -40,7 +40,7 @@ small w h =
 
 -- ---- the cell
 
--- The meaning of a kind and an inner number.
+-- The kind with a number and an inner number.
 abbrev kinded : ℕ → ℕ → Meaning
 kinded k i = cond (eqb k 1) Uint (cond (eqb k 2) Int (cond (eqb k 3) String (cond (eqb k 4) Text (cond (eqb k 5) (Message i) Raw))))
 
@@ -116,7 +116,7 @@ module _ (w : ℕ) (s : Small w) where
           d (omega (arith, key-is w s, k, e), omega (arith, key-is w s, k, e))
       go false p e = omega (arith, key-low, keys-large n (ltb-false n 16 p), e)
 
-  -- A word has the key of a number and a tag exactly where its entry is for them.
+  -- A word has the key of a number and a tag exactly if its entry is for them.
   pub key-fits : (n t : ℕ) → t < 65536 → eqb (wordKey w) (keyOf n t) ≡ eqb (entry w .number) n && eqb (entry w .tag) t
   unfolding entry wordKey
   key-fits n t h = go (eqb (w / 4294967296) n) refl (eqb (w / 65536 % 65536) t) refl
@@ -127,7 +127,7 @@ module _ (w : ℕ) (s : Small w) where
       go true p false q = key-other n t h (λ e. eqb-false (w / 65536 % 65536) t q (e .1))
       go false p b q = key-other n t h (λ e. eqb-false (w / 4294967296) n p (e .0))
 
-  -- Two words have one key exactly where they have one pair.
+  -- Two words have the same key exactly if they have the same pair.
   pub key-pair : (x : ℕ) → Small x → eqb (wordKey x) (wordKey w) ≡ eqb (pair x) (pair w)
   unfolding pair
   key-pair x r = go (eqb (wordKey x) (wordKey w)) refl

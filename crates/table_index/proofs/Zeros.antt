@@ -1,4 +1,4 @@
--- Words that are all 0, as a loop over them tells by their bits.
+-- The loop invariant of testing whether words are all 0, by the disjunction of their bits.
 use Prim.Native.Nat.{ℕ, suc, _+_, _≤_, _<_}
 use native.Mathlib.Numerals.{add-one}
 use native.Mathlib.Omega.{arith}
