@@ -2,4 +2,4 @@ pub mod Coded
 pub mod Fields
 pub mod Heads
 pub mod Nexts
-pub mod Passing
+pub mod FieldsByHead

@@ -67,11 +67,11 @@ module _ (code : ℕ) (s : List ℕ) (a e : ℕ) (h : (a ≤ e) × (e ≤ length
 -- ---- a field whose control part is known
 
 module _ (i size : ℕ) (b : List ℕ) where
-  chosen : (t : Bool) (number : ℕ)
-      → nextAt (i + size) (cond t (steps.Over 0 (length b)) (steps.Fault number)) ≡ nextAt i (cond t (steps.Over size (length b)) (steps.Fault number))
+  chosen : (t : Bool) (reason : ℕ)
+      → nextAt (i + size) (cond t (steps.Over 0 (length b)) (steps.Fault reason)) ≡ nextAt i (cond t (steps.Over size (length b)) (steps.Fault reason))
   unfolding nextAt
-  chosen true number = rw (add-zero (i + size))
-  chosen false number = refl
+  chosen true reason = rw (add-zero (i + size))
+  chosen false reason = refl
 
   -- Offsets counted from the contents, and from the control part.
   shifted : (m : Meaning) → nextAt (i + size) (stepByKind m 0 b) ≡ nextAt i (stepByKind m size b)
@@ -97,12 +97,12 @@ module _ (s : List ℕ) (i tag len size : ℕ) (e : control (drop i s) ≡ Whole
   pub start-inside : i + size ≤ length s
   start-inside = let d = length-drop i s in let h = control-size (drop i s) tag len size e in let p = h .0 in let q = h .1 in omega arith
 
-  left-is : length (drop i s) - size ≡ length s - (i + size)
-  left-is = let d = length-drop i s in omega arith
+  remaining-is : length (drop i s) - size ≡ length s - (i + size)
+  remaining-is = let d = length-drop i s in omega arith
 
   pub past-at : (sc : Schema) (n : ℕ) → length s - (i + size) < len → Fault 4 ≡ nextAt i (step sc n (drop i s))
   unfolding nextAt
-  past-at sc n h = ap (nextAt i) (past-end sc n (drop i s) tag len size e (rw left-is h))
+  past-at sc n h = ap (nextAt i) (past-end sc n (drop i s) tag len size e (rw remaining-is h))
 
   pub field-at : (sc : Schema) (n : ℕ) → len ≤ length s - (i + size)
       → nextAt (i + size) (stepByKind (sc .means n tag) 0 (take (i + size + len - (i + size)) (drop (i + size) s))) ≡ nextAt i (step sc n (drop i s))
@@ -112,7 +112,7 @@ module _ (s : List ℕ) (i tag len size : ℕ) (e : control (drop i s) ≡ Whole
       let p : take (i + size + len - (i + size)) (drop (i + size) s) ≡ b = rw (k, drop-drop size i s) in
       ap (λ (x : List ℕ). nextAt (i + size) (stepByKind (sc .means n tag) 0 x)) p
       ∙ shifted i size b (sc .means n tag)
-      ∙ ap (nextAt i) (whole-field sc n (drop i s) tag len size e (rw left-is h))
+      ∙ ap (nextAt i) (whole-field sc n (drop i s) tag len size e (rw remaining-is h))
 
 -- ---- a field whose control part is one octet
 
@@ -223,14 +223,14 @@ pub record IntoFrom (i m a e : ℕ) (x : Step) : Type 0 where
 
 unfoldable pub NextFrom : ℕ → Step → Next → Type 0
 NextFrom i x Done = x ≡ steps.Done
-NextFrom i x (Fault number) = x ≡ steps.Fault number
+NextFrom i x (Fault reason) = x ≡ steps.Fault reason
 NextFrom i x (Over e) = OverFrom i e x
 NextFrom i x (Into m a e) = IntoFrom i m a e x
 
 next-from : (i : ℕ) (x : Step) → NextFrom i x (nextAt i x)
 unfolding nextAt NextFrom
 next-from i steps.Done = refl
-next-from i (steps.Fault number) = refl
+next-from i (steps.Fault reason) = refl
 next-from i (steps.Over k l) = record { size = k; len = l; is = refl; end-is = refl }
 next-from i (steps.Into m k l) = record { size = k; len = l; is = refl; start-is = refl; end-is = refl }
 

@@ -1,4 +1,4 @@
-// The field at an offset of a message: its head, and a step over it or into it.
+// Reads the field at an offset of a message: its head, or the step over it or into it.
 use octets::Control;
 ghost use mathlib.Core.Path.{_≡_};
 ghost use Prim.Native.Nat.{_-_, _≤_};
@@ -8,16 +8,16 @@ ghost use Rattle.hproto_field.specs.internal.Heads.{headAt};
 ghost use Rattle.hproto_field.specs.internal.Nexts.{nextAt, smallCode};
 ghost use Rattle.table_index.specs.internal.Cells.{meaningOf, indexed};
 
-// The field at an offset of a message: its tag and where its contents start and end. Or there is none: the message ends there, or the
-// number of the refusal.
+// The head of a field: its tag and the span of its contents. Or there is no field: the message ends there, or it has a fault with this
+// refusal.
 pub enum Head {
     End,
     Fault(u64),
     Field { tag: u64, start: usize, end: usize },
 }
 
-// What stands at an offset of a message, by offsets in the message: the end; a fault; a field without a message in it, by its end; a field
-// that is a message, by its number and where its contents start and end.
+// What a message has at an offset: its end; a fault with a refusal; a field that is no message, with the offset after it; a field that is a
+// message, with its message number and the span of its contents.
 pub enum Next {
     Done,
     Fault(u64),
@@ -25,8 +25,8 @@ pub enum Next {
     Into(u64, usize, usize),
 }
 
-// A field whose octets are all there, by the code of what its tag means and where its contents start and end. Tests of the code take less
-// time than a match on the kind, which becomes a jump through a table.
+// The step at a whole field, by the code of its tag's kind and the span of its contents. Comparing the code takes less time than a match on
+// the kind, which the compiler makes a jump table.
 fn by_code(code: u64, s: &[u8], a: usize, e: usize) -> Next
     requires { ⌜ (a ≤ e) × (e ≤ length (now s)) ⌝ }
     ensures { λ r. ⌜ r ≡ nextAt a (stepByKind (meaningOf code) 0 (take (e - a) (drop a (now (s .entry))))) ⌝ }
@@ -38,29 +38,29 @@ fn by_code(code: u64, s: &[u8], a: usize, e: usize) -> Next
         if octets_text::text(&s[a..e]) {
             return Next::Over(e);
         }
-        return Next::Fault(7);
+        return Next::Fault(reading::TEXT);
     }
     if 8 < e - a {
         if code == 1 || code == 2 {
-            return Next::Fault(6);
+            return Next::Fault(reading::NUMBER_TOO_WIDE);
         }
     }
     Next::Over(e)
 }
 
-// The field at an offset in a message of a number, under the index of a table. The announced length is compared with what is left after the
-// control part.
+// The step at an offset of a message, under the index of a table. It compares the announced length with the count of octets after the
+// control part, because adding a place to that length could overflow.
 pub fn step(cells: &[u32; 128], number: u64, s: &[u8], i: usize) -> Next
     ensures { λ r. ⌜ r ≡ nextAt i (step-of (indexed (now (cells .entry))) number (drop i (now (s .entry)))) ⌝ }
 {
     match octets_read::control_at(s, i) {
         Control::Absent => Next::Done,
-        Control::Partial => Next::Fault(3),
+        Control::Partial => Next::Fault(reading::CUT),
         Control::Whole { tag, length, size } => {
             let start = i + (size as usize);
-            let left = (s.len() - start) as u64;
-            if left < length {
-                return Next::Fault(4);
+            let remaining = (s.len() - start) as u64;
+            if remaining < length {
+                return Next::Fault(reading::PAST_THE_END);
             }
             let end = start + (length as usize);
             let cell = table_index::cell(cells, number, tag);
@@ -69,7 +69,7 @@ pub fn step(cells: &[u32; 128], number: u64, s: &[u8], i: usize) -> Next
     }
 }
 
-// The code of what the tag at an offset means, if its control part is one octet and its contents lie within the octets; else 32.
+// The code of the kind of the field at an offset, if its control part is one octet and its contents end within the message; else 32.
 fn small_code(cells: &[u32; 128], number: u64, s: &[u8], i: usize) -> u64
     ensures { λ r. ⌜ r ≡ smallCode (now (cells .entry)) number (now (s .entry)) i ⌝ }
 {
@@ -84,8 +84,9 @@ fn small_code(cells: &[u32; 128], number: u64, s: &[u8], i: usize) -> u64
     table_index::code(table_index::cell(cells, number, (c >> 4) as u64))
 }
 
-// The end of the field at an offset, if its control part is one octet, its contents lie within the octets and are allowed, and it is no
-// message. Else 0, and `step` says what stands there. Most fields are such. A check by steps alone took a quarter more time.
+// Returns the end of the field at an offset, if its control part is one octet, its contents are allowed and end within the message, and it
+// is no message. Most fields are such. Else it returns 0, and the caller calls `step`. A check that calls `step` alone takes a quarter more
+// time.
 pub fn quick(cells: &[u32; 128], number: u64, s: &[u8], i: usize) -> usize
     ensures { λ r. ⌜ (1 ≤ r → Next.Over r ≡ nextAt i (step-of (indexed (now (cells .entry))) number (drop i (now (s .entry))))) ⌝ }
 {
@@ -108,8 +109,9 @@ pub fn quick(cells: &[u32; 128], number: u64, s: &[u8], i: usize) -> usize
     0
 }
 
-// The field at the offset i of the message that ends at the offset `end` of s, its contents unread. `step` reads the control part itself:
-// this function has other callers, so the compiler would not inline it into the check, which then takes up to 1.6 times as long.
+// Returns the head of the field at the offset i of the message that ends at the offset `end` of s. `step` does not call this function but
+// reads the control part itself: this function has other callers, so the compiler does not inline it, and the check then takes up to 1.6
+// times as long.
 pub fn head_at(s: &[u8], i: usize, end: usize) -> Head
     ensures { λ r. ⌜ r ≡ headAt i (drop i (take end (now (s .entry)))) ⌝ }
 {
@@ -119,12 +121,12 @@ pub fn head_at(s: &[u8], i: usize, end: usize) -> Head
     }
     match octets_read::control(&s[i..stop]) {
         Control::Absent => Head::End,
-        Control::Partial => Head::Fault(3),
+        Control::Partial => Head::Fault(reading::CUT),
         Control::Whole { tag, length, size } => {
             let start = i + (size as usize);
             let rest = (stop - start) as u64;
             if rest < length {
-                return Head::Fault(4);
+                return Head::Fault(reading::PAST_THE_END);
             }
             Head::Field {
                 tag,

@@ -18,7 +18,7 @@ use Rattle.octets.specs.NoShorter.{NoShorter}
 use Rattle.hproto_frame.specs.declared.FrameRead.{FrameRead}
 use Rattle.hproto_frame.specs.Frame.{frameCode, readRefused, readAccepted, announced, prefixed, frontRead, frameRead, shortestPrefix}
 use Rattle.hproto_frame.proofs.Prefixes.{frame-rising}
-use Rattle.hproto_frame.proofs.Reading.{read-whole}
+use Rattle.hproto_frame.proofs.FrameReadAnswers.{read-whole}
 use Rattle.hproto_frame.specs.WholeFrame.{WholeFrame}
 
 -- A prefix of any form is read.

@@ -1,6 +1,6 @@
 pub mod Prefixes
-pub mod Reading
-pub mod Writing
+pub mod FrameReadAnswers
+pub mod FrameWriteAnswers
 pub mod Accepted
 pub mod ReadBack
 pub mod Samples

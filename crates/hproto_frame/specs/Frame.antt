@@ -6,6 +6,7 @@ use lib.ListN.{length, take, drop}
 use lib.Dec.{ltb}
 use Rattle.octets.specs.ControlPart.{Code}
 use Rattle.octets.specs.Control.{following, coded, leastCode}
+use Rattle.reading.specs.Refusals as refusals
 use Rattle.reading.specs.Reading.{messageLimit}
 use Rattle.hproto_store.specs.Store.{stored}
 use Rattle.hproto_frame.specs.declared.FrameRead.{FrameRead}
@@ -21,30 +22,30 @@ bufferLimit = 65545
 
 -- Every refusal is at place 0, with no other value.
 abbrev pub readRefused : ℕ → FrameRead
-readRefused n = record { refusal = n; place = 0; start = 0; end = 0 }
+readRefused reason = record { refusal = reason; place = 0; start = 0; end = 0 }
 
 abbrev pub readAccepted : ℕ → ℕ → FrameRead
 readAccepted from to = record { refusal = 0; place = 0; start = from; end = to }
 
--- The reader's answer for a whole prefix of n octets that announces a size, with `left` octets after it.
+-- The reader's answer for a whole prefix of n octets that announces a size, with `remaining` octets after it.
 unfoldable pub announced : ℕ → ℕ → ℕ → FrameRead
-announced n size left =
-    cond (ltb messageLimit size) (readRefused 1)
-    (cond (ltb left size) (readRefused 4) (readAccepted n (n + size)))
+announced n size remaining =
+    cond (ltb messageLimit size) (readRefused refusals.tooLong)
+    (cond (ltb remaining size) (readRefused refusals.pastTheEnd) (readAccepted n (n + size)))
 
 -- The reader's answer for a first octet x and the octets s after it.
 unfoldable pub prefixed : ℕ → List ℕ → FrameRead
 prefixed x s =
     let n = following frameCode x in
-    cond (ltb (length s) n) (readRefused 3) (announced (1 + n) (coded frameCode x (take n s)) (length s - n))
+    cond (ltb (length s) n) (readRefused refusals.cut) (announced (1 + n) (coded frameCode x (take n s)) (length s - n))
 
 unfoldable pub frontRead : List ℕ → FrameRead
-frontRead [] = readRefused 3
+frontRead [] = readRefused refusals.cut
 frontRead (x ∷ s) = prefixed x s
 
 -- The frame reader's answer for a buffer.
 unfoldable pub frameRead : List ℕ → FrameRead
-frameRead s = cond (ltb bufferLimit (length s)) (readRefused 1) (frontRead s)
+frameRead s = cond (ltb bufferLimit (length s)) (readRefused refusals.tooLong) (frontRead s)
 
 -- The message part of a buffer by the reader's answer: from `start` on, with `end` the place after it.
 unfoldable pub messagePart : List ℕ → FrameRead → List ℕ
@@ -59,13 +60,13 @@ unfoldable pub framed : List ℕ → List ℕ
 framed m = shortestPrefix (length m) ++ m
 
 abbrev pub writeRefused : ℕ → FrameWritten
-writeRefused n = record { refusal = n; place = 0; length = 0 }
+writeRefused reason = record { refusal = reason; place = 0; length = 0 }
 
 -- The frame writer's answer for a message and a buffer of `room` octets.
 unfoldable pub frameWritten : List ℕ → ℕ → FrameWritten
 frameWritten m room =
-    cond (ltb messageLimit (length m)) (writeRefused 1)
-    (cond (ltb room (length (framed m))) (writeRefused 9) (record { refusal = 0; place = 0; length = length (framed m) }))
+    cond (ltb messageLimit (length m)) (writeRefused refusals.tooLong)
+    (cond (ltb room (length (framed m))) (writeRefused refusals.noRoom) (record { refusal = 0; place = 0; length = length (framed m) }))
 
 -- The buffer afterwards: the frame at the front, where the message is within the limit and the frame fits.
 unfoldable pub frameStored : List ℕ → List ℕ → List ℕ

@@ -1,4 +1,4 @@
--- What a frame that was written reads back as.
+-- A frame that was written is read back as the same message.
 use Prim.Native.Nat.{ℕ}
 use mathlib.Core.Path.{_≡_}
 use mathlib.Core.List.{List}

@@ -1,4 +1,4 @@
-// Frames: reading the prefix of a framed message, and writing a message with its prefix.
+// Reads the prefix of a framed message, and writes a message with its prefix.
 ghost use mathlib.Core.Path.{_≡_};
 ghost use Prim.Native.Nat.{_≤_};
 ghost use lib.ListN.{length};
@@ -23,39 +23,29 @@ pub struct FrameWritten {
     pub length: u64,
 }
 
-// The refusals, by what is wrong. Two of them have one number: the buffer or the message is too long, or a prefix announces such a message.
-const TOO_LONG: u64 = 1;
-
-const ANNOUNCED_TOO_LONG: u64 = 1;
-
-const CUT: u64 = 3;
-
-const PAST_THE_END: u64 = 4;
-
-const NO_ROOM: u64 = 9;
-
-fn read_refused(n: u64) -> FrameRead
-    ensures { λ r. ⌜ r ≡ readRefused n ⌝ }
+// The answers for a rejected call.
+fn read_refused(reason: u64) -> FrameRead
+    ensures { λ r. ⌜ r ≡ readRefused reason ⌝ }
 {
     FrameRead {
-        refusal: n,
+        refusal: reason,
         place: 0,
         start: 0,
         end: 0,
     }
 }
 
-fn write_refused(n: u64) -> FrameWritten
-    ensures { λ r. ⌜ r ≡ writeRefused n ⌝ }
+fn write_refused(reason: u64) -> FrameWritten
+    ensures { λ r. ⌜ r ≡ writeRefused reason ⌝ }
 {
     FrameWritten {
-        refusal: n,
+        refusal: reason,
         place: 0,
         length: 0,
     }
 }
 
-// How many octets of the size follow the first octet of a prefix.
+// The count of octets of the size after the first octet of a prefix.
 fn size_width(x: u8) -> usize
     ensures { λ r. ⌜ r ≡ following frameCode x ⌝ }
     ensures { λ r. ⌜ r ≤ 8 ⌝ }
@@ -86,29 +76,29 @@ fn size(x: u8, s: &[u8]) -> u64
     octets_read::uint(s)
 }
 
-// The message part of the frame at the front of a buffer. A size of eight octets can be so large that no place can be added to it, so
-// it is compared with the octets behind the prefix.
+// Returns where the message of the frame at the front of a buffer starts and ends. A size of eight octets can be so large that adding a
+// place to it overflows, so it is compared with the count of octets after the prefix.
 pub fn frame_read(buffer: &[u8]) -> FrameRead
     ensures { λ r. ⌜ r ≡ frameRead (now (buffer .entry)) ⌝ }
 {
     if 65545 < buffer.len() {
-        return read_refused(TOO_LONG);
+        return read_refused(reading::TOO_LONG);
     }
     if buffer.len() == 0 {
-        return read_refused(CUT);
+        return read_refused(reading::CUT);
     }
     let x = buffer[0];
     let start = 1 + size_width(x);
     if buffer.len() < start {
-        return read_refused(CUT);
+        return read_refused(reading::CUT);
     }
-    let left = (buffer.len() - start) as u64;
+    let remaining = (buffer.len() - start) as u64;
     let n = size(x, &buffer[1..start]);
-    if 65536 < n {
-        return read_refused(ANNOUNCED_TOO_LONG);
+    if (reading::MESSAGE_LIMIT as u64) < n {
+        return read_refused(reading::TOO_LONG);
     }
-    if left < n {
-        return read_refused(PAST_THE_END);
+    if remaining < n {
+        return read_refused(reading::PAST_THE_END);
     }
     let end = start as u64 + n;
     FrameRead {
@@ -119,7 +109,7 @@ pub fn frame_read(buffer: &[u8]) -> FrameRead
     }
 }
 
-// The first octet of a prefix, and how many octets follow it.
+// The first octet of a prefix, and the count of octets after it.
 struct Lead {
     octet: u8,
     width: u64,
@@ -154,20 +144,20 @@ fn shortest_prefix(size: u64) -> Lead
     }
 }
 
-// Puts a frame of a message at the front of a buffer.
+// Writes a message with the shortest prefix to the front of a buffer.
 pub fn frame_write(message: &[u8], out: &mut [u8]) -> FrameWritten
     ensures { λ r. ⌜ r ≡ frameWritten (now (message .entry)) (length (now (out .entry))) ⌝ }
     ensures { λ _. ⌜ now (out .exit) ≡ frameStored (now (message .entry)) (now (out .entry)) ⌝ }
 {
     let size = message.len();
-    if 65536 < size {
-        return write_refused(TOO_LONG);
+    if reading::MESSAGE_LIMIT < size {
+        return write_refused(reading::TOO_LONG);
     }
     let lead = shortest_prefix(size as u64);
     let start = 1 + (lead.width as usize);
     let total = start + size;
     if out.len() < total {
-        return write_refused(NO_ROOM);
+        return write_refused(reading::NO_ROOM);
     }
     out[0] = lead.octet;
     hproto_put::put_number(out, 1, lead.width, size as u64);

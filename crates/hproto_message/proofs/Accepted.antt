@@ -52,7 +52,7 @@ module _ (sc : Schema) (levels : ℕ) (inner : Inner)
       → Good sc (suc levels) n s cut
   unfolding afterStep StepMeans onAccepted inOrder
   after-good n next later at s cut Done h e = subst (Good sc (suc levels) n s) (cc) (good-end sc levels n s h)
-  after-good n next later at s cut (Fault number) h e = let z : _≡_ {A = ℕ} 0 1 = cc in absurd (omega arith)
+  after-good n next later at s cut (Fault reason) h e = let z : _≡_ {A = ℕ} 0 1 = cc in absurd (omega arith)
   after-good n next later at s cut (Over k l) h e = go (next (at + k + l) (drop (k + l) s)) refl e
     where
       go : (r : Reading Cut) → next (at + k + l) (drop (k + l) s) ≡ r → onAccepted (leaf (tagAt s) (take k s) (take l (drop k s))) r ≡ accepted cut
@@ -61,7 +61,7 @@ module _ (sc : Schema) (levels : ℕ) (inner : Inner)
           subst (Good sc (suc levels) n s) (cc)
           (good-leaf sc levels n s (tagAt s) (take k s) (take l (drop k s)) (drop (k + l) s) rest (h .0) (sym (split-in-three k l s))
           (later (at + k + l) (drop (k + l) s) rest f))
-      go (refused number place) f g = let z : _≡_ {A = ℕ} 0 1 = cc in absurd (omega arith)
+      go (refused reason place) f g = let z : _≡_ {A = ℕ} 0 1 = cc in absurd (omega arith)
   after-good n next later at s cut (Into m k l) h e =
       go (inner m at (at + k) (take l (drop k s))) refl (next (at + k + l) (drop (k + l) s)) refl e
     where
@@ -71,8 +71,8 @@ module _ (sc : Schema) (levels : ℕ) (inner : Inner)
           subst (Good sc (suc levels) n s) (cc)
           (good-nested sc levels n s m (tagAt s) (take k s) (take l (drop k s)) (drop (k + l) s) i rest (h .0) (sym (split-in-three k l s))
           (below m at (at + k) (take l (drop k s)) i d) (later (at + k + l) (drop (k + l) s) rest f))
-      go (accepted i) d (refused number place) f g = let z : _≡_ {A = ℕ} 0 1 = cc in absurd (omega arith)
-      go (refused number place) d r f g = let z : _≡_ {A = ℕ} 0 1 = cc in absurd (omega arith)
+      go (accepted i) d (refused reason place) f g = let z : _≡_ {A = ℕ} 0 1 = cc in absurd (omega arith)
+      go (refused reason place) d r f g = let z : _≡_ {A = ℕ} 0 1 = cc in absurd (omega arith)
 
   fields-good : (n fuel at : ℕ) (s : List ℕ) (cut : Cut) → fieldsFrom sc inner n fuel at s ≡ accepted cut → Good sc (suc levels) n s cut
   unfolding fieldsFrom

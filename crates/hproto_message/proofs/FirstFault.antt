@@ -8,7 +8,7 @@ use Rattle.octets.specs.Number.{Octets}
 use Rattle.hproto_table.specs.Schema.{Schema}
 use Rattle.reading.specs.Reading.{refused, depthLimit}
 use Rattle.hproto_message.specs.Cut.{Cut, Good}
-use Rattle.hproto_message.specs.FirstFault.{Fault, faultNumber, faultPlace, FirstFault}
+use Rattle.hproto_message.specs.FirstFault.{Fault, faultRefusal, faultPlace, FirstFault}
 use Rattle.hproto_message.specs.Reading.{messageFrom, reading}
 use Rattle.hproto_message.proofs.Accepted.{accepted-good, good-accepted}
 use Rattle.hproto_message.proofs.Search.{Search, whole, faulty, search, Agree, search-agrees, first-searched}
@@ -21,16 +21,16 @@ module _ (sc : Schema) (levels n : ℕ) (s : List ℕ) (o : Octets s) where
       let q = first-searched sc levels n s g o b in
       cc
 
-  first-refused : (f : Fault) → FirstFault sc (suc levels) n s f → messageFrom sc (suc levels) n 0 0 s ≡ refused (faultNumber f) (faultPlace f)
+  first-refused : (f : Fault) → FirstFault sc (suc levels) n s f → messageFrom sc (suc levels) n 0 0 s ≡ refused (faultRefusal f) (faultPlace f)
   unfolding Agree
   first-refused f a = go (search sc levels n s) (first-searched sc levels n s f o a) (search-agrees sc levels n 0 0 s o)
     where
       go : (x : Search) → x ≡ faulty f → Agree sc (suc levels) n 0 s (messageFrom sc (suc levels) n 0 0 s) x
-          → messageFrom sc (suc levels) n 0 0 s ≡ refused (faultNumber f) (faultPlace f)
+          → messageFrom sc (suc levels) n 0 0 s ≡ refused (faultRefusal f) (faultPlace f)
       go (whole cut) e h = let z : _≡_ {A = ℕ} 0 1 = cc in absurd (omega arith)
       go (faulty g) e h =
           let q : g ≡ f = cc in
-          h .0 ∙ ap₂ refused (ap faultNumber q) (omega arith ∙ ap faultPlace q)
+          h .0 ∙ ap₂ refused (ap faultRefusal q) (omega arith ∙ ap faultPlace q)
 
   -- Octets have a good cut or a first fault,
   pub cut-or-fault : ((cut : Cut) × Good sc (suc levels) n s cut) ⊎ ((f : Fault) × FirstFault sc (suc levels) n s f)
@@ -55,12 +55,12 @@ module _ (sc : Schema) (levels n : ℕ) (s : List ℕ) (o : Octets s) where
   fault-exactly = (λ a c. cut-no-fault (c .0) (a .0) (c .1) (a .1), λ none. ⊎-elim (λ c. absurd (none c)) (λ a. a) cut-or-fault)
 
   fault-of-refused : (k p : ℕ) → messageFrom sc (suc levels) n 0 0 s ≡ refused k p
-      → (f : Fault) × FirstFault sc (suc levels) n s f × (faultNumber f ≡ k) × (faultPlace f ≡ p)
+      → (f : Fault) × FirstFault sc (suc levels) n s f × (faultRefusal f ≡ k) × (faultPlace f ≡ p)
   unfolding Agree
   fault-of-refused k p e = go (search sc levels n s) (search-agrees sc levels n 0 0 s o)
     where
       go : (x : Search) → Agree sc (suc levels) n 0 s (messageFrom sc (suc levels) n 0 0 s) x
-          → (f : Fault) × FirstFault sc (suc levels) n s f × (faultNumber f ≡ k) × (faultPlace f ≡ p)
+          → (f : Fault) × FirstFault sc (suc levels) n s f × (faultRefusal f ≡ k) × (faultPlace f ≡ p)
       go (whole cut) h = let z : _≡_ {A = ℕ} 0 1 = cc in absurd (omega arith)
       go (faulty f) h =
           let a = h .0 in
@@ -69,7 +69,7 @@ module _ (sc : Schema) (levels n : ℕ) (s : List ℕ) (o : Octets s) where
 
 -- A message is refused with a number at a place exactly where its first fault has that number and that place.
 pub refused-exactly : (sc : Schema) (n : ℕ) (s : List ℕ) → Octets s → (k p : ℕ)
-    → (reading sc n s ≡ refused k p) ↔ ((f : Fault) × FirstFault sc depthLimit n s f × (faultNumber f ≡ k) × (faultPlace f ≡ p))
+    → (reading sc n s ≡ refused k p) ↔ ((f : Fault) × FirstFault sc depthLimit n s f × (faultRefusal f ≡ k) × (faultPlace f ≡ p))
 unfolding reading
 refused-exactly sc n s o k p = (
   fault-of-refused sc 7 n s o k p,

@@ -150,9 +150,9 @@ fronted sc levels n s cut g h =
     subst Fronted (g .divides) (fronted-of sc n cut (g .allowed) (subst (λ (x : List ℕ). 1 ≤ length x) (sym (g .divides)) h))
 
 -- The only good cut of no octets has no fields.
-pub nothing-left : (sc : Schema) (levels n : ℕ) (s : List ℕ) (cut : Cut) → Good sc levels n s cut → length s ≡ 0 → cut ≡ Cut.end
+pub nothing-remaining : (sc : Schema) (levels n : ℕ) (s : List ℕ) (cut : Cut) → Good sc levels n s cut → length s ≡ 0 → cut ≡ Cut.end
 unfolding joined Allowed
-nothing-left sc levels n s cut g h = go cut (g .allowed) (ap length (g .divides) ∙ h)
+nothing-remaining sc levels n s cut g h = go cut (g .allowed) (ap length (g .divides) ∙ h)
   where
     go : (cut : Cut) → Allowed sc n cut → length (joined cut) ≡ 0 → cut ≡ Cut.end
     go Cut.end a e = refl

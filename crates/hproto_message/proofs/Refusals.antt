@@ -22,14 +22,14 @@ use Rattle.hproto_message.specs.Reading.{stepByKind, stepFrom, step, tag
 -- A step that is refused has a number above 0.
 Numbered : Step → Type 0
 Numbered Done = Unit {0}
-Numbered (Fault number) = 0 < number
+Numbered (Fault reason) = 0 < reason
 Numbered (Over k l) = Unit {0}
 Numbered (Into m k l) = Unit {0}
 
-tested-numbered : (t : Bool) (k l number : ℕ) → 0 < number → Numbered (cond t (Over k l) (Fault number))
+tested-numbered : (t : Bool) (k l reason : ℕ) → 0 < reason → Numbered (cond t (Over k l) (Fault reason))
 unfolding Numbered
-tested-numbered true k l number h = tt
-tested-numbered false k l number h = h
+tested-numbered true k l reason h = tt
+tested-numbered false k l reason h = h
 
 stepByKind-numbered : (m : Meaning) (k : ℕ) (s : List ℕ) → Numbered (stepByKind m k s)
 unfolding Numbered stepByKind
@@ -53,24 +53,24 @@ stepFrom-numbered sc n s (Whole tag len size) = go (leb len (length s - size))
 -- A reading that is refused has a number above 0.
 Told : Reading Cut → Type 0
 Told (accepted cut) = Unit {0}
-Told (refused number place) = 0 < number
+Told (refused reason place) = 0 < reason
 
 onAccepted-told : (f : Cut → Cut) (r : Reading Cut) → Told r → Told (onAccepted f r)
 unfolding Told onAccepted
 onAccepted-told f (accepted cut) h = tt
-onAccepted-told f (refused number place) h = h
+onAccepted-told f (refused reason place) h = h
 
 inOrder-told : (f : Cut → Cut → Cut) (q r : Reading Cut) → Told q → Told r → Told (inOrder f q r)
 unfolding Told inOrder
 inOrder-told f (accepted cut) r h k = onAccepted-told (f cut) r k
-inOrder-told f (refused number place) r h k = h
+inOrder-told f (refused reason place) r h k = h
 
 module _ (sc : Schema) (inner : Inner) (below : (m field at : ℕ) (b : List ℕ) → Told (inner m field at b)) where
   after-told : (next : ℕ → List ℕ → Reading Cut) → ((at : ℕ) (r : List ℕ) → Told (next at r)) → (at : ℕ) (s : List ℕ) (p : Step) → Numbered p
       → Told (afterStep inner next at s p)
   unfolding Told Numbered afterStep
   after-told next later at s Done h = tt
-  after-told next later at s (Fault number) h = h
+  after-told next later at s (Fault reason) h = h
   after-told next later at s (Over k l) h = onAccepted-told (Cut.leaf (tagAt s) (take k s) (take l (drop k s))) (next (at + k + l) (drop (k + l) s)) (later (at + k + l) (drop (k + l) s))
   after-told next later at s (Into m k l) h =
       inOrder-told (Cut.nested (tagAt s) (take k s)) (inner m at (at + k) (take l (drop k s))) (next (at + k + l) (drop (k + l) s))
@@ -86,7 +86,7 @@ unfolding Told messageFrom
 message-told sc zero n field at s = omega arith
 message-told sc (suc levels) n field at s = fields-told sc (messageFrom sc levels) (message-told sc levels) n (suc (length s)) at s
 
-pub refusal-positive : (sc : Schema) (levels n field at : ℕ) (s : List ℕ) (number place : ℕ)
-    → messageFrom sc levels n field at s ≡ refused number place → 0 < number
+pub refusal-positive : (sc : Schema) (levels n field at : ℕ) (s : List ℕ) (reason place : ℕ)
+    → messageFrom sc levels n field at s ≡ refused reason place → 0 < reason
 unfolding Told
-refusal-positive sc levels n field at s number place e = subst Told e (message-told sc levels n field at s)
+refusal-positive sc levels n field at s reason place e = subst Told e (message-told sc levels n field at s)

@@ -20,7 +20,7 @@ use Rattle.hproto_message.specs.FirstFault.{
   tooDeep,
   tooWide,
   noText,
-  wrongNumber,
+  wrongRefusal,
   wrongOctets,
   IsWrong,
   Fault,
@@ -29,7 +29,7 @@ use Rattle.hproto_message.specs.FirstFault.{
   past,
   inside,
   faultOctets,
-  faultNumber,
+  faultRefusal,
   faultPlace,
   LeadsTo,
   FirstFault,
@@ -82,24 +82,24 @@ search sc levels n s = searchFields sc (searchNested sc levels) n (suc (length s
 -- A reading of octets at a place, and a search through them.
 unfoldable pub Agree : Schema → ℕ → ℕ → ℕ → List ℕ → Reading Cut → Search → Type 0
 Agree sc levels n at s r (whole cut) = r ≡ accepted cut
-Agree sc levels n at s r (faulty f) = (r ≡ refused (faultNumber f) (at + faultPlace f)) × FirstFault sc levels n s f
+Agree sc levels n at s r (faulty f) = (r ≡ refused (faultRefusal f) (at + faultPlace f)) × FirstFault sc levels n s f
 
 module _ (sc : Schema) (levels n at : ℕ) (s c b rest : List ℕ) (tag : ℕ) (e : s ≡ c ++ b ++ rest) (r : Reading Cut) where
   leaf-agrees : LeafField sc n tag c b → (x : Search) → Agree sc levels n (at + length c + length b) rest r x
       → Agree sc levels n at s (onAccepted (leaf tag c b) r) (thenLeaf tag c b x)
-  unfolding Agree thenLeaf onAccepted faultNumber faultPlace faultOctets LeadsTo
+  unfolding Agree thenLeaf onAccepted faultRefusal faultPlace faultOctets LeadsTo
   leaf-agrees f (whole cut) h = rw h
   leaf-agrees f (faulty g) h = (
-    rw (h .0) (ap (refused (faultNumber g)) (omega arith)),
+    rw (h .0) (ap (refused (faultRefusal g)) (omega arith)),
     record { divides = ap (λ (z : List ℕ). c ++ b ++ z) (h .1 .divides) ∙ sym e; leads = (f, h .1 .leads) },
   )
 
   nested-agrees : (m lower : ℕ) → 1 < levels → levels - 1 ≡ lower → NestedField sc n m tag c b → (q : Reading Cut)
       → ((i : Cut) → q ≡ accepted i → Good sc lower m b i) → (y : Search) → Agree sc lower m (at + length c) b q y → (x : Search) → Agree sc levels n (at + length c + length b) rest r x
       → Agree sc levels n at s (inOrder (nested tag c) q r) (thenNested tag c rest y x)
-  unfolding Agree thenNested onAccepted inOrder faultNumber faultPlace faultOctets LeadsTo
+  unfolding Agree thenNested onAccepted inOrder faultRefusal faultPlace faultOctets LeadsTo
   nested-agrees m lower l w f q good (faulty g) h x k = (
-    rw (h .0) (ap (refused (faultNumber g)) (omega arith)),
+    rw (h .0) (ap (refused (faultRefusal g)) (omega arith)),
     record {
       divides = ap (λ (z : List ℕ). c ++ z ++ rest) (h .1 .divides) ∙ sym e;
       leads = (l, (m, subst (λ (z : List ℕ). NestedField sc n m tag c z) (sym (h .1 .divides)) f, rw w (h .1 .leads)));
@@ -108,7 +108,7 @@ module _ (sc : Schema) (levels n at : ℕ) (s c b rest : List ℕ) (tag : ℕ) (
   nested-agrees m lower l w f q good (whole i) h (whole cut) k = rw (h, k)
   nested-agrees m lower l w f q good (whole i) h (faulty g) k =
       let d = good i h .divides in (
-        rw (h, k .0, d) (ap (refused (faultNumber g)) (omega arith)),
+        rw (h, k .0, d) (ap (refused (faultRefusal g)) (omega arith)),
         record {
           divides = ap₂ (λ (y z : List ℕ). c ++ y ++ z) d (k .1 .divides) ∙ sym e;
           leads =
@@ -128,8 +128,8 @@ module _ (sc : Schema) (levels : ℕ) (inner : Inner) (into : Nested)
   after-agrees n next further at s o later steps.Done e h = unfold Agree in refl
   after-agrees n next further at s o later (steps.Fault k) e h =
       let b = step-blames sc levels n s o k e in
-      unfold Agree faultNumber faultPlace faultOctets LeadsTo in
-      (rw (b .number) (ap (refused k) (omega arith)), record { divides = b .is; leads = b .wrong })
+      unfold Agree faultRefusal faultPlace faultOctets LeadsTo in
+      (rw (b .reason) (ap (refused k) (omega arith)), record { divides = b .is; leads = b .wrong })
   after-agrees n next further at s o later (steps.Over k l) e h =
       let i = h .2 in
       let d = length-drop k s in
@@ -165,7 +165,7 @@ nested-agree : (sc : Schema) (levels n m at tag : ℕ) (s c b rest : List ℕ) �
     → Agree sc (suc levels) n at s (inOrder (nested tag c) (messageFrom sc levels m at (at + length c) b) r) (searchNested sc levels m tag c b rest x)
 unfolding messageFrom searchNested
 nested-agree sc zero n m at tag s c b rest o f e r x k =
-    unfold Agree inOrder faultNumber wrongNumber faultPlace faultOctets wrongOctets LeadsTo IsWrong in
+    unfold Agree inOrder faultRefusal wrongRefusal faultPlace faultOctets wrongOctets LeadsTo IsWrong in
     (ap (refused 5) (omega arith), record { divides = sym e; leads = ((m, f), refl) })
 nested-agree sc (suc levels) n m at tag s c b rest o f e r x k =
     nested-agrees sc (suc (suc levels)) n at s c b rest tag e r m (suc levels) (omega arith) (omega arith) f (messageFrom sc (suc levels) m at (at + length c) b)

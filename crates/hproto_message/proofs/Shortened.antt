@@ -22,7 +22,7 @@ use Rattle.hproto_message.specs.Cut.{Cut, joined, WholeField, Contents, 
 use Rattle.hproto_message.specs.Tree as trees
 use Rattle.hproto_message.specs.Tree.{Tree, Value, value, tree}
 use Rattle.reading.specs.Reading.{depthLimit}
-use Rattle.hproto_message.specs.ReadTheSame.{OthersMore, ShortForm}
+use Rattle.hproto_message.specs.ReadTheSame.{OthersMore, IsShortest}
 use Rattle.hproto_message.proofs.Accepted.{good-cut-unique}
 use Rattle.hproto_message.specs.Shortest.{leastContents, field, shortest}
 
@@ -205,11 +205,11 @@ others-more sc n s cut g r o same ne =
     subst (λ (l : List ℕ). length l < length r) x
     (others-longer sc depthLimit n r (same .second) o (same .second-good) (λ q. ne (sym q ∙ x)))
 
-pub short-form : (sc : Schema) (n : ℕ) (s : List ℕ) (cut : Cut) → Octets s → Good sc depthLimit n s cut → ShortForm sc n s (shortest (tree sc n cut))
-short-form sc n s cut o g =
+pub is-shortest : (sc : Schema) (n : ℕ) (s : List ℕ) (cut : Cut) → Octets s → Good sc depthLimit n s cut → IsShortest sc n s (shortest (tree sc n cut))
+is-shortest sc n s cut o g =
     let f = shortest-good sc depthLimit n s cut o g in
     record {
-      short-octets = shortest-octets sc depthLimit n s cut o g;
+      shortest-octets = shortest-octets sc depthLimit n s cut o g;
       reads-the-same = record { first = cut; second = f .0; first-good = g; second-good = f .1; same-tree = f .2 };
       others-more = others-more sc n s cut g;
     }

@@ -32,7 +32,7 @@ split-in-three k l s =
 -- What each answer of a step says of the octets.
 unfoldable pub StepMeans : Schema → ℕ → List ℕ → Step → Type 0
 StepMeans sc n s Done = s ≡ []
-StepMeans sc n s (Fault number) = Unit {0}
+StepMeans sc n s (Fault reason) = Unit {0}
 StepMeans sc n s (Over k l) = LeafField sc n (tagAt s) (take k s) (take l (drop k s)) × (1 ≤ k) × (k + l ≤ length s)
 StepMeans sc n s (Into m k l) = NestedField sc n m (tagAt s) (take k s) (take l (drop k s)) × (1 ≤ k) × (k + l ≤ length s)
 
@@ -48,11 +48,11 @@ module _ (sc : Schema) (n : ℕ) (s : List ℕ) (k l : ℕ) (w : WholeField (tag
   over-means m e allowed =
       (record { whole = w; allowed = subst (λ (x : Meaning). Contents x (take l (drop k s))) (sym e) allowed }, positive, inside)
 
-  tested-means : (m : Meaning) → sc .means n (tagAt s) ≡ m → (t : Bool) (number : ℕ) → (t ≡ true → Contents m (take l (drop k s)))
-      → StepMeans sc n s (cond t (Over k l) (Fault number))
+  tested-means : (m : Meaning) → sc .means n (tagAt s) ≡ m → (t : Bool) (reason : ℕ) → (t ≡ true → Contents m (take l (drop k s)))
+      → StepMeans sc n s (cond t (Over k l) (Fault reason))
   unfolding StepMeans
-  tested-means m e true number allowed = over-means m e (allowed refl)
-  tested-means m e false number allowed = tt
+  tested-means m e true reason allowed = over-means m e (allowed refl)
+  tested-means m e false reason allowed = tt
 
   stepByKind-means : (m : Meaning) → sc .means n (tagAt s) ≡ m → length (take l (drop k s)) ≡ l → StepMeans sc n s (stepByKind m k (take l (drop k s)))
   unfolding StepMeans stepByKind Contents

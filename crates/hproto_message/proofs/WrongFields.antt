@@ -25,7 +25,7 @@ use Rattle.hproto_table.specs.declared.Meaning.the-variants.{Raw, Uint, Int, St
 use Rattle.hproto_message.specs.declared.Step.{Step}
 use Rattle.hproto_message.specs.declared.Step.the-variants as steps
 use Rattle.hproto_message.specs.Cut.{WholeField}
-use Rattle.hproto_message.specs.FirstFault.{Wrong, endsEarly, pastTheEnd, tooWide, noText, wrongNumber, wrongOctets, IsWrong}
+use Rattle.hproto_message.specs.FirstFault.{Wrong, endsEarly, pastTheEnd, tooWide, noText, wrongRefusal, wrongOctets, IsWrong}
 use Rattle.hproto_message.specs.Reading.{stepByKind, stepFrom, step}
 use Rattle.hproto_message.proofs.Steps.{split-in-three, found, field-control, in-three}
 
@@ -44,7 +44,7 @@ wrongAt s k = wrongIn s k (control s)
 -- It is what the octets begin with, it has that number, and it is wrong.
 pub record Blames (sc : Schema) (levels n : ℕ) (s : List ℕ) (k : ℕ) (w : Wrong) : Type 0 where
   pub is : wrongOctets w ≡ s
-  pub number : wrongNumber w ≡ k
+  pub reason : wrongRefusal w ≡ k
   pub wrong : IsWrong sc levels n w
 
 -- ---- what a step refuses is wrong
@@ -56,24 +56,24 @@ module _ (sc : Schema) (levels n : ℕ) (s : List ℕ) where
   StepBlames at (steps.Over k l) = Unit {0}
   StepBlames at (steps.Into m k l) = Unit {0}
 
-  tested-blames : (at : ℕ → Wrong) (t : Bool) (k l number : ℕ) → (t ≡ false → Blames sc levels n s number (at number))
-      → StepBlames at (cond t (steps.Over k l) (steps.Fault number))
+  tested-blames : (at : ℕ → Wrong) (t : Bool) (k l reason : ℕ) → (t ≡ false → Blames sc levels n s reason (at reason))
+      → StepBlames at (cond t (steps.Over k l) (steps.Fault reason))
   unfolding StepBlames
-  tested-blames at true k l number h = tt
-  tested-blames at false k l number h = h refl
+  tested-blames at true k l reason h = tt
+  tested-blames at false k l reason h = h refl
 
   module _ (tag len size : ℕ) (w : WholeField tag (take size s) (take len (drop size s))) where
     wide-blames : (sc .means n tag ≡ Uint) ⊎ (sc .means n tag ≡ Int) → 8 < length (take len (drop size s))
         → Blames sc levels n s 6 (wrongIn s 6 (Whole tag len size))
-    unfolding wrongIn wrongOctets wrongNumber IsWrong
-    wide-blames e h = record { is = split-in-three size len s; number = refl; wrong = (w, e, h) }
+    unfolding wrongIn wrongOctets wrongRefusal IsWrong
+    wide-blames e h = record { is = split-in-three size len s; reason = refl; wrong = (w, e, h) }
 
     text-blames : sc .means n tag ≡ Text → text (take len (drop size s)) ≡ false → Blames sc levels n s 7 (wrongIn s 7 (Whole tag len size))
-    unfolding wrongIn wrongOctets wrongNumber IsWrong
+    unfolding wrongIn wrongOctets wrongRefusal IsWrong
     text-blames e h =
         record {
           is = split-in-three size len s;
-          number = refl;
+          reason = refl;
           wrong = (w, e, λ t. let g = text-exactly (take len (drop size s)) .1 t in let z : _≡_ {A = ℕ} 0 1 = cc in absurd (omega arith));
         }
 
@@ -94,9 +94,9 @@ module _ (sc : Schema) (levels n : ℕ) (s : List ℕ) where
     kind-blames (Message m) e = tt
 
   from-blames : Octets s → (c : Control) → control s ≡ c → StepBlames (λ (k : ℕ). wrongIn s k c) (stepFrom sc n s c)
-  unfolding StepBlames stepFrom wrongIn wrongOctets wrongNumber IsWrong
+  unfolding StepBlames stepFrom wrongIn wrongOctets wrongRefusal IsWrong
   from-blames o Absent e = tt
-  from-blames o Partial e = record { is = refl; number = refl; wrong = cut-exactly s o .0 e }
+  from-blames o Partial e = record { is = refl; reason = refl; wrong = cut-exactly s o .0 e }
   from-blames o (Whole tag len size) e = go (leb len (length s - size)) refl
     where
       part : ControlPart tag len (take size s)
@@ -112,7 +112,7 @@ module _ (sc : Schema) (levels n : ℕ) (s : List ℕ) where
       go false t =
           let h = leb-false len (length s - size) t in
           let d = length-drop size s in
-          record { is = take-append-drop size s; number = refl; wrong = (part, omega arith) }
+          record { is = take-append-drop size s; reason = refl; wrong = (part, omega arith) }
 
   pub step-blames : Octets s → (k : ℕ) → step sc n s ≡ steps.Fault k → Blames sc levels n s k (wrongAt s k)
   unfolding step StepBlames wrongAt
@@ -122,16 +122,16 @@ module _ (sc : Schema) (levels n : ℕ) (s : List ℕ) where
 
 -- What a step finds at a field that is wrong and not too deep.
 pub record Refused (sc : Schema) (n : ℕ) (w : Wrong) : Type 0 where
-  pub stepped : step sc n (wrongOctets w) ≡ steps.Fault (wrongNumber w)
-  pub same : wrongAt (wrongOctets w) (wrongNumber w) ≡ w
+  pub stepped : step sc n (wrongOctets w) ≡ steps.Fault (wrongRefusal w)
+  pub same : wrongAt (wrongOctets w) (wrongRefusal w) ≡ w
 
 module _ (sc : Schema) (n : ℕ) where
   pub early-refused : (s : List ℕ) → control s ≡ Partial → Refused sc n (endsEarly s)
-  unfolding step stepFrom wrongAt wrongIn wrongOctets wrongNumber
+  unfolding step stepFrom wrongAt wrongIn wrongOctets wrongRefusal
   early-refused s e = record { stepped = rw e; same = rw e }
 
   pub past-refused : (tag len : ℕ) (part after : List ℕ) → ControlPart tag len part → length after < len → Refused sc n (pastTheEnd tag len part after)
-  unfolding step stepFrom wrongAt wrongIn wrongOctets wrongNumber
+  unfolding step stepFrom wrongAt wrongIn wrongOctets wrongRefusal
   past-refused tag len part after p h =
       let s = part ++ after in
       let k = part-read tag len part p after in
@@ -141,7 +141,7 @@ module _ (sc : Schema) (n : ℕ) where
 
   module _ (tag : ℕ) (part contents after : List ℕ) (w : WholeField tag part contents) where
     pub wide-refused : (sc .means n tag ≡ Uint) ⊎ (sc .means n tag ≡ Int) → 8 < length contents → Refused sc n (tooWide tag part contents after)
-    unfolding stepByKind wrongAt wrongIn wrongOctets wrongNumber
+    unfolding stepByKind wrongAt wrongIn wrongOctets wrongRefusal
     wide-refused e h =
         let p = in-three part contents after in
         record {
@@ -154,7 +154,7 @@ module _ (sc : Schema) (n : ℕ) where
         wide m f x = rw (x, f, lt-leb (length contents) 8 h)
 
     pub text-refused : sc .means n tag ≡ Text → (IsText contents → ⊥) → Refused sc n (noText tag part contents after)
-    unfolding stepByKind wrongAt wrongIn wrongOctets wrongNumber
+    unfolding stepByKind wrongAt wrongIn wrongOctets wrongRefusal
     text-refused e h =
         let p = in-three part contents after in
         record {

@@ -5,6 +5,7 @@ use mathlib.Core.Path.{_≡_}
 use mathlib.Core.List.{List, _++_}
 use mathlib.Core.Logic.{_⊎_}
 use lib.ListN.{length}
+use Rattle.reading.specs.Refusals as refusals
 use Rattle.reading.specs.Reading.{depthLimit}
 use Rattle.octets.specs.ControlPart.{ControlPart}
 use Rattle.octets.specs.CutControl.{CutControl}
@@ -22,13 +23,13 @@ pub data Wrong : Type 0 where
   tooWide : (tag : ℕ) (part contents after : List ℕ) → Wrong
   noText : (tag : ℕ) (part contents after : List ℕ) → Wrong
 
--- The number of its refusal.
-unfoldable pub wrongNumber : Wrong → ℕ
-wrongNumber (endsEarly octets) = 3
-wrongNumber (pastTheEnd tag len part after) = 4
-wrongNumber (tooDeep tag part contents after) = 5
-wrongNumber (tooWide tag part contents after) = 6
-wrongNumber (noText tag part contents after) = 7
+-- Its refusal.
+unfoldable pub wrongRefusal : Wrong → ℕ
+wrongRefusal (endsEarly octets) = refusals.cut
+wrongRefusal (pastTheEnd tag len part after) = refusals.pastTheEnd
+wrongRefusal (tooDeep tag part contents after) = refusals.tooDeep
+wrongRefusal (tooWide tag part contents after) = refusals.numberTooWide
+wrongRefusal (noText tag part contents after) = refusals.text
 
 unfoldable pub wrongOctets : Wrong → List ℕ
 wrongOctets (endsEarly octets) = octets
@@ -62,12 +63,12 @@ faultOctets (over tag part contents later) = part ++ contents ++ faultOctets lat
 faultOctets (past tag part cut later) = part ++ joined cut ++ faultOctets later
 faultOctets (inside tag part inner after) = part ++ faultOctets inner ++ after
 
--- The number of the refusal, and its place: the first octet of the field that is wrong, counted from the first octet of this message.
-unfoldable pub faultNumber : Fault → ℕ
-faultNumber (here wrong) = wrongNumber wrong
-faultNumber (over tag part contents later) = faultNumber later
-faultNumber (past tag part cut later) = faultNumber later
-faultNumber (inside tag part inner after) = faultNumber inner
+-- The refusal, and its place: the first octet of the field that is wrong, counted from the first octet of this message.
+unfoldable pub faultRefusal : Fault → ℕ
+faultRefusal (here wrong) = wrongRefusal wrong
+faultRefusal (over tag part contents later) = faultRefusal later
+faultRefusal (past tag part cut later) = faultRefusal later
+faultRefusal (inside tag part inner after) = faultRefusal inner
 
 unfoldable pub faultPlace : Fault → ℕ
 faultPlace (here wrong) = 0

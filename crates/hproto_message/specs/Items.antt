@@ -1,4 +1,4 @@
--- The outermost fields of a message as a list, and what each of them says.
+-- The outermost fields of a message as a list, with the kind and the value of each.
 use Prim.Native.Nat.{ℕ}
 use mathlib.Core.Bool.{cond}
 use mathlib.Core.List.{List, [], _∷_}
@@ -24,7 +24,7 @@ unfoldable pub itemTag : Item → ℕ
 itemTag (leaf t v) = t
 itemTag (nested t inside) = t
 
--- Those of the fields that have a tag. `item` says which field of a tree an element stands for.
+-- The elements whose field has a tag. `item` is the field of an element.
 unfoldable pub withTag : {A : Type 0} → (A → Item) → ℕ → List A → List A
 withTag item t [] = []
 withTag item t (x ∷ l) = cond (eqb (itemTag (item x)) t) (x ∷ withTag item t l) (withTag item t l)
@@ -42,7 +42,7 @@ unfoldable pub itemKind : Item → ℕ
 itemKind (leaf t v) = kindNumber (kindOf v)
 itemKind (nested t inside) = 5
 
--- The number of a uint.
+-- The value of a uint, 0 for any other kind.
 unfoldable pub uintOf : Item → ℕ
 uintOf (leaf t (raw s)) = 0
 uintOf (leaf t (uint v)) = v
@@ -51,7 +51,7 @@ uintOf (leaf t (string s)) = 0
 uintOf (leaf t (text s)) = 0
 uintOf (nested t inside) = 0
 
--- The number of an int.
+-- The value of an int, 0 for any other kind.
 unfoldable pub intOf : Item → ℤ
 intOf (leaf t (raw s)) = pos 0
 intOf (leaf t (uint v)) = pos 0

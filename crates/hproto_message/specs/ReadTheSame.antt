@@ -21,12 +21,12 @@ pub record ReadTheSame (sc : Schema) (n : ℕ) (s r : List ℕ) : Type 0 where
   pub second-good : Good sc depthLimit n r second
   pub same-tree : tree sc n second ≡ tree sc n first
 
--- All other octets that read the same as a message, of any length, are more than these.
+-- All other octets that read the same as a message are longer than these.
 unfoldable pub OthersMore : Schema → ℕ → List ℕ → List ℕ → Type 0
-OthersMore sc n s short = (r : List ℕ) → Octets r → ReadTheSame sc n s r → (r ≡ short → ⊥) → length short < length r
+OthersMore sc n s shortest = (r : List ℕ) → Octets r → ReadTheSame sc n s r → (r ≡ shortest → ⊥) → length shortest < length r
 
 -- The shortest octets that read the same as a message.
-pub record ShortForm (sc : Schema) (n : ℕ) (s short : List ℕ) : Type 0 where
-  pub short-octets : Octets short
-  pub reads-the-same : ReadTheSame sc n s short
-  pub others-more : OthersMore sc n s short
+pub record IsShortest (sc : Schema) (n : ℕ) (s shortest : List ℕ) : Type 0 where
+  pub shortest-octets : Octets shortest
+  pub reads-the-same : ReadTheSame sc n s shortest
+  pub others-more : OthersMore sc n s shortest

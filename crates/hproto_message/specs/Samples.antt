@@ -12,14 +12,14 @@ use Rattle.hproto_message.specs.Cut.{Cut}
 use Rattle.hproto_message.specs.Reading.{reading}
 use Rattle.hproto_message.specs.Shortest.{shortest}
 
--- What a message reads as: its tree, with the tree's shortest form, or a refusal with its place.
+-- The outcome of reading a message: its tree, with the tree's shortest form, or a refusal with its place.
 pub data Outcome : Type 0 where
   reads : Tree → List ℕ → Outcome
   refuses : ℕ → ℕ → Outcome
 
 unfoldable pub outcomeOf : Schema → Reading Cut → Outcome
 outcomeOf sc (accepted cut) = reads (tree sc 0 cut) (shortest (tree sc 0 cut))
-outcomeOf sc (refused number place) = refuses number place
+outcomeOf sc (refused reason place) = refuses reason place
 
 -- A sample: a table, a message with number 0, and what is expected of it.
 pub record Sample : Type 0 where
@@ -30,7 +30,7 @@ pub record Sample : Type 0 where
 unfoldable pub outcome : Sample → Outcome
 outcome x = outcomeOf (schemaOf (x .table)) (reading (schemaOf (x .table)) 0 (x .message))
 
--- Every sample of a list comes out as expected.
+-- Every sample of a list has the expected outcome.
 unfoldable pub Hold : List Sample → Type 0
 Hold [] = Unit {0}
 Hold (x ∷ xs) = (outcome x ≡ x .expected) × Hold xs
@@ -45,13 +45,13 @@ nestedTable = record { number = 0; tag = 1; kind = 5; inner = 1 } ∷ record { n
 
 -- One field with the tag 12, of kind uint (1) or int (2).
 unfoldable pub readsUint : List ℕ → ℕ → List ℕ → Sample
-readsUint s v short = record { table = only 1; message = s; expected = reads (leaf 12 (uint v) end) short }
+readsUint s v octets = record { table = only 1; message = s; expected = reads (leaf 12 (uint v) end) octets }
 
 unfoldable pub readsInt : List ℕ → ℤ → List ℕ → Sample
-readsInt s z short = record { table = only 2; message = s; expected = reads (leaf 12 (int z) end) short }
+readsInt s z octets = record { table = only 2; message = s; expected = reads (leaf 12 (int z) end) octets }
 
 unfoldable pub refusedAs : List ℕ → ℕ → ℕ → Sample
-refusedAs s number place = record { table = only 1; message = s; expected = refuses number place }
+refusedAs s reason place = record { table = only 1; message = s; expected = refuses reason place }
 
 unfoldable pub samples : List Sample
 samples =

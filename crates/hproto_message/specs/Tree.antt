@@ -1,4 +1,4 @@
--- What a message says: its fields in order, each with tag, kind and value.
+-- The tree of a message: its fields in order, each with tag, kind and value.
 use Prim.Native.Nat.{ℕ, suc, _+_, max}
 use mathlib.Core.List.{List}
 use lib.IntN.{ℤ}
@@ -36,7 +36,7 @@ depth end = 1
 depth (leaf tag value rest) = depth rest
 depth (nested tag inside rest) = max (suc (depth inside)) (depth rest)
 
--- What contents mean as a field of each kind that is no message. No good cut has a message as such a field.
+-- The value of contents by their kind. A good cut has no leaf of kind message, so that case is never used.
 unfoldable pub value : Meaning → List ℕ → Value
 value Raw s = raw s
 value Uint s = uint (octets.bigEndian s)

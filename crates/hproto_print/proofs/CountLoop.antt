@@ -20,7 +20,7 @@ use Rattle.hproto_field.specs.declared.Head.the-variants.{Field}
 use Rattle.hproto_field.proofs.Heads.{Fieldless}
 use Rattle.hproto_print.specs.Text.{direct}
 use Rattle.hproto_print.specs.internal.OfTree.{ofTree, directOf}
-use Rattle.hproto_field.proofs.Passing.{Left, all-left, none-left, Ends, ends, leaf-next, nested-next}
+use Rattle.hproto_field.proofs.FieldsByHead.{Remaining, all-remaining, none-remaining, Ends, ends, leaf-next, nested-next}
 
 -- A function of the tree of an accepted message is the function of the tree of its cut.
 pub tree-is : {A : Type 0} (f : Tree → A) (other : A) (sc : Schema) (levels n : ℕ) (s : List ℕ) (cut : Cut) → Good sc levels n s cut
@@ -35,37 +35,37 @@ direct-is sc n s cut g = tree-is direct 0 sc 8 n s cut g
 module _ (sc : Schema) (n : ℕ) (s : List ℕ) where
   -- The loop invariant: after i octets, k fields are counted.
   pub record Counted (i k : ℕ) : Type 0 where
-    pub left : Left sc 7 n s i
+    pub remaining : Remaining sc 7 n s i
     pub few : k ≤ i
-    pub whole : directOf sc n s ≡ k + direct (tree sc n (left .rest))
+    pub whole : directOf sc n s ≡ k + direct (tree sc n (remaining .rest))
 
   pub none-counted : Accepts sc 8 n s → Counted 0 0
   none-counted a =
       let g = accepts-good sc 8 n s a in
-      record { left = all-left sc 7 n s (g .0) (g .1); few = omega arith; whole = direct-is sc n s (g .0) (g .1) ∙ omega arith }
+      record { remaining = all-remaining sc 7 n s (g .0) (g .1); few = omega arith; whole = direct-is sc n s (g .0) (g .1) ∙ omega arith }
 
   pub all-counted : (i k : ℕ) → Counted i k → (h : Head) → headAt i (drop i s) ≡ h → Fieldless h → k ≡ directOf sc n s
   unfolding tree direct items
   all-counted i k p h e q =
-      sym (p .whole ∙ ap (λ (c : Cut). k + direct (tree sc n c)) (none-left sc 7 n s i (p .left) h e q) ∙ omega arith)
+      sym (p .whole ∙ ap (λ (c : Cut). k + direct (tree sc n c)) (none-remaining sc 7 n s i (p .remaining) h e q) ∙ omega arith)
 
   module _ (i k : ℕ) (p : Counted i k) (tag start stop : ℕ) (found : headAt i (drop i s) ≡ Field tag start stop) where
-    pub count-ends : Ends sc 7 n s i (p .left) tag start stop found
-    count-ends = ends sc 7 n s i (p .left) tag start stop found
+    pub count-ends : Ends sc 7 n s i (p .remaining) tag start stop found
+    count-ends = ends sc 7 n s i (p .remaining) tag start stop found
 
-    one-more : (left : Left sc 7 n s stop) → direct (tree sc n (p .left .rest)) ≡ suc (direct (tree sc n (left .rest))) → Counted stop (k + 1)
+    one-more : (remaining : Remaining sc 7 n s stop) → direct (tree sc n (p .remaining .rest)) ≡ suc (direct (tree sc n (remaining .rest))) → Counted stop (k + 1)
     one-more left e =
         let h = count-ends in
         let g = p .few in
         let w = p .whole in
-        record { left = left; few = omega arith; whole = w ∙ rw e (omega arith) }
+        record { remaining = left; few = omega arith; whole = w ∙ rw e (omega arith) }
 
     pub counted-more : Counted stop (k + 1)
     unfolding direct items Plain
     counted-more = go (sc .means n tag) refl
       where
         leaf : (kind : Meaning) → kind ≡ sc .means n tag → Plain kind → Counted stop (k + 1)
-        leaf kind e q = let x = leaf-next sc 7 n s i (p .left) tag start stop found kind e q in one-more (x .left) (ap direct (x .tree-is))
+        leaf kind e q = let x = leaf-next sc 7 n s i (p .remaining) tag start stop found kind e q in one-more (x .remaining) (ap direct (x .tree-is))
 
         go : (kind : Meaning) → kind ≡ sc .means n tag → Counted stop (k + 1)
         go Raw e = leaf Raw e tt
@@ -74,4 +74,4 @@ module _ (sc : Schema) (n : ℕ) (s : List ℕ) where
         go String e = leaf String e tt
         go Text e = leaf Text e tt
         go (Message m) e =
-            let x = nested-next sc 7 n s i (p .left) tag start stop found (Message m) e m refl in one-more (x .left) (ap direct (x .tree-is))
+            let x = nested-next sc 7 n s i (p .remaining) tag start stop found (Message m) e m refl in one-more (x .remaining) (ap direct (x .tree-is))

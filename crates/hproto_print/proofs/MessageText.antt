@@ -20,7 +20,7 @@ use Rattle.reading.specs.internal.Verdicts.{IsAccepted}
 use Rattle.hproto_message.specs.Reading.{reading}
 use Rattle.reading.specs.Checks as answers
 use Rattle.message_calls.specs.Check.{check, checkUnder, treeCounts}
-use Rattle.message_calls.proofs.Passed.{check-passed}
+use Rattle.message_calls.proofs.AcceptedByCheck.{check-passed}
 use Rattle.reading.specs.declared.Checked.{Checked}
 use Rattle.hproto_print.specs.Text.{page, shown, refusalText, readText, messageText}
 use Rattle.hproto_print.specs.internal.OfTree.{ofTree, linesOf}

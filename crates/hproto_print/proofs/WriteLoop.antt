@@ -26,7 +26,7 @@ use Rattle.text_window.specs.Window.{Printed}
 use Rattle.hproto_print.specs.Text.{kindName, valueText, line, lines}
 use Rattle.hproto_print.specs.internal.OfTree.{linesOf, directOf}
 use Rattle.text_window.proofs.Windows.{then, printed-nothing, printed-length, same-place}
-use Rattle.hproto_field.proofs.Passing.{Left, all-left, none-left, part, Ends, ends, leaf-next, nested-next, good-deeper}
+use Rattle.hproto_field.proofs.FieldsByHead.{Remaining, all-remaining, none-remaining, part, Ends, ends, leaf-next, nested-next, good-deeper}
 use Rattle.hproto_print.proofs.CountLoop.{tree-is, direct-is}
 
 message-not : OneOf (0 ∷ 1 ∷ 2 ∷ 3 ∷ 4 ∷ []) 5 → ⊥
@@ -59,17 +59,17 @@ module _ (sc : Schema) (levels n : ℕ) (s before : List ℕ) (from at : ℕ) wh
 
   -- The loop invariant: after i octets the lines of the fields before are printed.
   pub record Progress (i end : ℕ) (out : List ℕ) : Type 0 where
-    pub left : Left sc (levels - 1) n s i
+    pub remaining : Remaining sc (levels - 1) n s i
     pub written : List ℕ
     pub printed : Printed before from at written end out
-    pub whole-is : whole ≡ written ++ lines depth (tree sc n (left .rest))
+    pub whole-is : whole ≡ written ++ lines depth (tree sc n (remaining .rest))
 
   pub begun : Accepts sc levels n s → Progress 0 at before
   begun a =
       let g = accepts-good sc levels n s a in
       let r = accepts-levels sc levels n s a in
       record {
-        left = all-left sc (levels - 1) n s (g .0) (subst (λ (r : ℕ). Good sc r n s (g .0)) (sym r) (g .1));
+        remaining = all-remaining sc (levels - 1) n s (g .0) (subst (λ (r : ℕ). Good sc r n s (g .0)) (sym r) (g .1));
         written = [];
         printed = printed-nothing before from at;
         whole-is = lines-is sc levels n s (g .0) (g .1);
@@ -79,7 +79,7 @@ module _ (sc : Schema) (levels n : ℕ) (s before : List ℕ) (from at : ℕ) wh
   unfolding tree lines
   ended i end out p h e q =
       same-place whole
-      (sym (p .whole-is ∙ ap (λ (c : Cut). p .written ++ lines depth (tree sc n c)) (none-left sc (levels - 1) n s i (p .left) h e q) ∙ append-nil (p .written)))
+      (sym (p .whole-is ∙ ap (λ (c : Cut). p .written ++ lines depth (tree sc n c)) (none-remaining sc (levels - 1) n s i (p .remaining) h e q) ∙ append-nil (p .written)))
       (p .printed)
 
   pub same-length : (i end : ℕ) (out : List ℕ) → Progress i end out → length out ≡ length before
@@ -87,29 +87,29 @@ module _ (sc : Schema) (levels n : ℕ) (s before : List ℕ) (from at : ℕ) wh
 
   module _ (i end : ℕ) (out : List ℕ) (p : Progress i end out) (tag start stop : ℕ) (found : headAt i (drop i s) ≡ Field tag start stop) (k : Meaning) (means : k ≡ sc .means n tag) where
     abbrev pub contents : List ℕ
-    contents = part sc (levels - 1) n s i (p .left) tag start stop found
+    contents = part sc (levels - 1) n s i (p .remaining) tag start stop found
 
-    pub next-ends : Ends sc (levels - 1) n s i (p .left) tag start stop found
-    next-ends = ends sc (levels - 1) n s i (p .left) tag start stop found
+    pub next-ends : Ends sc (levels - 1) n s i (p .remaining) tag start stop found
+    next-ends = ends sc (levels - 1) n s i (p .remaining) tag start stop found
 
     module _ (q : Plain k) where
       abbrev leaf-text : List ℕ
       leaf-text = line depth tag (kindName (value k contents)) (valueText (value k contents))
 
-      leaf-whole : whole ≡ p .written ++ leaf-text ++ lines depth (tree sc n (leaf-next sc (levels - 1) n s i (p .left) tag start stop found k means q .left .rest))
+      leaf-whole : whole ≡ p .written ++ leaf-text ++ lines depth (tree sc n (leaf-next sc (levels - 1) n s i (p .remaining) tag start stop found k means q .remaining .rest))
       unfolding lines
       leaf-whole =
-          let x = leaf-next sc (levels - 1) n s i (p .left) tag start stop found k means q in
+          let x = leaf-next sc (levels - 1) n s i (p .remaining) tag start stop found k means q in
           p .whole-is ∙ ap (λ (t : Tree). p .written ++ lines depth t) (x .tree-is)
-          ∙ sym (append-assoc (p .written) leaf-text (lines depth (tree sc n (x .left .rest))))
+          ∙ sym (append-assoc (p .written) leaf-text (lines depth (tree sc n (x .remaining .rest))))
 
       pub leaf-contents : Contents k contents
-      leaf-contents = leaf-next sc (levels - 1) n s i (p .left) tag start stop found k means q .contents
+      leaf-contents = leaf-next sc (levels - 1) n s i (p .remaining) tag start stop found k means q .contents
 
       pub leaf-written : (r : ℕ) (after : List ℕ) → Printed out from end leaf-text r after → Progress stop r after
       leaf-written r after put =
           record {
-            left = leaf-next sc (levels - 1) n s i (p .left) tag start stop found k means q .left;
+            remaining = leaf-next sc (levels - 1) n s i (p .remaining) tag start stop found k means q .remaining;
             written = p .written ++ leaf-text;
             printed = then (p .printed) put;
             whole-is = leaf-whole;
@@ -124,20 +124,20 @@ module _ (sc : Schema) (levels n : ℕ) (s before : List ℕ) (from at : ℕ) wh
 
       pub nested-accepts : (1 ≤ levels - 1) × Accepts sc (levels - 1) m contents × Accepts sc 8 m contents
       nested-accepts =
-          let x = nested-next sc (levels - 1) n s i (p .left) tag start stop found k means m q in
+          let x = nested-next sc (levels - 1) n s i (p .remaining) tag start stop found k means m q in
           let g = good-deeper sc (levels - 1) 8 m contents (x .inner) (omega arith) (x .good-inner) in
           (x .positive, good-accepts sc (levels - 1) m contents (x .inner) (x .good-inner), good-accepts sc 8 m contents (x .inner) g)
 
-      nested-whole : whole ≡ p .written ++ message-text ++ inner-text ++ lines depth (tree sc n (nested-next sc (levels - 1) n s i (p .left) tag start stop found k means m q .left .rest))
+      nested-whole : whole ≡ p .written ++ message-text ++ inner-text ++ lines depth (tree sc n (nested-next sc (levels - 1) n s i (p .remaining) tag start stop found k means m q .remaining .rest))
       unfolding lines
       nested-whole =
-          let x = nested-next sc (levels - 1) n s i (p .left) tag start stop found k means m q in
+          let x = nested-next sc (levels - 1) n s i (p .remaining) tag start stop found k means m q in
           let g = good-deeper sc (levels - 1) 8 m contents (x .inner) (omega arith) (x .good-inner) in
           let h = x .positive in
           let e : 9 - (levels - 1) ≡ suc depth = omega arith in
           let a = direct-is sc m contents (x .inner) g in
           let b = lines-is sc (levels - 1) m contents (x .inner) (x .good-inner) ∙ ap (λ (d : ℕ). lines d (tree sc m (x .inner))) e in
-          let rest = lines depth (tree sc n (x .left .rest)) in
+          let rest = lines depth (tree sc n (x .remaining .rest)) in
           p .whole-is ∙ ap (λ (t : Tree). p .written ++ lines depth t) (x .tree-is)
           ∙ rw (← a, ← b) (sym (ap (λ (l : List ℕ). l ++ rest) (append-assoc (p .written) message-text inner-text) ∙ append-assoc (p .written) (message-text ++ inner-text) rest))
 
@@ -145,7 +145,7 @@ module _ (sc : Schema) (levels n : ℕ) (s before : List ℕ) (from at : ℕ) wh
           → (r : ℕ) (after : List ℕ) → Printed between from b inner-text r after → Progress stop r after
       nested-written b between put r after more-put =
           record {
-            left = nested-next sc (levels - 1) n s i (p .left) tag start stop found k means m q .left;
+            remaining = nested-next sc (levels - 1) n s i (p .remaining) tag start stop found k means m q .remaining;
             written = p .written ++ message-text ++ inner-text;
             printed = then (then (p .printed) put) more-put;
             whole-is = nested-whole;

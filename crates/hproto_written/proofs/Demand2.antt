@@ -11,7 +11,7 @@ use Rattle.hproto_message.proofs.Accepted.{accepted-exactly}
 use Rattle.hproto_message.proofs.Shortened.{others-more}
 use Rattle.reading.specs.Checks.{counts}
 use Rattle.message_calls.specs.Check.{treeCounts, check}
-use Rattle.message_calls.proofs.Counts.{read-through}
+use Rattle.message_calls.proofs.CheckAnswers.{read-through}
 use Rattle.hproto_state.specs.Answer.{writer}
 use Rattle.hproto_state.specs.Calls.{finished}
 use Rattle.hproto_state.specs.declared.State.{State}

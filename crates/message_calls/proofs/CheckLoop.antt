@@ -132,12 +132,12 @@ module _ (sc : Schema) (inner : Inner) (n at : ℕ) (s : List ℕ) where
             (at + i + w .size + w .len) (omega arith) (nested (tagAt (drop i s)) (take (w .size) (drop i s))) (λ x y. refl) (λ x y. refl) message-held r g x c
             (rw (w .is)) nested-octets u (omega arith) k
 
-        pub nested-refusal : (number place : ℕ) → r ≡ Refused number place → Refused number place ≡ whole
+        pub nested-refusal : (reason place : ℕ) → r ≡ Refused reason place → Refused reason place ≡ whole
         unfolding fieldsFrom afterStep
-        nested-refusal number place u =
+        nested-refusal reason place u =
             let w = found-nested in
             traversal.at-nested-fault fields depth (fieldsFrom sc inner n) at 0 s i f d now (nested (tagAt (drop i s)) (take (w .size) (drop i s))) message-held
-            (fieldsFrom sc inner n (now .fuel - 1) (at + i + w .size + w .len) (drop (w .size + w .len) (drop i s))) r number place (rw (w .is)) nested-octets u
+            (fieldsFrom sc inner n (now .fuel - 1) (at + i + w .size + w .len) (drop (w .size + w .len) (drop i s))) r reason place (rw (w .is)) nested-octets u
 
 -- A message has no more fields than octets.
 fields-few : (sc : Schema) (cut : Cut) (n : ℕ) → Allowed sc n cut → fields cut ≤ length (joined cut)
@@ -168,7 +168,7 @@ counts-small sc levels n field at s f d e = go (messageFrom sc levels n field at
         let l = ap length (g .divides) in
         let m = g .shallow in
         (omega arith, omega arith)
-    go (refused number place) h w = let z : _≡_ {A = ℕ} 0 1 = cc in absurd (omega arith)
+    go (refused reason place) h w = let z : _≡_ {A = ℕ} 0 1 = cc in absurd (omega arith)
 
 -- A message that may be one deep or more is the fields of one message.
 pub room-open : (sc : Schema) (levels n field at : ℕ) (s : List ℕ) → 1 ≤ levels

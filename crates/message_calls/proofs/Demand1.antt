@@ -15,10 +15,10 @@ use Rattle.reading.specs.Checks.{refusal, counts}
 use Rattle.hproto_message.proofs.Accepted.{accepted-exactly, good-cut-unique}
 use Rattle.hproto_message.proofs.FirstFault.{refused-exactly, first-fault-unique, cut-or-fault, cut-no-fault}
 use Rattle.message_calls.specs.Check.{check, treeCounts}
-use Rattle.message_calls.proofs.Counts as checks
+use Rattle.message_calls.proofs.CheckAnswers as checks
 use Rattle.message_calls.specs.Calls.{checkOctets}
 use Rattle.message_calls.specs.Demand1.{Demand1, Demand1Holds}
-use Rattle.message_calls.proofs.Loading.{message-too-long, table-refused, check-as-loaded}
+use Rattle.message_calls.proofs.CallsByOctets.{message-too-long, table-refused, check-as-loaded}
 
 -- Demand 1 of the check that takes a table value, where the loader can give it.
 pub demand-1-under : (t : Table) (n : ℕ) (s : List ℕ) → valid t ≡ true → n ≤ 15 → Octets s → length s ≤ 65536

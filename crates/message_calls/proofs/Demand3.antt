@@ -17,22 +17,22 @@ use Rattle.reading.specs.Reading.{messageLimit}
 use Rattle.reading.specs.Checks as answers
 use Rattle.reading.specs.declared.Checked.{Checked}
 use Rattle.message_calls.specs.Check.{check}
-use Rattle.message_calls.proofs.Passed.{check-passed}
+use Rattle.message_calls.proofs.AcceptedByCheck.{check-passed}
 use Rattle.message_calls.specs.Shorten.{answer, buffer, refusal}
 use Rattle.message_calls.specs.Demand3.{Demand3, Demand3Holds}
 use Rattle.message_calls.specs.declared.Shortened.{Shortened}
 use Rattle.message_calls.proofs.Demand3Loaded.{demand-3-under, refused-alike-under}
 use Rattle.message_calls.specs.Calls.{withTable, checkOctets, shortenOctets, shortenBuffer}
-use Rattle.message_calls.proofs.Loading.{check-as-loaded, shorten-as-loaded, buffer-as-loaded}
+use Rattle.message_calls.proofs.CallsByOctets.{check-as-loaded, shorten-as-loaded, buffer-as-loaded}
 
 -- Where the check refuses, the shortener's answer is the same refusal, and the buffer afterwards the one before.
 abbrev Alike : Checked → Shortened → List ℕ → List ℕ → Type 0
 Alike c r after out =
     (c .refusal ≡ 0 → ⊥) → (r ≡ record { refusal = c .refusal; place = c .place; length = 0 }) × (after ≡ out)
 
-refusal-alike : (number place : ℕ) (out : List ℕ) → Alike (answers.refusal number place) (refusal number place) out out
+refusal-alike : (reason place : ℕ) (out : List ℕ) → Alike (answers.refusal reason place) (refusal reason place) out out
 unfolding answers.refusal refusal
-refusal-alike number place out ne = (refl, refl)
+refusal-alike reason place out ne = (refl, refl)
 
 either-alike : (b : Bool) (c d : Checked) (r q : Shortened) (x y out : List ℕ)
     → Alike c r x out → Alike d q y out → Alike (cond b c d) (cond b r q) (cond b x y) out
@@ -60,11 +60,11 @@ within-limits table to loaded n k s o h =
       shortened = λ c.
           let short = d .shortened c .0 in
           let p = d .shortened c .1 in
-          let e = p .short-accepted in (
+          let e = p .shortest-accepted in (
             short,
             record {
-              short-form = p .short-form;
-              short-accepted = ap (λ (c : Checked). c .refusal) (check-as-loaded table short loaded (check-passed t n short e .0) n) ∙ e;
+              is-shortest = p .is-shortest;
+              shortest-accepted = ap (λ (c : Checked). c .refusal) (check-as-loaded table short loaded (check-passed t n short e .0) n) ∙ e;
               with-room = λ out room.
                   let r = p .with-room out room in
                   (shorten-as-loaded table s loaded h n out ∙ r .0, buffer-as-loaded table s loaded h n out ∙ r .1);

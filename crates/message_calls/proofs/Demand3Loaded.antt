@@ -16,28 +16,28 @@ use Rattle.hproto_table.specs.Schema.{schema}
 use Rattle.hproto_table.specs.Valid.{valid}
 use Rattle.hproto_table.specs.declared.Table.{Table}
 use Rattle.hproto_message.specs.Cut.{Cut, Good}
-use Rattle.hproto_message.specs.ReadTheSame.{HasCut, ShortForm}
+use Rattle.hproto_message.specs.ReadTheSame.{HasCut, IsShortest}
 use Rattle.hproto_message.specs.Tree.{tree}
 use Rattle.hproto_message.specs.Reading.{reading}
 use Rattle.hproto_message.specs.Shortest.{shortest}
-use Rattle.hproto_message.proofs.Shortened.{shortest-no-longer, short-form}
+use Rattle.hproto_message.proofs.Shortened.{shortest-no-longer, is-shortest}
 use Rattle.reading.specs.Checks.{counts}
 use Rattle.reading.specs.declared.Checked.{Checked}
 use Rattle.message_calls.specs.Check.{check, treeCounts}
-use Rattle.message_calls.proofs.Counts.{read-through}
-use Rattle.message_calls.specs.Shorten.{shortForm, answer, buffer}
+use Rattle.message_calls.proofs.CheckAnswers.{read-through}
+use Rattle.message_calls.specs.Shorten.{shortestByTable, answer, buffer}
 use Rattle.message_calls.specs.Demand3.{Demand3}
-use Rattle.message_calls.proofs.Passing.{short-is}
-use Rattle.message_calls.proofs.ShortenAnswers.{shortForm-is, refused-first, no-room, shortened}
-use Rattle.message_calls.proofs.Passed.{check-passed}
+use Rattle.message_calls.proofs.ShortestPrefix.{shortest-is}
+use Rattle.message_calls.proofs.ShortenAnswers.{shortestByTable-is, refused-first, no-room, shortened}
+use Rattle.message_calls.proofs.AcceptedByCheck.{check-passed}
 
 -- Whatever the check refuses under a table value, the shortener refuses alike, and it leaves the second buffer.
 pub refused-alike-under : (t : Table) (n : ℕ) (s : List ℕ) → (check t n s .refusal ≡ 0 → ⊥) → (out : List ℕ)
     → (answer t n s out ≡ record { refusal = check t n s .refusal; place = check t n s .place; length = 0 }) × (buffer t n s out ≡ out)
 unfolding answer buffer
 refused-alike-under t n s ne out =
-    let r = refused-first (check t n s) (shortForm t n s) out (check t n s) refl ne in
-    (sym (r .answered), sym (r .left))
+    let r = refused-first (check t n s) (shortestByTable t n s) out (check t n s) refl ne in
+    (sym (r .result-is), sym (r .buffer-is))
 
 module _ (t : Table) (n : ℕ) (v : valid t ≡ true) (k : n ≤ 15) where
   cut-accepted : (s : List ℕ) → length s ≤ 65536 → HasCut (schema t) n s → check t n s .refusal ≡ 0
@@ -51,39 +51,39 @@ module _ (t : Table) (n : ℕ) (v : valid t ≡ true) (k : n ≤ 15) where
   accepted-cut s e = accepts-good (schema t) depthLimit n s (check-passed t n s e .1)
 
   -- The short form is the shortest form of the tree of the cut.
-  short-of : (s : List ℕ) (cut : Cut) → Good (schema t) depthLimit n s cut → shortForm t n s ≡ shortest (tree (schema t) n cut)
-  short-of s cut g = shortForm-is t n s ∙ short-is (schema t) depthLimit n s cut g
+  short-of : (s : List ℕ) (cut : Cut) → Good (schema t) depthLimit n s cut → shortestByTable t n s ≡ shortest (tree (schema t) n cut)
+  short-of s cut g = shortestByTable-is t n s ∙ shortest-is (schema t) depthLimit n s cut g
 
   module _ (s : List ℕ) (o : Octets s) (h : length s ≤ 65536) (c : HasCut (schema t) n s) where
     passes : check t n s .refusal ≡ 0
     passes = cut-accepted s h c
 
-    is-short : ShortForm (schema t) n s (shortForm t n s)
-    is-short = subst (ShortForm (schema t) n s) (sym (short-of s (c .0) (c .1))) (short-form (schema t) n s (c .0) o (c .1))
+    is-short : IsShortest (schema t) n s (shortestByTable t n s)
+    is-short = subst (IsShortest (schema t) n s) (sym (short-of s (c .0) (c .1))) (is-shortest (schema t) n s (c .0) o (c .1))
 
-    short-passes : check t n (shortForm t n s) .refusal ≡ 0
+    short-passes : check t n (shortestByTable t n s) .refusal ≡ 0
     short-passes =
         let e = ap length (short-of s (c .0) (c .1)) in
         let l = shortest-no-longer (schema t) depthLimit n s (c .0) o (c .1) in
         let same = is-short .reads-the-same in
-        cut-accepted (shortForm t n s) (omega arith) (same .second, same .second-good)
+        cut-accepted (shortestByTable t n s) (omega arith) (same .second, same .second-good)
 
-    written : (out : List ℕ) → length (shortForm t n s) ≤ length out
-        → (answer t n s out ≡ record { refusal = 0; place = 0; length = length (shortForm t n s) })
-        × (buffer t n s out ≡ shortForm t n s ++ drop (length (shortForm t n s)) out)
+    written : (out : List ℕ) → length (shortestByTable t n s) ≤ length out
+        → (answer t n s out ≡ record { refusal = 0; place = 0; length = length (shortestByTable t n s) })
+        × (buffer t n s out ≡ shortestByTable t n s ++ drop (length (shortestByTable t n s)) out)
     unfolding answer buffer
     written out room =
-        let xs = shortForm t n s in
+        let xs = shortestByTable t n s in
         let r = shortened (check t n s) xs out passes (length xs) (stored out 0 xs) room (omega arith) refl in
         let z : 0 + length xs ≡ length xs = omega arith in
-        (sym (r .answered), sym (r .left) ∙ stored-parts out 0 xs (omega arith) ∙ rw z refl)
+        (sym (r .result-is), sym (r .buffer-is) ∙ stored-parts out 0 xs (omega arith) ∙ rw z refl)
 
-    unwritten : (out : List ℕ) → length out < length (shortForm t n s)
+    unwritten : (out : List ℕ) → length out < length (shortestByTable t n s)
         → (answer t n s out ≡ record { refusal = 9; place = 0; length = 0 }) × (buffer t n s out ≡ out)
     unfolding answer buffer
     unwritten out room =
-        let r = no-room (check t n s) (shortForm t n s) out passes room in
-        (sym (r .answered), sym (r .left))
+        let r = no-room (check t n s) (shortestByTable t n s) out passes room in
+        (sym (r .result-is), sym (r .buffer-is))
 
   -- Demand 3 of the calls that take a table value, where the loader can give it.
   pub demand-3-under : (s : List ℕ) → Octets s → length s ≤ 65536 → Demand3 (schema t) (check t) (answer t) (buffer t) n s
@@ -92,13 +92,13 @@ module _ (t : Table) (n : ℕ) (v : valid t ≡ true) (k : n ≤ 15) where
         accepted-exactly-cut = (accepted-cut s, cut-accepted s h);
         one-cut = good-cut-unique (schema t) depthLimit n s;
         shortened = λ c. (
-          shortForm t n s,
-          record { short-form = is-short s o h c; short-accepted = short-passes s o h c; with-room = written s o h c; without-room = unwritten s o h c },
+          shortestByTable t n s,
+          record { is-shortest = is-short s o h c; shortest-accepted = short-passes s o h c; with-room = written s o h c; without-room = unwritten s o h c },
         );
       }
 
   -- The short form of a short form is itself.
-  pub shorten-again : (s : List ℕ) → Octets s → length s ≤ 65536 → HasCut (schema t) n s → shortForm t n (shortForm t n s) ≡ shortForm t n s
+  pub shorten-again : (s : List ℕ) → Octets s → length s ≤ 65536 → HasCut (schema t) n s → shortestByTable t n (shortestByTable t n s) ≡ shortestByTable t n s
   shorten-again s o h c =
       let r = is-short s o h c .reads-the-same in
-      short-of (shortForm t n s) (r .second) (r .second-good) ∙ ap shortest (r .same-tree) ∙ sym (short-of s (r .first) (r .first-good))
+      short-of (shortestByTable t n s) (r .second) (r .second-good) ∙ ap shortest (r .same-tree) ∙ sym (short-of s (r .first) (r .first-good))

@@ -24,18 +24,18 @@ use Rattle.hproto_message.specs.Reading.{reading}
 use Rattle.hproto_message.proofs.Accepted.{accepted-good}
 use Rattle.message_calls.specs.Check.{check, checkUnder}
 use Rattle.reading.specs.declared.Checked.{Checked}
-use Rattle.message_calls.specs.Lookup.{Outer, outermost, chosen, refusal, found, foundIn, answer, lookup, lookupLast}
-use Rattle.message_calls.specs.internal.LookupUnder.{answerUnder, lookupUnder, lookupLastUnder}
-use Rattle.message_calls.specs.internal.Spots.{places, spotOf, nthSpot, lastSpot, chosenSpot, uintIn, intIn, read}
+use Rattle.message_calls.specs.Lookup.{ItemSpan, outermost, chosen, refusal, found, foundIn, answer, lookup, lookupLast}
+use Rattle.message_calls.specs.internal.LookupUnder.{lookUnder, lookupUnder, lookupLastUnder}
+use Rattle.message_calls.specs.internal.Spans.{spans, optionalSpan, nthSpan, lastSpan, chosenSpan, uintIn, intIn, read}
 use Rattle.message_calls.specs.declared.outermost.Occurrence.{Occurrence}
 use Rattle.message_calls.specs.declared.outermost.Occurrence.the-variants.{Nth, Last}
-use Rattle.message_calls.specs.declared.outermost.Spot.{Spot}
-use Rattle.message_calls.specs.declared.outermost.Spot.the-variants.{Absent, At}
-use Rattle.message_calls.proofs.Choosing.{Of, chosen-map, chosen-each, withTag-each}
-use Rattle.message_calls.proofs.Outers.{itemOf, Held, each-held, placeOf, places-are}
+use Rattle.message_calls.specs.declared.outermost.OptionalSpan.{OptionalSpan}
+use Rattle.message_calls.specs.declared.outermost.OptionalSpan.the-variants.{Absent, At}
+use Rattle.message_calls.proofs.ChosenElements.{Of, chosen-map, chosen-each, withTag-each}
+use Rattle.message_calls.proofs.OutermostSpans.{itemOf, Held, each-held, spanOf, spans-are}
 use Rattle.message_calls.specs.InTree.{Shows}
-use Rattle.message_calls.proofs.Passed.{under-passed}
-use Rattle.message_calls.proofs.Counts.{under-valid}
+use Rattle.message_calls.proofs.AcceptedByCheck.{under-passed}
+use Rattle.message_calls.proofs.CheckAnswers.{under-valid}
 
 -- Contents that are allowed for a kind are answered with the kind's number and their value.
 read-leaf : (k : Meaning) (t start : ℕ) (b : List ℕ) → Contents k b
@@ -55,7 +55,7 @@ read-item sc levels n (Item.leaf t v) start b h = rw (h .0) (read-leaf (sc .mean
 read-item sc levels n (Item.nested t inside) start b h = rw (h .2)
 
 -- What was found is read from the octets at its place.
-read-outer : (sc : Schema) (levels n : ℕ) (s : List ℕ) (o : Outer) (t : ℕ) → Held sc levels n s o → itemTag (o .item) ≡ t
+read-outer : (sc : Schema) (levels n : ℕ) (s : List ℕ) (o : ItemSpan) (t : ℕ) → Held sc levels n s o → itemTag (o .item) ≡ t
     → read (kindNumber (sc .means n t)) (o .start) (take (o .length) (drop (o .start) s)) ≡ found (some o)
 unfolding found
 read-outer sc levels n s o t h e =
@@ -64,15 +64,15 @@ read-outer sc levels n s o t h e =
     let r = read-item sc levels n (o .item) (o .start) (take (o .length) (drop (o .start) s)) (h .shows) in
     rw (← e) (r ∙ rw l)
 
-chosen-spot : (t : ℕ) (w : Occurrence) (s : List ℕ) → chosenSpot t w s ≡ spotOf (chosen w (places t s))
-unfolding chosenSpot nthSpot lastSpot chosen
-chosen-spot t (Nth k) s = refl
-chosen-spot t Last s = refl
+chosen-span : (t : ℕ) (w : Occurrence) (s : List ℕ) → chosenSpan t w s ≡ optionalSpan (chosen w (spans t s))
+unfolding chosenSpan nthSpan lastSpan chosen
+chosen-span t (Nth k) s = refl
+chosen-span t Last s = refl
 
 -- Under the schema of a table that the loader can give, a lookup answers as under the table.
 module _ (t : Table) (sc : Schema) (same : sc ≡ schema t) (n : ℕ) (s : List ℕ) (h : length s ≤ 65536) (v : valid t ≡ true) (tag : ℕ) where
-  pub answer-under : (which : Occurrence) → answerUnder sc n s tag which ≡ answer t n s tag which
-  unfolding answerUnder answer
+  pub answer-under : (which : Occurrence) → lookUnder sc n s tag which ≡ answer t n s tag which
+  unfolding lookUnder answer
   answer-under which = rw (under-valid t n s h v sc same, same) refl
 
   pub lookup-under : (k : ℕ) → lookupUnder sc n s tag k ≡ lookup t n s tag k
@@ -84,35 +84,35 @@ module _ (t : Table) (sc : Schema) (same : sc ≡ schema t) (n : ℕ) (s : List 
   last-under = answer-under Last
 
 module _ (sc : Schema) (n : ℕ) (s : List ℕ) (tag : ℕ) (which : Occurrence) where
-  pub refused-under : (c : Checked) → c ≡ checkUnder sc n s → (c .refusal ≡ 0 → ⊥) → refusal (c .refusal) (c .place) ≡ answerUnder sc n s tag which
-  unfolding answerUnder
+  pub refused-under : (c : Checked) → c ≡ checkUnder sc n s → (c .refusal ≡ 0 → ⊥) → refusal (c .refusal) (c .place) ≡ lookUnder sc n s tag which
+  unfolding lookUnder
   refused-under c e ne =
       let f : eqb (checkUnder sc n s .refusal) 0 ≡ false = ap (λ (x : Checked). eqb (x .refusal) 0) (sym e) ∙ ne-eqb (c .refusal) 0 ne in
       rw (f, ← e)
 
   -- The outermost field that is wanted.
-  unfoldable pub wanted : Cut → Option Outer
+  unfoldable pub wanted : Cut → Option ItemSpan
   wanted cut = chosen which (withTag itemOf tag (outermost sc n 0 cut))
 
-  pub answered-under : checkUnder sc n s .refusal ≡ 0 → (cut : Cut) → reading sc n s ≡ accepted cut → answerUnder sc n s tag which ≡ found (wanted cut)
-  unfolding answerUnder foundIn wanted
+  pub answered-under : checkUnder sc n s .refusal ≡ 0 → (cut : Cut) → reading sc n s ≡ accepted cut → lookUnder sc n s tag which ≡ found (wanted cut)
+  unfolding lookUnder foundIn wanted
   answered-under e cut f = rw (eq-eqb (checkUnder sc n s .refusal) 0 e, f)
 
   -- It stands in the message.
   pub wanted-held : (cut : Cut) → Good sc 8 n s cut
-      → Of (λ (o : Outer). Held sc 7 n s o × (itemTag (o .item) ≡ tag)) (wanted cut)
+      → Of (λ (o : ItemSpan). Held sc 7 n s o × (itemTag (o .item) ≡ tag)) (wanted cut)
   unfolding wanted
   wanted-held cut g =
-      chosen-each (λ (o : Outer). Held sc 7 n s o × (itemTag (o .item) ≡ tag)) which (withTag itemOf tag (outermost sc n 0 cut))
+      chosen-each (λ (o : ItemSpan). Held sc 7 n s o × (itemTag (o .item) ≡ tag)) which (withTag itemOf tag (outermost sc n 0 cut))
       (withTag-each (Held sc 7 n s) itemOf tag (outermost sc n 0 cut)
       (each-held sc 7 n s cut 0 (sym (g .divides)) (g .allowed) (g .shallow)))
 
   -- The verdict finds its place.
-  spot-is : (cut : Cut) → Good sc 8 n s cut → chosenSpot tag which s ≡ spotOf (Option·map placeOf (wanted cut))
+  span-is : (cut : Cut) → Good sc 8 n s cut → chosenSpan tag which s ≡ optionalSpan (Option·map spanOf (wanted cut))
   unfolding wanted
-  spot-is cut g =
-      chosen-spot tag which s
-      ∙ rw (places-are sc n tag s 8 cut g, chosen-map placeOf which (withTag itemOf tag (outermost sc n 0 cut)))
+  span-is cut g =
+      chosen-span tag which s
+      ∙ rw (spans-are sc n tag s 8 cut g, chosen-map spanOf which (withTag itemOf tag (outermost sc n 0 cut)))
 
   module _ (e : checkUnder sc n s .refusal ≡ 0) where
     cut : Cut
@@ -122,15 +122,15 @@ module _ (sc : Schema) (n : ℕ) (s : List ℕ) (tag : ℕ) (which : Occurrence)
     unfolding reading cut
     is-good = accepted-good sc 8 n 0 0 s (under-passed sc n s e .1 .0) (under-passed sc n s e .1 .1)
 
-    is-answered : answerUnder sc n s tag which ≡ found (wanted cut)
+    is-answered : lookUnder sc n s tag which ≡ found (wanted cut)
     unfolding cut
     is-answered = answered-under e (under-passed sc n s e .1 .0) (under-passed sc n s e .1 .1)
 
-    pub absent : (p : Spot) → p ≡ chosenSpot tag which s → p ≡ Absent → refusal 18 0 ≡ answerUnder sc n s tag which
-    unfolding spotOf found
-    absent p f a = sym (is-answered ∙ go (wanted cut) (sym (spot-is cut is-good) ∙ sym f ∙ a))
+    pub absent : (p : OptionalSpan) → p ≡ chosenSpan tag which s → p ≡ Absent → refusal 18 0 ≡ lookUnder sc n s tag which
+    unfolding optionalSpan found
+    absent p f a = sym (is-answered ∙ go (wanted cut) (sym (span-is cut is-good) ∙ sym f ∙ a))
       where
-        go : (o : Option Outer) → spotOf (Option·map placeOf o) ≡ Absent → found o ≡ refusal 18 0
+        go : (o : Option ItemSpan) → optionalSpan (Option·map spanOf o) ≡ Absent → found o ≡ refusal 18 0
         go none h = refl
         go (some o) h = let z : _≡_ {A = ℕ} 0 1 = cc in absurd (omega arith)
 
@@ -138,14 +138,14 @@ module _ (sc : Schema) (n : ℕ) (s : List ℕ) (tag : ℕ) (which : Occurrence)
     pub record Present (start end : ℕ) : Type 0 where
       pub ordered : start ≤ end
       pub inside : end ≤ length s
-      pub answers : read (kindNumber (sc .means n tag)) start (take (end - start) (drop start s)) ≡ answerUnder sc n s tag which
+      pub answers : read (kindNumber (sc .means n tag)) start (take (end - start) (drop start s)) ≡ lookUnder sc n s tag which
 
-    pub present : (start end : ℕ) (p : Spot) → p ≡ chosenSpot tag which s → p ≡ At start end → Present start end
-    unfolding spotOf Of
-    present start end p f a = go (wanted cut) refl (wanted-held cut is-good) (sym (spot-is cut is-good) ∙ sym f ∙ a)
+    pub present : (start end : ℕ) (p : OptionalSpan) → p ≡ chosenSpan tag which s → p ≡ At start end → Present start end
+    unfolding optionalSpan Of
+    present start end p f a = go (wanted cut) refl (wanted-held cut is-good) (sym (span-is cut is-good) ∙ sym f ∙ a)
       where
-        go : (o : Option Outer) → wanted cut ≡ o → Of (λ (o : Outer). Held sc 7 n s o × (itemTag (o .item) ≡ tag)) o
-            → spotOf (Option·map placeOf o) ≡ At start end → Present start end
+        go : (o : Option ItemSpan) → wanted cut ≡ o → Of (λ (o : ItemSpan). Held sc 7 n s o × (itemTag (o .item) ≡ tag)) o
+            → optionalSpan (Option·map spanOf o) ≡ At start end → Present start end
         go none w h d = let z : _≡_ {A = ℕ} 0 1 = cc in absurd (omega arith)
         go (some o) w h d =
             let x : o .start ≡ start = cc in

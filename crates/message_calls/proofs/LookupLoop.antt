@@ -11,9 +11,9 @@ use Rattle.hproto_field.specs.declared.Head.{Head}
 use Rattle.hproto_field.specs.declared.Head.the-variants.{End, Fault, Field}
 use Rattle.hproto_field.proofs.Heads.{extent, Fieldless}
 use Rattle.message_calls.specs.Lookup.{lastOr}
-use Rattle.message_calls.specs.internal.Spots.{Span, afterHead, placesFrom, places, spotOf, nthSpot, lastSpot}
-use Rattle.message_calls.specs.declared.outermost.Spot.{Spot}
-use Rattle.message_calls.specs.declared.outermost.Spot.the-variants as spot
+use Rattle.message_calls.specs.internal.Spans.{Span, afterHead, spansFrom, spans, optionalSpan, nthSpan, lastSpan}
+use Rattle.message_calls.specs.declared.outermost.OptionalSpan.{OptionalSpan}
+use Rattle.message_calls.specs.declared.outermost.OptionalSpan.the-variants as optional
 
 module _ {A : Type 0} (x : A) (l : List A) where
   first-is : (k : ℕ) → k ≡ 0 → getElem? (x ∷ l) k ≡ some x
@@ -30,28 +30,28 @@ module _ (tag : ℕ) (s : List ℕ) where
     pub inside : i ≤ length s
     pub enough : length s < i + fuel
 
-  -- The places from i on.
+  -- The spans from i on.
   unfoldable pub rest : (i : ℕ) → Ahead i → List Span
-  rest i a = placesFrom tag s (a .fuel) i
+  rest i a = spansFrom tag s (a .fuel) i
 
   at-start : Ahead 0
   at-start = record { fuel = suc (length s); inside = omega arith; enough = omega arith }
 
-  all-ahead : places tag s ≡ rest 0 at-start
-  unfolding places rest at-start
+  all-ahead : spans tag s ≡ rest 0 at-start
+  unfolding spans rest at-start
   all-ahead = refl
 
   -- No field stands at i.
   none-ahead : (i : ℕ) (a : Ahead i) (h : Head) → headAt i (drop i s) ≡ h → Fieldless h → rest i a ≡ []
-  unfolding rest placesFrom afterHead Fieldless
+  unfolding rest spansFrom afterHead Fieldless
   none-ahead i a h e q = go (a .fuel)
     where
-      nothing : (fuel : ℕ) (h : Head) → Fieldless h → afterHead tag (placesFrom tag s fuel) h ≡ []
+      nothing : (fuel : ℕ) (h : Head) → Fieldless h → afterHead tag (spansFrom tag s fuel) h ≡ []
       nothing fuel End q = refl
       nothing fuel (Fault k) q = refl
       nothing fuel (Field t start end) q = absurd q
 
-      go : (fuel : ℕ) → placesFrom tag s fuel i ≡ []
+      go : (fuel : ℕ) → spansFrom tag s fuel i ≡ []
       go zero = refl
       go (suc fuel) = rw e (nothing fuel h q)
 
@@ -65,7 +65,7 @@ module _ (tag : ℕ) (s : List ℕ) where
       pub other : (t ≡ tag → ⊥) → rest i a ≡ rest end ahead
 
     pub onward : Onward
-    unfolding rest placesFrom afterHead
+    unfolding rest spansFrom afterHead
     onward = go (a .fuel) (a .enough) refl
       where
         go : (fuel : ℕ) → length s < i + fuel → a .fuel ≡ fuel → Onward
@@ -82,65 +82,65 @@ module _ (tag : ℕ) (s : List ℕ) where
               other = λ m. rw (f, e, ne-eqb t tag m);
             }
 
-  -- The k-th place is the `left`-th of those from i on.
-  pub record Sought (k i left : ℕ) : Type 0 where
+  -- The k-th span is the `remaining`-th of those from i on.
+  pub record Sought (k i remaining : ℕ) : Type 0 where
     pub ahead : Ahead i
-    pub same : getElem? (places tag s) k ≡ getElem? (rest i ahead) left
+    pub same : getElem? (spans tag s) k ≡ getElem? (rest i ahead) remaining
 
   pub nothing-sought : (k : ℕ) → Sought k 0 k
   nothing-sought k = record { ahead = at-start; same = ap (λ (l : List Span). getElem? l k) all-ahead }
 
-  pub not-there : (k i left : ℕ) → Sought k i left → (h : Head) → headAt i (drop i s) ≡ h → Fieldless h → spot.Absent ≡ nthSpot tag k s
-  unfolding nthSpot spotOf
-  not-there k i left q h e f = rw (q .same, none-ahead i (q .ahead) h e f)
+  pub not-there : (k i remaining : ℕ) → Sought k i remaining → (h : Head) → headAt i (drop i s) ≡ h → Fieldless h → optional.Absent ≡ nthSpan tag k s
+  unfolding nthSpan optionalSpan
+  not-there k i remaining q h e f = rw (q .same, none-ahead i (q .ahead) h e f)
 
-  module _ (k i left : ℕ) (q : Sought k i left) (t start end : ℕ) (e : headAt i (drop i s) ≡ Field t start end) where
+  module _ (k i remaining : ℕ) (q : Sought k i remaining) (t start end : ℕ) (e : headAt i (drop i s) ≡ Field t start end) where
     next : Onward i (q .ahead) t start end e
     next = onward i (q .ahead) t start end e
 
-    pub other-passed : (t ≡ tag → ⊥) → Sought k end left
-    other-passed m = record { ahead = next .ahead; same = q .same ∙ ap (λ (l : List Span). getElem? l left) (next .other m) }
+    pub other-passed : (t ≡ tag → ⊥) → Sought k end remaining
+    other-passed m = record { ahead = next .ahead; same = q .same ∙ ap (λ (l : List Span). getElem? l remaining) (next .other m) }
 
-    pub reached : t ≡ tag → left ≡ 0 → spot.At start end ≡ nthSpot tag k s
-    unfolding nthSpot spotOf
+    pub reached : t ≡ tag → remaining ≡ 0 → optional.At start end ≡ nthSpan tag k s
+    unfolding nthSpan optionalSpan
     reached m z =
-        let f : getElem? (places tag s) k ≡ some (record { start = start; end = end }) =
-        q .same ∙ ap (λ (l : List Span). getElem? l left) (next .matched m) ∙ first-is (record { start = start; end = end }) (rest end (next .ahead)) left z in
+        let f : getElem? (spans tag s) k ≡ some (record { start = start; end = end }) =
+        q .same ∙ ap (λ (l : List Span). getElem? l remaining) (next .matched m) ∙ first-is (record { start = start; end = end }) (rest end (next .ahead)) remaining z in
         rw f
 
-    pub one-passed : t ≡ tag → (left ≡ 0 → ⊥) → Sought k end (left - 1)
+    pub one-passed : t ≡ tag → (remaining ≡ 0 → ⊥) → Sought k end (remaining - 1)
     one-passed m z =
         record {
           ahead = next .ahead;
           same =
-              q .same ∙ ap (λ (l : List Span). getElem? l left) (next .matched m)
-              ∙ later-is (record { start = start; end = end }) (rest end (next .ahead)) left z;
+              q .same ∙ ap (λ (l : List Span). getElem? l remaining) (next .matched m)
+              ∙ later-is (record { start = start; end = end }) (rest end (next .ahead)) remaining z;
         }
 
   -- `best` is the last place before i, if there is one.
-  pub record Latest (i : ℕ) (best : Spot) : Type 0 where
+  pub record Latest (i : ℕ) (best : OptionalSpan) : Type 0 where
     pub ahead : Ahead i
     pub held : Option Span
-    pub best-is : best ≡ spotOf held
-    pub same : lastOr none (places tag s) ≡ lastOr held (rest i ahead)
+    pub best-is : best ≡ optionalSpan held
+    pub same : lastOr none (spans tag s) ≡ lastOr held (rest i ahead)
 
-  pub nothing-held : Latest 0 spot.Absent
-  unfolding spotOf
+  pub nothing-held : Latest 0 optional.Absent
+  unfolding optionalSpan
   nothing-held = record { ahead = at-start; held = none; best-is = refl; same = ap (lastOr none) all-ahead }
 
-  pub settled : (i : ℕ) (best : Spot) → Latest i best → (h : Head) → headAt i (drop i s) ≡ h → Fieldless h → best ≡ lastSpot tag s
-  unfolding lastSpot lastOr
+  pub settled : (i : ℕ) (best : OptionalSpan) → Latest i best → (h : Head) → headAt i (drop i s) ≡ h → Fieldless h → best ≡ lastSpan tag s
+  unfolding lastSpan lastOr
   settled i best q h e f = rw (q .best-is, q .same, none-ahead i (q .ahead) h e f)
 
-  module _ (i : ℕ) (best : Spot) (q : Latest i best) (t start end : ℕ) (e : headAt i (drop i s) ≡ Field t start end) where
+  module _ (i : ℕ) (best : OptionalSpan) (q : Latest i best) (t start end : ℕ) (e : headAt i (drop i s) ≡ Field t start end) where
     after : Onward i (q .ahead) t start end e
     after = onward i (q .ahead) t start end e
 
     pub kept : (t ≡ tag → ⊥) → Latest end best
     kept m = record { ahead = after .ahead; held = q .held; best-is = q .best-is; same = q .same ∙ ap (lastOr (q .held)) (after .other m) }
 
-    pub taken : t ≡ tag → Latest end (spot.At start end)
-    unfolding lastOr spotOf
+    pub taken : t ≡ tag → Latest end (optional.At start end)
+    unfolding lastOr optionalSpan
     taken m =
         record {
           ahead = after .ahead;

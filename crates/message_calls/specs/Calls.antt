@@ -1,9 +1,10 @@
--- What the calls answer that take a field table as its octets.
+-- The answers of the calls that take the octets of a field table.
 use Prim.Native.Nat.{ℕ}
 use mathlib.Core.Bool.{cond}
 use mathlib.Core.List.{List}
 use lib.ListN.{length}
 use lib.Dec.{ltb, eqb}
+use Rattle.reading.specs.Refusals as refusals
 use Rattle.reading.specs.Reading.{messageLimit}
 use Rattle.reading.specs.Checks as answers
 use Rattle.hproto_table.specs.Load.{load}
@@ -16,10 +17,10 @@ use Rattle.message_calls.specs.declared.Shortened.{Shortened}
 use Rattle.message_calls.specs.Lookup as lookups
 use Rattle.message_calls.specs.declared.Found.{Found}
 
--- Document 01's order: 1 for a message that is too long, the loader's refusal, then what is answered under the loaded table.
+-- Document 01's order: first a message that is too long is refused, then a table that the loader refuses; else the loaded table is used.
 unfoldable pub withTable : {A : Type 0} → List ℕ → List ℕ → (Table → A) → (ℕ → ℕ → A) → A
 withTable octets message under refuse =
-    cond (ltb messageLimit (length message)) (refuse 1 0)
+    cond (ltb messageLimit (length message)) (refuse refusals.tooLong 0)
     (cond (eqb (load octets .refusal) 0) (under (load octets .table)) (refuse (load octets .refusal) (load octets .place)))
 
 unfoldable pub checkOctets : List ℕ → ℕ → List ℕ → Checked
@@ -30,7 +31,7 @@ shortenOctets octets n s out = withTable octets s (λ t. shortens.answer t n s o
 
 -- The second buffer afterwards.
 unfoldable pub shortenBuffer : List ℕ → ℕ → List ℕ → List ℕ → List ℕ
-shortenBuffer octets n s out = withTable octets s (λ t. shortens.buffer t n s out) (λ number place. out)
+shortenBuffer octets n s out = withTable octets s (λ t. shortens.buffer t n s out) (λ reason place. out)
 
 unfoldable pub lookupOctets : List ℕ → ℕ → List ℕ → ℕ → ℕ → Found
 lookupOctets octets n s tag k = withTable octets s (λ t. lookups.lookup t n s tag k) lookups.refusal

@@ -1,10 +1,11 @@
--- What the check answers.
+-- The answer of the check.
 use Prim.Native.Nat.{ℕ}
 use mathlib.Core.Bool.{cond}
 use mathlib.Core.List.{List}
 use lib.ListN.{length}
 use lib.Dec.{ltb}
-use Rattle.reading.specs.Reading.{Reading, messageLimit}
+use Rattle.reading.specs.Refusals as refusals
+use Rattle.reading.specs.Reading.{Reading, messageLimit, lastNumber}
 use Rattle.reading.specs.Checks.{refusal, counts}
 use Rattle.reading.specs.declared.Checked.{Checked}
 use Rattle.hproto_table.specs.Schema.{Schema, schema}
@@ -18,13 +19,13 @@ use Rattle.hproto_message.specs.Reading.{reading}
 unfoldable pub treeCounts : Schema → ℕ → Reading Cut → Checked
 treeCounts sc n r = counts (λ (cut : Cut). fields (tree sc n cut)) (λ (cut : Cut). depth (tree sc n cut)) r
 
--- A message of a number under a schema: over the limit it is refused with 1, and a number over 15 with 2.
+-- The check under a schema. A message over the length limit is refused first, then a message number over the last.
 unfoldable pub checkUnder : Schema → ℕ → List ℕ → Checked
 checkUnder sc n s =
-    cond (ltb messageLimit (length s)) (refusal 1 0)
-    (cond (ltb 15 n) (refusal 2 0)
+    cond (ltb messageLimit (length s)) (refusal refusals.tooLong 0)
+    (cond (ltb lastNumber n) (refusal refusals.table 0)
     (treeCounts sc n (reading sc n s)))
 
--- The same under a table. A table value that the loader cannot give is refused with 2, after 1.
+-- The check under a table. A message over the length limit is refused first, then a table value that the loader cannot return.
 unfoldable pub check : Table → ℕ → List ℕ → Checked
-check t n s = cond (ltb messageLimit (length s)) (refusal 1 0) (cond (valid t) (checkUnder (schema t) n s) (refusal 2 0))
+check t n s = cond (ltb messageLimit (length s)) (refusal refusals.tooLong 0) (cond (valid t) (checkUnder (schema t) n s) (refusal refusals.table 0))

@@ -7,7 +7,8 @@ use mathlib.Core.Path.{_≡_}
 use mathlib.Core.List.{List}
 use mathlib.Core.Logic.{_⊎_}
 use lib.ListN.{length}
-use Rattle.reading.specs.Reading.{messageLimit, depthLimit}
+use Rattle.reading.specs.Refusals as refusals
+use Rattle.reading.specs.Reading.{messageLimit, depthLimit, lastNumber}
 use Rattle.reading.specs.Checks.{refusal}
 use Rattle.reading.specs.declared.Checked.{Checked}
 use Rattle.octets.specs.Number.{Octets}
@@ -16,7 +17,7 @@ use Rattle.hproto_table.specs.Schema.{Schema, schema}
 use Rattle.hproto_message.specs.Cut.{Cut, Good}
 use Rattle.hproto_message.specs.Tree.{tree, fields, depth}
 use Rattle.hproto_message.specs.ReadTheSame.{HasCut}
-use Rattle.hproto_message.specs.FirstFault.{Fault, FirstFault, HasFault, faultNumber, faultPlace}
+use Rattle.hproto_message.specs.FirstFault.{Fault, FirstFault, HasFault, faultRefusal, faultPlace}
 
 -- The check's answer for a message of a number that is read under a schema.
 pub record Demand1 (sc : Schema) (n : ℕ) (s : List ℕ) (answer : Checked) : Type 0 where
@@ -29,18 +30,18 @@ pub record Demand1 (sc : Schema) (n : ℕ) (s : List ℕ) (answer : Checked) : T
   pub with-cut : (cut : Cut) → Good sc depthLimit n s cut
       → answer ≡ record { refusal = 0; place = 0; fields = fields (tree sc n cut); depth = depth (tree sc n cut) }
   -- With a first fault it is refused with the fault's number, from 3 to 7, at the fault's place.
-  pub with-fault : (fault : Fault) → FirstFault sc depthLimit n s fault → answer ≡ refusal (faultNumber fault) (faultPlace fault)
+  pub with-fault : (fault : Fault) → FirstFault sc depthLimit n s fault → answer ≡ refusal (faultRefusal fault) (faultPlace fault)
 
 -- Demand 1 of a check, for all table octets, message numbers and messages: four cases in document 01's order.
 pub record Demand1Holds (check : List ℕ → ℕ → List ℕ → Checked) : Type 0 where
   -- A message of more than 65,536 octets is refused with 1 at 0, whatever the table and the number are.
-  pub too-long : (table : List ℕ) (n : ℕ) (s : List ℕ) → messageLimit < length s → check table n s ≡ refusal 1 0
+  pub too-long : (table : List ℕ) (n : ℕ) (s : List ℕ) → messageLimit < length s → check table n s ≡ refusal refusals.tooLong 0
   -- A table that the loader refuses is refused with 2 at the loader's place, whatever the number is.
   pub bad-table : (table : List ℕ) (n : ℕ) (s : List ℕ) → length s ≤ messageLimit → (load table .refusal ≡ 0 → ⊥)
-      → check table n s ≡ refusal 2 (load table .place)
+      → check table n s ≡ refusal refusals.table (load table .place)
   -- A number over 15 is refused with 2 at 0.
-  pub bad-number : (table : List ℕ) (n : ℕ) (s : List ℕ) → length s ≤ messageLimit → load table .refusal ≡ 0 → 15 < n
-      → check table n s ≡ refusal 2 0
+  pub bad-number : (table : List ℕ) (n : ℕ) (s : List ℕ) → length s ≤ messageLimit → load table .refusal ≡ 0 → lastNumber < n
+      → check table n s ≡ refusal refusals.table 0
   -- Otherwise the message is read.
-  pub otherwise : (table : List ℕ) (n : ℕ) (s : List ℕ) → length s ≤ messageLimit → load table .refusal ≡ 0 → n ≤ 15 → Octets table → Octets s
+  pub otherwise : (table : List ℕ) (n : ℕ) (s : List ℕ) → length s ≤ messageLimit → load table .refusal ≡ 0 → n ≤ lastNumber → Octets table → Octets s
       → Demand1 (schema (load table .table)) n s (check table n s)

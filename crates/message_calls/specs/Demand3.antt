@@ -6,14 +6,15 @@ use mathlib.Core.Path.{_≡_}
 use mathlib.Core.List.{List, _++_}
 use mathlib.Core.Logic.{_↔_}
 use lib.ListN.{length, drop}
-use Rattle.reading.specs.Reading.{messageLimit, depthLimit}
+use Rattle.reading.specs.Refusals as refusals
+use Rattle.reading.specs.Reading.{messageLimit, depthLimit, lastNumber}
 use Rattle.reading.specs.declared.Checked.{Checked}
 use Rattle.octets.specs.Number.{Octets}
 use Rattle.hproto_table.specs.Load.{load}
 use Rattle.hproto_table.specs.Schema.{Schema, schema}
 use Rattle.hproto_table.specs.declared.Loaded.{Loaded}
 use Rattle.hproto_message.specs.Cut.{Cut, Good}
-use Rattle.hproto_message.specs.ReadTheSame.{HasCut, ShortForm}
+use Rattle.hproto_message.specs.ReadTheSame.{HasCut, IsShortest}
 use Rattle.message_calls.specs.declared.Shortened.{Shortened}
 
 -- The schema of a table, and what the calls answer under that table: the check by message number and message, the shortener and the
@@ -22,20 +23,20 @@ module _ (sc : Schema) (check : ℕ → List ℕ → Checked) (shorten : ℕ →
     (n : ℕ) (s : List ℕ) where
   -- The message is shortened to these octets: the shortest that read the same, which the check accepts. With room the shortener writes
   -- them at the front of the second buffer and leaves the rest; without room it refuses with 9 and leaves every octet.
-  pub record Shortens (short : List ℕ) : Type 0 where
-    pub short-form : ShortForm sc n s short
-    pub short-accepted : check n short .refusal ≡ 0
-    pub with-room : (out : List ℕ) → length short ≤ length out
-        → (shorten n s out ≡ record { refusal = 0; place = 0; length = length short }) × (buffer n s out ≡ short ++ drop (length short) out)
-    pub without-room : (out : List ℕ) → length out < length short
-        → (shorten n s out ≡ record { refusal = 9; place = 0; length = 0 }) × (buffer n s out ≡ out)
+  pub record Shortens (shortest : List ℕ) : Type 0 where
+    pub is-shortest : IsShortest sc n s shortest
+    pub shortest-accepted : check n shortest .refusal ≡ 0
+    pub with-room : (out : List ℕ) → length shortest ≤ length out
+        → (shorten n s out ≡ record { refusal = 0; place = 0; length = length shortest }) × (buffer n s out ≡ shortest ++ drop (length shortest) out)
+    pub without-room : (out : List ℕ) → length out < length shortest
+        → (shorten n s out ≡ record { refusal = refusals.noRoom; place = 0; length = 0 }) × (buffer n s out ≡ out)
 
   -- What the order's third demand says of a message of a number. The check accepts it exactly where it has a cut; it has at most one; and
   -- where it has one, there are octets that it is shortened to.
   pub record Demand3 : Type 0 where
     pub accepted-exactly-cut : (check n s .refusal ≡ 0) ↔ HasCut sc n s
     pub one-cut : (a b : Cut) → Good sc depthLimit n s a → Good sc depthLimit n s b → a ≡ b
-    pub shortened : HasCut sc n s → (short : List ℕ) × Shortens short
+    pub shortened : HasCut sc n s → (shortest : List ℕ) × Shortens shortest
 
 -- Demand 3 of the order, of calls that take a field table as its octets.
 pub record Demand3Holds (check : List ℕ → ℕ → List ℕ → Checked) (shorten : List ℕ → ℕ → List ℕ → List ℕ → Shortened)
@@ -47,5 +48,5 @@ pub record Demand3Holds (check : List ℕ → ℕ → List ℕ → Checked) (sho
       × (buffer table n s out ≡ out)
   -- The rest is for all table octets that the loader does not refuse, all message numbers up to 15 and all messages of at most 65,536 octets.
   pub within-limits : (table : List ℕ) → Octets table → load table .refusal ≡ 0
-      → (n : ℕ) → n ≤ 15 → (s : List ℕ) → Octets s → length s ≤ messageLimit
+      → (n : ℕ) → n ≤ lastNumber → (s : List ℕ) → Octets s → length s ≤ messageLimit
       → Demand3 (schema (load table .table)) (check table) (shorten table) (buffer table) n s

@@ -1,9 +1,10 @@
--- What a lookup answers, said of the tree of a message.
+-- The answer of a lookup, stated of the tree of a message.
 use Prim.Native.Nat.{ℕ, _+_, _≤_}
 use mathlib.Core.Path.{_≡_}
 use mathlib.Core.List.{List}
 use mathlib.Core.Option.{Option, none, some}
 use lib.ListN.{length, take, drop}
+use Rattle.reading.specs.Refusals as refusals
 use Rattle.hproto_table.specs.Schema.{Schema}
 use Rattle.message_calls.specs.Lookup.{refusal}
 use Rattle.message_calls.specs.declared.Found.{Found}
@@ -12,7 +13,7 @@ use Rattle.hproto_message.specs.Cut.{Cut, Contents, Good}
 use Rattle.hproto_message.specs.Tree.{value, tree}
 use Rattle.hproto_message.specs.Items.{Item, itemTag, itemKind, uintOf, intOf}
 
--- What octets say of a field of the tree whose contents they are. A field that is no message has the value that they have by the kind of
+-- The octets are the contents of a field of the tree. A field that is no message has the value that they have by the kind of
 -- its tag. A nested message has them as its octets: they are joined from a good cut under the inner number, and its tree is the field's.
 unfoldable pub Shows : Schema → ℕ → ℕ → List ℕ → Item → Type 0
 Shows sc levels n b (Item.leaf t v) = (v ≡ value (sc .means n t) b) × Contents (sc .means n t) b
@@ -31,7 +32,7 @@ pub record Gives (sc : Schema) (n : ℕ) (s : List ℕ) (tag : ℕ) (i : Item) (
   pub inside : r .start + r .length ≤ length s
   pub contents : Shows sc 7 n (take (r .length) (drop (r .start) s)) i
 
--- The answer for what the tree has: 18 where it has nothing.
+-- The answer by the field that the tree has, if any; without one the field is absent.
 unfoldable pub Answers : Schema → ℕ → List ℕ → ℕ → Option Item → Found → Type 0
-Answers sc n s tag none r = r ≡ refusal 18 0
+Answers sc n s tag none r = r ≡ refusal refusals.absent 0
 Answers sc n s tag (some i) r = Gives sc n s tag i r

@@ -1,4 +1,4 @@
--- What a lookup answers: the k-th, or the last, of the outermost fields of an accepted message that have a tag.
+-- The answer of a lookup: the k-th, or the last, of the outermost fields of an accepted message that have a tag.
 use Prim.Native.Nat.{ℕ, _+_}
 use mathlib.Core.Bool.{cond}
 use mathlib.Core.List.{List, [], _∷_}
@@ -12,6 +12,7 @@ use Rattle.hproto_table.specs.declared.Table.{Table}
 use Rattle.hproto_message.specs.Cut.{Cut, joined}
 use Rattle.hproto_message.specs.Tree.{Tree, value, tree}
 use Rattle.hproto_message.specs.Items.{Item, items, withTag, itemKind, uintOf, intOf}
+use Rattle.reading.specs.Refusals as refusals
 use Rattle.reading.specs.Reading.{Reading, accepted, refused}
 use Rattle.hproto_message.specs.Reading.{reading}
 use Rattle.message_calls.specs.Check.{check}
@@ -20,15 +21,14 @@ use Rattle.message_calls.specs.declared.outermost.Occurrence.{Occurrence
 use Rattle.message_calls.specs.declared.outermost.Occurrence.the-variants.{Nth, Last}
 use Rattle.message_calls.specs.declared.Found.{Found}
 
--- A field, and where its contents stand in the message: their first place and how many octets they have.
-pub record Outer : Type 0 where
+-- An outermost field and the span of its contents in the message: their start and their length.
+pub record ItemSpan : Type 0 where
   pub item : Item
   pub start : ℕ
   pub length : ℕ
 
--- The outermost fields of a cut, in order, each as the tree has it. The first one's control part stands at the place `at`. The value of
--- a nested message is the octets at its place.
-unfoldable pub outermost : Schema → ℕ → ℕ → Cut → List Outer
+-- The outermost fields of a cut, in order, each as the tree has it. The control part of the first one starts at the place `at`.
+unfoldable pub outermost : Schema → ℕ → ℕ → Cut → List ItemSpan
 outermost sc n at Cut.end = []
 outermost sc n at (Cut.leaf tag part s rest) =
     let k = lists.length part in
@@ -49,12 +49,12 @@ chosen (Nth k) l = lists.getElem? l k
 chosen Last l = lastOr none l
 
 unfoldable pub refusal : ℕ → ℕ → Found
-refusal number place =
-    record { refusal = number; place = place; kind = 0; number = 0; signed = pos 0; start = 0; length = 0 }
+refusal reason place =
+    record { refusal = reason; place = place; kind = 0; number = 0; signed = pos 0; start = 0; length = 0 }
 
--- A field that was found, or 18.
-unfoldable pub found : Option Outer → Found
-found none = refusal 18 0
+-- The answer for a field that was found; without one the field is absent.
+unfoldable pub found : Option ItemSpan → Found
+found none = refusal refusals.absent 0
 found (some o) =
     record {
       refusal = 0;
@@ -66,12 +66,12 @@ found (some o) =
       length = o .length;
     }
 
--- What is answered for a message that was read.
+-- The answer by the reading of the message.
 unfoldable pub foundIn : Schema → ℕ → ℕ → Occurrence → Reading Cut → Found
-foundIn sc n t which (accepted cut) = found (chosen which (withTag (λ (o : Outer). o .item) t (outermost sc n 0 cut)))
-foundIn sc n t which (refused number place) = refusal number place
+foundIn sc n t which (accepted cut) = found (chosen which (withTag (λ (o : ItemSpan). o .item) t (outermost sc n 0 cut)))
+foundIn sc n t which (refused reason place) = refusal reason place
 
--- The check's refusal, or what is found.
+-- The answer under a table: the check's refusal, or the field that is found.
 unfoldable pub answer : Table → ℕ → List ℕ → ℕ → Occurrence → Found
 answer t n s tag which =
     let c = check t n s in
@@ -85,7 +85,7 @@ lookup t n s tag k = answer t n s tag (Nth k)
 unfoldable pub lookupLast : Table → ℕ → List ℕ → ℕ → Found
 lookupLast t n s tag = answer t n s tag Last
 
--- The k-th, or the last, of a tree's outermost fields with a tag. proofs/Trees.antt shows that this is the field that is answered, and
--- that 18 is answered exactly where there is none.
+-- The k-th, or the last, of a tree's outermost fields with a tag. proofs/LookupInTree.antt shows that the
+-- lookup returns this field, and that it refuses as absent exactly where there is none.
 unfoldable pub occurrence : Tree → ℕ → Occurrence → Option Item
 occurrence whole t which = chosen which (withTag (λ (i : Item). i) t (items whole))

@@ -1,4 +1,4 @@
--- What the shortener answers, and what it leaves in the second buffer.
+-- The answer of the shortener, and the second buffer afterwards.
 use Prim.Native.Nat.{ℕ}
 use mathlib.Core.Bool.{Bool, cond}
 use mathlib.Core.List.{List}
@@ -9,38 +9,42 @@ use Rattle.hproto_table.specs.Schema.{Schema, schema}
 use Rattle.hproto_table.specs.declared.Table.{Table}
 use Rattle.hproto_message.specs.Reading.{reading}
 use Rattle.message_calls.specs.Check.{check}
+use Rattle.reading.specs.Refusals as refusals
 use Rattle.reading.specs.declared.Checked.{Checked}
-use Rattle.message_calls.specs.Written.{shortestOf}
+use Rattle.message_calls.specs.Written.{shortestOfReading}
 use Rattle.message_calls.specs.declared.Shortened.{Shortened}
 
+-- A refusal and its place, with the length 0.
 unfoldable pub refusal : ℕ → ℕ → Shortened
-refusal number place = record { refusal = number; place = place; length = 0 }
+refusal reason place = record { refusal = reason; place = place; length = 0 }
 
 -- The shortest octets that read the same as a message under a schema, where it is accepted; nothing for a message that is not.
-unfoldable pub shortUnder : Schema → ℕ → List ℕ → List ℕ
-shortUnder sc n s = shortestOf sc n (reading sc n s)
+unfoldable pub shortestUnder : Schema → ℕ → List ℕ → List ℕ
+shortestUnder sc n s = shortestOfReading sc n (reading sc n s)
 
-unfoldable pub shortForm : Table → ℕ → List ℕ → List ℕ
-shortForm t n s = shortUnder (schema t) n s
+-- The same under a table.
+unfoldable pub shortestByTable : Table → ℕ → List ℕ → List ℕ
+shortestByTable t n s = shortestUnder (schema t) n s
 
 -- Document 01's room: the second buffer is no shorter than the shortest octets.
 unfoldable pub roomy : List ℕ → List ℕ → Bool
-roomy short out = leb (length short) (length out)
+roomy shortest out = leb (length shortest) (length out)
 
--- The check's refusal, or 9 where there is no room, or the length of the shortest octets.
-unfoldable pub answerTo : Checked → List ℕ → List ℕ → Shortened
-answerTo c short out =
+-- The answer by the check's answer, the shortest octets and the second buffer: the check's refusal, or no room, or the length of the
+-- shortest octets.
+unfoldable pub shortenResult : Checked → List ℕ → List ℕ → Shortened
+shortenResult c shortest out =
     cond (eqb (c .refusal) 0)
-    (cond (roomy short out) (record { refusal = 0; place = 0; length = length short }) (refusal 9 0))
+    (cond (roomy shortest out) (record { refusal = 0; place = 0; length = length shortest }) (refusal refusals.noRoom 0))
     (refusal (c .refusal) (c .place))
 
 -- The second buffer afterwards: the shortest octets at its front where the call is accepted, else as it was.
-unfoldable pub bufferTo : Checked → List ℕ → List ℕ → List ℕ
-bufferTo c short out = cond (eqb (answerTo c short out .refusal) 0) (sets out 0 short) out
+unfoldable pub resultBuffer : Checked → List ℕ → List ℕ → List ℕ
+resultBuffer c shortest out = cond (eqb (shortenResult c shortest out .refusal) 0) (sets out 0 shortest) out
 
--- Under a table, and under a schema.
+-- The shortener's answer and the second buffer afterwards, under a table.
 unfoldable pub answer : Table → ℕ → List ℕ → List ℕ → Shortened
-answer t n s out = answerTo (check t n s) (shortForm t n s) out
+answer t n s out = shortenResult (check t n s) (shortestByTable t n s) out
 
 unfoldable pub buffer : Table → ℕ → List ℕ → List ℕ → List ℕ
-buffer t n s out = bufferTo (check t n s) (shortForm t n s) out
+buffer t n s out = resultBuffer (check t n s) (shortestByTable t n s) out

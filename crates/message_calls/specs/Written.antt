@@ -1,4 +1,4 @@
--- What the shortener writes for a message that is accepted.
+-- The octets that the shortener writes for a message, by its reading.
 use Prim.Native.Nat.{ℕ}
 use mathlib.Core.List.{List, []}
 use Rattle.hproto_table.specs.Schema.{Schema}
@@ -8,6 +8,6 @@ use Rattle.reading.specs.Reading.{Reading, accepted, refused}
 use Rattle.hproto_message.specs.Shortest.{shortest}
 
 -- The shortest form of the tree that a reading gives; nothing for a refusal.
-unfoldable pub shortestOf : Schema → ℕ → Reading Cut → List ℕ
-shortestOf sc n (accepted cut) = shortest (tree sc n cut)
-shortestOf sc n (refused number place) = []
+unfoldable pub shortestOfReading : Schema → ℕ → Reading Cut → List ℕ
+shortestOfReading sc n (accepted cut) = shortest (tree sc n cut)
+shortestOfReading sc n (refused reason place) = []

@@ -1,5 +1,5 @@
 pub mod Verdicts
-pub mod Spots
+pub mod Spans
 pub mod LookupUnder
 pub mod Stores
 pub mod ShortenUnder

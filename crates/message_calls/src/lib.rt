@@ -1,6 +1,7 @@
-// The calls that read a message: the check, the shortener and the lookup of a field. Each comes twice: by the octets of a field table, and
-// under a table that was loaded. A message that is too long is refused before the table is looked at, a faulty table before the message number
-// is. By octets only the index is made of the table: where it does not have every record, the one after those that it has is faulty.
+// The calls that read a message: the check, the shortener and the lookup of a field. Each comes twice: one takes the octets of a field
+// table, the other a table that was loaded. A message that is too long is rejected before the table is read, and a faulty table before the
+// message number is tested. The calls that take octets build only the index of the table: if it lacks a record, the first one that it lacks
+// is faulty.
 mod outermost;
 mod shortest;
 mod sizes;
@@ -22,8 +23,8 @@ pub struct Shortened {
     pub length: u64,
 }
 
-// The answer: a refusal number (0 where a field was found) and the place of the fault; of the field found its kind, the number of a uint,
-// the signed number of an int, and where its contents stand in the lent buffer.
+// The lookup's answer: a refusal number (0 where a field was found) and the place of the fault; of the field found its kind, the value of a
+// uint, the value of an int, and where its contents start in the lent buffer and how long they are.
 pub struct Found {
     pub refusal: u64,
     pub place: u64,
@@ -34,98 +35,98 @@ pub struct Found {
     pub length: u64,
 }
 
-// The check of a message.
+// Checks a message: returns the count of its fields and its depth, or the first refusal.
 pub fn check(table: &[u8], number: u64, message: &[u8]) -> Checked
     ensures { λ r. ⌜ r ≡ checkOctets (now (table .entry)) number (now (message .entry)) ⌝ }
 {
-    if 65536 < message.len() {
-        return reading::refused(1, 0);
+    if reading::MESSAGE_LIMIT < message.len() {
+        return reading::refused(reading::TOO_LONG, 0);
     }
     let mut cells = [0u32; 128];
     let end = table_index::index(table, &mut cells) * 8;
     if end < table.len() {
-        return reading::refused(2, end as u64);
+        return reading::refused(reading::TABLE, end as u64);
     }
     traversal::check_under(&cells, number, message)
 }
 
-// The shortener.
+// Writes the shortest octets that read the same as a message to the front of `out`, and returns their length.
 pub fn shorten(table: &[u8], number: u64, message: &[u8], out: &mut [u8]) -> Shortened
     ensures { λ r. ⌜ r ≡ shortenOctets (now (table .entry)) number (now (message .entry)) (now (out .entry)) ⌝ }
     ensures { λ r. ⌜ now (out .exit) ≡ shortenBuffer (now (table .entry)) number (now (message .entry)) (now (out .entry)) ⌝ }
 {
-    if 65536 < message.len() {
-        return shortest::refused(1, 0);
+    if reading::MESSAGE_LIMIT < message.len() {
+        return shortest::refused(reading::TOO_LONG, 0);
     }
     let mut cells = [0u32; 128];
     let end = table_index::index(table, &mut cells) * 8;
     if end < table.len() {
-        return shortest::refused(2, end as u64);
+        return shortest::refused(reading::TABLE, end as u64);
     }
     shortest::shorten_under(&cells, number, message, out)
 }
 
-// The k-th of the outermost fields with a tag.
+// Returns the k-th, from 0, of the outermost fields with a tag.
 pub fn lookup(table: &[u8], number: u64, message: &[u8], tag: u64, k: u64) -> Found
     ensures { λ r. ⌜ r ≡ lookupOctets (now (table .entry)) number (now (message .entry)) tag k ⌝ }
 {
-    if 65536 < message.len() {
-        return outermost::refused(1, 0);
+    if reading::MESSAGE_LIMIT < message.len() {
+        return outermost::refused(reading::TOO_LONG, 0);
     }
     let mut cells = [0u32; 128];
     let end = table_index::index(table, &mut cells) * 8;
     if end < table.len() {
-        return outermost::refused(2, end as u64);
+        return outermost::refused(reading::TABLE, end as u64);
     }
     outermost::lookup_under(&cells, number, message, tag, k)
 }
 
-// The last of them.
+// Returns the last of the outermost fields with a tag.
 pub fn lookup_last(table: &[u8], number: u64, message: &[u8], tag: u64) -> Found
     ensures { λ r. ⌜ r ≡ lookupLastOctets (now (table .entry)) number (now (message .entry)) tag ⌝ }
 {
-    if 65536 < message.len() {
-        return outermost::refused(1, 0);
+    if reading::MESSAGE_LIMIT < message.len() {
+        return outermost::refused(reading::TOO_LONG, 0);
     }
     let mut cells = [0u32; 128];
     let end = table_index::index(table, &mut cells) * 8;
     if end < table.len() {
-        return outermost::refused(2, end as u64);
+        return outermost::refused(reading::TABLE, end as u64);
     }
     outermost::lookup_last_under(&cells, number, message, tag)
 }
 
-// The check of a message of a number under a table.
+// The check under a table that was loaded.
 pub fn check_loaded(t: Table, number: u64, message: &[u8]) -> Checked
     ensures { λ r. ⌜ r ≡ check-of t number (now (message .entry)) ⌝ }
 {
     let n = message.len();
-    if 65536 < n {
-        return reading::refused(1, 0);
+    if reading::MESSAGE_LIMIT < n {
+        return reading::refused(reading::TOO_LONG, 0);
     }
     let mut index = [0u32; 128];
     if !table_index::index_table(&t.words, t.count, &mut index) {
-        return reading::refused(2, 0);
+        return reading::refused(reading::TABLE, 0);
     }
     traversal::check_under(&index, number, message)
 }
 
-// The shortener under a table. The refusals of the table come before all that is read under it.
+// The shortener under a table that was loaded. A table that the loader cannot return is rejected before the message is read.
 pub fn shorten_loaded(t: Table, number: u64, message: &[u8], out: &mut [u8]) -> Shortened
     ensures { λ r. ⌜ r ≡ answer t number (now (message .entry)) (now (out .entry)) ⌝ }
     ensures { λ r. ⌜ now (out .exit) ≡ buffer t number (now (message .entry)) (now (out .entry)) ⌝ }
 {
-    if 65536 < message.len() {
-        return shortest::refused(1, 0);
+    if reading::MESSAGE_LIMIT < message.len() {
+        return shortest::refused(reading::TOO_LONG, 0);
     }
     let mut index = [0u32; 128];
     if !table_index::index_table(&t.words, t.count, &mut index) {
-        return shortest::refused(2, 0);
+        return shortest::refused(reading::TABLE, 0);
     }
     shortest::shorten_under(&index, number, message, out)
 }
 
-// The same two lookups under a table.
+// The two lookups under a table that was loaded.
 pub fn lookup_loaded(t: Table, number: u64, message: &[u8], tag: u64, k: u64) -> Found
     ensures { λ r. ⌜ r ≡ lookup-of t number (now (message .entry)) tag k ⌝ }
 {

@@ -1,4 +1,4 @@
-// Lookup: the k-th or the last of the outermost fields of a message that have a tag.
+// The lookup: finds the k-th or the last of the outermost fields of a message that have a tag.
 use crate::Found;
 use crate::traversal;
 use hproto_field::Head;
@@ -6,8 +6,8 @@ use hproto_table::Table;
 ghost use mathlib.Core.Path.{_≡_};
 ghost use Rattle.message_calls.specs.Lookup.{refusal, answer};
 ghost use Rattle.table_index.specs.internal.Cells.{indexed};
-ghost use Rattle.message_calls.specs.internal.LookupUnder.{answerUnder, lookupUnder, lookupLastUnder};
-ghost use Rattle.message_calls.specs.internal.Spots.{nthSpot, lastSpot, chosenSpot, uintIn, intIn, read};
+ghost use Rattle.message_calls.specs.internal.LookupUnder.{lookUnder, lookupUnder, lookupLastUnder};
+ghost use Rattle.message_calls.specs.internal.Spans.{nthSpan, lastSpan, chosenSpan, uintIn, intIn, read};
 
 // Which of the fields with a tag is wanted.
 pub(crate) enum Occurrence {
@@ -15,18 +15,18 @@ pub(crate) enum Occurrence {
     Last,
 }
 
-// Where the contents of a field start and end, if there is such a field.
-enum Spot {
+// The span of a field's contents, if there is such a field.
+enum OptionalSpan {
     Absent,
     At { start: usize, end: usize },
 }
 
-// The answer where the message is refused, or has no such field.
-pub(crate) fn refused(number: u64, place: u64) -> Found
-    ensures { λ r. ⌜ r ≡ refusal number place ⌝ }
+// The answer if the message is rejected or has no such field.
+pub(crate) fn refused(reason: u64, place: u64) -> Found
+    ensures { λ r. ⌜ r ≡ refusal reason place ⌝ }
 {
     Found {
-        refusal: number,
+        refusal: reason,
         place,
         kind: 0,
         number: 0,
@@ -36,35 +36,35 @@ pub(crate) fn refused(number: u64, place: u64) -> Found
     }
 }
 
-// The k-th field with a tag. Each field is passed as a whole, so none inside a nested message is looked at. What a tag means is not asked:
-// where a field ends does not depend on it, and the table would be searched for every field that is passed.
-fn nth(s: &[u8], tag: u64, k: u64) -> Spot
-    ensures { λ r. ⌜ r ≡ nthSpot tag k (now (s .entry)) ⌝ }
+// Returns the span of the k-th field with a tag. It skips each field as a whole, so it reads no field of a nested message. It does not ask
+// the index for a tag's kind: a field's end does not depend on it, and a search for each field would take time.
+fn nth(s: &[u8], tag: u64, k: u64) -> OptionalSpan
+    ensures { λ r. ⌜ r ≡ nthSpan tag k (now (s .entry)) ⌝ }
 {
     let mut i: usize = 0;
-    let mut left = k;
+    let mut remaining = k;
     loop {
         match hproto_field::head_at(s, i, s.len()) {
             Head::Field { tag: t, start, end } => {
                 i = end;
                 if t == tag {
-                    if left == 0 {
-                        return Spot::At { start, end };
+                    if remaining == 0 {
+                        return OptionalSpan::At { start, end };
                     }
-                    left = left - 1;
+                    remaining = remaining - 1;
                 }
             }
-            _ => return Spot::Absent,
+            _ => return OptionalSpan::Absent,
         }
     }
 }
 
-// The last field with a tag.
-fn last(s: &[u8], tag: u64) -> Spot
-    ensures { λ r. ⌜ r ≡ lastSpot tag (now (s .entry)) ⌝ }
+// Returns the span of the last field with a tag.
+fn last(s: &[u8], tag: u64) -> OptionalSpan
+    ensures { λ r. ⌜ r ≡ lastSpan tag (now (s .entry)) ⌝ }
 {
     let mut i: usize = 0;
-    let mut best = Spot::Absent;
+    let mut best = OptionalSpan::Absent;
     loop {
         match hproto_field::head_at(s, i, s.len()) {
             Head::Field {
@@ -74,7 +74,7 @@ fn last(s: &[u8], tag: u64) -> Spot
             } => {
                 i = after;
                 if seen == tag {
-                    best = Spot::At {
+                    best = OptionalSpan::At {
                         start: first,
                         end: after,
                     };
@@ -85,8 +85,9 @@ fn last(s: &[u8], tag: u64) -> Spot
     }
 }
 
-fn pick(s: &[u8], tag: u64, which: Occurrence) -> Spot
-    ensures { λ r. ⌜ r ≡ chosenSpot tag which (now (s .entry)) ⌝ }
+// Returns the span of the wanted field with a tag.
+fn pick(s: &[u8], tag: u64, which: Occurrence) -> OptionalSpan
+    ensures { λ r. ⌜ r ≡ chosenSpan tag which (now (s .entry)) ⌝ }
 {
     match which {
         Occurrence::Nth(k) => nth(s, tag, k),
@@ -94,7 +95,7 @@ fn pick(s: &[u8], tag: u64, which: Occurrence) -> Spot
     }
 }
 
-// The number of a uint, 0 for any other kind.
+// The value of a uint, 0 for any other kind.
 fn unsigned(kind: u64, s: &[u8]) -> u64
     ensures { λ r. ⌜ r ≡ uintIn kind (now (s .entry)) ⌝ }
 {
@@ -104,7 +105,7 @@ fn unsigned(kind: u64, s: &[u8]) -> u64
     octets_read::uint(s)
 }
 
-// The signed number of an int, 0 for any other kind.
+// The value of an int, 0 for any other kind.
 fn signed(kind: u64, s: &[u8]) -> i64
     ensures { λ r. ⌜ r ≡ intIn kind (now (s .entry)) ⌝ }
 {
@@ -114,7 +115,7 @@ fn signed(kind: u64, s: &[u8]) -> i64
     octets_read::int(s)
 }
 
-// What contents that start at a place say as a field of a kind.
+// The answer for a field of a kind, by its contents and the offset where they start.
 fn contents(kind: u64, start: u64, s: &[u8]) -> Found
     ensures { λ r. ⌜ r ≡ read kind start (now (s .entry)) ⌝ }
 {
@@ -131,18 +132,18 @@ fn contents(kind: u64, start: u64, s: &[u8]) -> Found
     }
 }
 
-// A lookup under an index, whatever it is. The whole message is checked before any field is looked for, so a fault after the wanted field
-// is refused too.
+// A lookup under any index. It checks the whole message before it looks for a field, so it also rejects a message with a fault after the
+// wanted field.
 fn look_under(cells: &[u32; 128], number: u64, message: &[u8], tag: u64, which: Occurrence) -> Found
-    ensures { λ r. ⌜ r ≡ answerUnder (indexed (now (cells .entry))) number (now (message .entry)) tag which ⌝ }
+    ensures { λ r. ⌜ r ≡ lookUnder (indexed (now (cells .entry))) number (now (message .entry)) tag which ⌝ }
 {
     let c = traversal::check_under(cells, number, message);
     if c.refusal != 0 {
         return refused(c.refusal, c.place);
     }
     match pick(message, tag, which) {
-        Spot::Absent => refused(18, 0),
-        Spot::At { start, end } => {
+        OptionalSpan::Absent => refused(reading::ABSENT, 0),
+        OptionalSpan::At { start, end } => {
             let kind = table_index::find(cells, number, tag);
             contents(
                 table_index::kind_number(kind),
@@ -153,8 +154,7 @@ fn look_under(cells: &[u32; 128], number: u64, message: &[u8], tag: u64, which: 
     }
 }
 
-// The k-th, from 0, of the outermost fields with a tag, and the last of them, under an index. The calls give them only the index of a table
-// that the loader can give.
+// The two lookups under an index. Internal: callers have already rejected tables that the loader cannot return.
 pub(crate) fn lookup_under(
     cells: &[u32; 128],
     number: u64,
@@ -173,16 +173,16 @@ pub(crate) fn lookup_last_under(cells: &[u32; 128], number: u64, message: &[u8],
     look_under(cells, number, message, tag, Occurrence::Last)
 }
 
-// A lookup under a table. The refusals of the table come before all that is read under it.
+// A lookup under a table. A table that the loader cannot return is rejected before the message is read.
 pub(crate) fn look(t: Table, number: u64, message: &[u8], tag: u64, which: Occurrence) -> Found
     ensures { λ r. ⌜ r ≡ answer t number (now (message .entry)) tag which ⌝ }
 {
-    if 65536 < message.len() {
-        return refused(1, 0);
+    if reading::MESSAGE_LIMIT < message.len() {
+        return refused(reading::TOO_LONG, 0);
     }
     let mut cells = [0u32; 128];
     if !table_index::index_table(&t.words, t.count, &mut cells) {
-        return refused(2, 0);
+        return refused(reading::TABLE, 0);
     }
     look_under(&cells, number, message, tag, which)
 }

@@ -20,10 +20,10 @@ ghost use Rattle.hproto_message.specs.internal.Accepts.{Accepts};
 ghost use Rattle.hproto_message.specs.Tree.{value};
 ghost use Rattle.hproto_message.specs.Shortest.{field, leastContents};
 ghost use Rattle.message_calls.specs.Shorten.{refusal};
-ghost use Rattle.message_calls.specs.internal.ShortenUnder.{answerUnder, bufferUnder};
-ghost use Rattle.message_calls.specs.internal.Stores.{short, Put};
+ghost use Rattle.message_calls.specs.internal.ShortenUnder.{shortenUnder, bufferUnder};
+ghost use Rattle.message_calls.specs.internal.Stores.{shortestWithin, Put};
 
-// The octets of a number. Most numbers take one.
+// Stores the octets of a number and returns the place after them. Most numbers take one octet.
 fn put_digits(out: &mut [u8], at: usize, w: u64, v: u64) -> usize
     requires { ⌜ at + length (octetsOf w v) ≤ length (now out) ⌝ }
     ensures { λ r. ⌜ Put (now (out .entry)) at (octetsOf w v) r (now (out .exit)) ⌝ }
@@ -36,7 +36,7 @@ fn put_digits(out: &mut [u8], at: usize, w: u64, v: u64) -> usize
     at + (w as usize)
 }
 
-// The control part of a small tag and a small length.
+// The control part of a tag below 14 and a length below 12, which takes one octet.
 fn one_octet(tag: u16, n: usize) -> u8
     requires { ⌜ (tag < 14) × (n < 12) ⌝ }
     ensures { λ r. ⌜ r ≡ tag * 16 + n ⌝ }
@@ -44,9 +44,9 @@ fn one_octet(tag: u16, n: usize) -> u8
     ((tag as u8) << 4) + (n as u8)
 }
 
-// Stores a control part of two octets or more and answers the place after it. One whose length stands in its first octet is stored with no
-// loop: the fields of a message with large tags have such.
-fn wide_front(tag: u16, n: usize, out: &mut [u8], to: usize) -> usize
+// Stores a control part of two octets or more and returns the place after it. If the first octet has the length, as for most fields with a
+// large tag, the octets are stored without a loop.
+fn put_wide_control(tag: u16, n: usize, out: &mut [u8], to: usize) -> usize
     requires { ⌜ to + length (leastControl tag n) ≤ length (now out) ⌝ }
     ensures { λ r. ⌜ Put (now (out .entry)) to (leastControl tag n) r (now (out .exit)) ⌝ }
 {
@@ -65,8 +65,8 @@ fn wide_front(tag: u16, n: usize, out: &mut [u8], to: usize) -> usize
     to + 3
 }
 
-// Stores the least control part and answers the place after it. Most take one octet, which needs no call.
-fn put_front(tag: u16, n: usize, out: &mut [u8], to: usize) -> usize
+// Stores the least control part and returns the place after it. Most take one octet, which needs no call.
+fn put_least_control(tag: u16, n: usize, out: &mut [u8], to: usize) -> usize
     requires { ⌜ to + length (leastControl tag n) ≤ length (now out) ⌝ }
     ensures { λ r. ⌜ Put (now (out .entry)) to (leastControl tag n) r (now (out .exit)) ⌝ }
 {
@@ -74,33 +74,33 @@ fn put_front(tag: u16, n: usize, out: &mut [u8], to: usize) -> usize
         out[to] = one_octet(tag, n);
         return to + 1;
     }
-    wide_front(tag, n, out, to)
+    put_wide_control(tag, n, out, to)
 }
 
-// A field whose contents are the octets of a number.
+// Stores a field whose contents are the octets of a number.
 fn put_least(tag: u16, least: Least, out: &mut [u8], to: usize) -> usize
     requires { ⌜ to + length (field tag (octetsOf (least .width) (least .bits))) ≤ length (now out) ⌝ }
     ensures { λ r. ⌜ Put (now (out .entry)) to (field tag (octetsOf (least .width) (least .bits))) r (now (out .exit)) ⌝ }
 {
     let w = least.width;
     let v = least.bits;
-    let a = put_front(tag, w as usize, out, to);
+    let a = put_least_control(tag, w as usize, out, to);
     put_digits(out, a, w, v)
 }
 
-// A field whose contents stay as they are.
+// Stores a field whose contents are copied.
 fn put_plain(tag: u16, s: &[u8], out: &mut [u8], to: usize) -> usize
     requires { ⌜ to + length (field tag (now s)) ≤ length (now out) ⌝ }
     ensures { λ r. ⌜ Put (now (out .entry)) to (field tag (now (s .entry))) r (now (out .exit)) ⌝ }
 {
     let n = s.len();
-    let a = put_front(tag, n, out, to);
+    let a = put_least_control(tag, n, out, to);
     hproto_store::put_octets(out, a, s);
     a + n
 }
 
-// No number has more than eight octets. The test tells the compiler so, which then reads them with fewer steps; `put_int`, and
-// `uint_size` and `int_size` of `sizes`, have it for the same reason.
+// Stores a uint. Callers pass at most eight octets; the test tells the compiler so, which then reads them in fewer steps. `put_int`, and
+// `uint_size` and `int_size` of `sizes`, have the test for the same reason.
 fn put_uint(tag: u16, s: &[u8], out: &mut [u8], to: usize) -> usize
     requires { ⌜ length (now s) ≤ 8 ⌝ }
     requires { ⌜ to + length (field tag (leastUint (number-of (now s)))) ≤ length (now out) ⌝ }
@@ -125,7 +125,7 @@ fn put_int(tag: u16, s: &[u8], out: &mut [u8], to: usize) -> usize
     put_least(tag, octets_least::int_least(v), out, to)
 }
 
-// A field that is no message, in its least form, by the code of what its tag means.
+// Stores a field that is no message in its least form, by the code of its tag's kind.
 fn put_value(code: u64, tag: u16, s: &[u8], out: &mut [u8], to: usize) -> usize
     requires { ⌜ Contents (meaningOf code) (now s) ⌝ }
     requires { ⌜ to + length (field tag (leastContents (value (meaningOf code) (now s)))) ≤ length (now out) ⌝ }
@@ -140,8 +140,8 @@ fn put_value(code: u64, tag: u16, s: &[u8], out: &mut [u8], to: usize) -> usize
     put_plain(tag, s, out, to)
 }
 
-// Puts a control part before the n octets that stand behind room for one octet at `to`. They are final by then: the length that it says
-// is theirs. Only where the control part takes more octets are they moved.
+// Stores the control part of a message field at `to`. Its n octets of contents are already written and start at `to + 1`; they are moved
+// only if the control part takes more than one octet.
 fn wrap(tag: u16, out: &mut [u8], to: usize, n: usize) -> usize
     requires { ⌜ to + length (leastControl tag n) + n ≤ length (now out) ⌝ }
     ensures { λ r. ⌜ r ≡ to + length (leastControl tag n) + n ⌝ }
@@ -153,11 +153,11 @@ fn wrap(tag: u16, out: &mut [u8], to: usize, n: usize) -> usize
     }
     let size = hproto_put::control_size(tag, n as u64);
     hproto_store::move_up(out, to + 1, n, size - 1);
-    wide_front(tag, n, out, to) + n
+    put_wide_control(tag, n, out, to) + n
 }
 
-// The field at the offset i of a message, as `hproto_field::head_at` answers it. That function has other callers, so the compiler would not
-// inline it into `write`, and the shortener then takes a fifth to a third longer.
+// The head of the field at the offset i of a message, as `hproto_field::head_at` returns it. That function has other callers, so the
+// compiler does not inline it into `write`, and the shortener then takes a fifth to a third longer.
 fn next_field(s: &[u8], i: usize) -> Head
     ensures { λ r. ⌜ r ≡ headAt i (drop i (now (s .entry))) ⌝ }
 {
@@ -166,12 +166,12 @@ fn next_field(s: &[u8], i: usize) -> Head
     }
     match octets_read::control(&s[i..]) {
         Control::Absent => Head::End,
-        Control::Partial => Head::Fault(3),
+        Control::Partial => Head::Fault(reading::CUT),
         Control::Whole { tag, length, size } => {
             let start = i + (size as usize);
-            let left = (s.len() - start) as u64;
-            if left < length {
-                return Head::Fault(4);
+            let remaining = (s.len() - start) as u64;
+            if remaining < length {
+                return Head::Fault(reading::PAST_THE_END);
             }
             Head::Field {
                 tag,
@@ -182,20 +182,20 @@ fn next_field(s: &[u8], i: usize) -> Head
     }
 }
 
-// Writes the shortest form of an accepted message at `to` and answers the place after it. A nested message is written first, so that
-// its control part is chosen when its length is final.
+// Writes the shortest form of an accepted message at `to` and returns the place after it. It writes a nested message before the control
+// part of its field, because the control part needs the final length.
 fn write(cells: &[u32; 128], number: u64, levels: u64, s: &[u8], out: &mut [u8], to: usize) -> usize
     requires { ⌜ Octets (now s) ⌝ }
     requires { ⌜ Accepts (indexed (now cells)) levels number (now s) ⌝ }
-    requires { ⌜ to + length (short (indexed (now cells)) levels number (now s)) ≤ length (now out) ⌝ }
-    ensures { λ r. ⌜ Put (now (out .entry)) to (short (indexed (now (cells .entry))) levels number (now (s .entry))) r (now (out .exit)) ⌝ }
+    requires { ⌜ to + length (shortestWithin (indexed (now cells)) levels number (now s)) ≤ length (now out) ⌝ }
+    ensures { λ r. ⌜ Put (now (out .entry)) to (shortestWithin (indexed (now (cells .entry))) levels number (now (s .entry))) r (now (out .exit)) ⌝ }
 {
     let mut i: usize = 0;
     let mut place = to;
     loop {
         match next_field(s, i) {
             Head::Field { tag: t, start, end } => {
-                // A tag is below 65,536, so that the remainder is the tag; it spares the proof of the cast.
+                // A tag is below 65,536, so the remainder is the tag. This makes the cast easy to prove.
                 let tag = (t % 65536) as u16;
                 let cell = table_index::cell(cells, number, t);
                 let code = table_index::code(cell);
@@ -213,26 +213,25 @@ fn write(cells: &[u32; 128], number: u64, levels: u64, s: &[u8], out: &mut [u8],
     }
 }
 
-// The answer where the message is refused, or there is no room.
-pub(crate) fn refused(number: u64, place: u64) -> Shortened
-    ensures { λ r. ⌜ r ≡ refusal number place ⌝ }
+// The answer if the message is rejected or there is no room.
+pub(crate) fn refused(reason: u64, place: u64) -> Shortened
+    ensures { λ r. ⌜ r ≡ refusal reason place ⌝ }
 {
     Shortened {
-        refusal: number,
+        refusal: reason,
         place,
         length: 0,
     }
 }
 
-// Writes the shortest octets that read the same as a message at the front of a second buffer and answers their length, under an index,
-// whatever it is. The calls give it only the index of a table that the loader can give.
+// The shortener under any index. Internal: callers have already rejected tables that the loader cannot return.
 pub(crate) fn shorten_under(
     cells: &[u32; 128],
     number: u64,
     message: &[u8],
     out: &mut [u8],
 ) -> Shortened
-    ensures { λ r. ⌜ r ≡ answerUnder (indexed (now (cells .entry))) number (now (message .entry)) (now (out .entry)) ⌝ }
+    ensures { λ r. ⌜ r ≡ shortenUnder (indexed (now (cells .entry))) number (now (message .entry)) (now (out .entry)) ⌝ }
     ensures { λ r. ⌜ now (out .exit) ≡ bufferUnder (indexed (now (cells .entry))) number (now (message .entry)) (now (out .entry)) ⌝ }
 {
     let c = traversal::check_under(cells, number, message);
@@ -240,9 +239,9 @@ pub(crate) fn shorten_under(
         return refused(c.refusal, c.place);
     }
     if !sizes::has_room(cells, number, message, out.len()) {
-        return refused(9, 0);
+        return refused(reading::NO_ROOM, 0);
     }
-    let end = write(cells, number, 8, message, out, 0);
+    let end = write(cells, number, reading::DEPTH_LIMIT, message, out, 0);
     Shortened {
         refusal: 0,
         place: 0,

@@ -1,4 +1,4 @@
-// How many octets the shortest form of a message takes.
+// Measures the shortest form of a message without writing it.
 use hproto_field::Head;
 ghost use mathlib.Core.Path.{_≡_};
 ghost use Prim.Native.Nat.{_≤_};
@@ -12,8 +12,9 @@ ghost use Rattle.hproto_message.specs.internal.Accepts.{Accepts};
 ghost use Rattle.hproto_message.specs.Tree.{value};
 ghost use Rattle.hproto_message.specs.Shortest.{field, leastContents};
 ghost use lib.Dec.{leb};
-ghost use Rattle.message_calls.specs.internal.Stores.{short};
+ghost use Rattle.message_calls.specs.internal.Stores.{shortestWithin};
 
+// The length of the least octets of a uint.
 fn uint_size(s: &[u8]) -> usize
     requires { ⌜ length (now s) ≤ 8 ⌝ }
     ensures { λ r. ⌜ r ≡ length (leastUint (number-of (now (s .entry)))) ⌝ }
@@ -25,6 +26,7 @@ fn uint_size(s: &[u8]) -> usize
     octets_least::uint_least(v).width as usize
 }
 
+// The length of the least octets of an int.
 fn int_size(s: &[u8]) -> usize
     requires { ⌜ length (now s) ≤ 8 ⌝ }
     ensures { λ r. ⌜ r ≡ length (leastInt (integer (now (s .entry)))) ⌝ }
@@ -36,7 +38,7 @@ fn int_size(s: &[u8]) -> usize
     octets_least::int_least(v).width as usize
 }
 
-// How many octets the least contents take, by the code of what the tag means.
+// The length of the least contents, by the code of the tag's kind.
 fn least_size(code: u64, s: &[u8]) -> usize
     requires { ⌜ Contents (meaningOf code) (now s) ⌝ }
     ensures { λ r. ⌜ r ≡ length (leastContents (value (meaningOf code) (now (s .entry)))) ⌝ }
@@ -50,7 +52,7 @@ fn least_size(code: u64, s: &[u8]) -> usize
     s.len()
 }
 
-// How many octets a field that is no message takes in its least form.
+// The length of a field that is no message in its least form.
 fn value_size(code: u64, tag: u16, s: &[u8]) -> usize
     requires { ⌜ Contents (meaningOf code) (now s) ⌝ }
     requires { ⌜ length (now s) ≤ messageLimit ⌝ }
@@ -60,12 +62,12 @@ fn value_size(code: u64, tag: u16, s: &[u8]) -> usize
     hproto_put::control_size(tag, n as u64) + n
 }
 
-// How many octets the shortest form of an accepted message takes.
+// The length of the shortest form of an accepted message.
 fn measure(cells: &[u32; 128], number: u64, levels: u64, s: &[u8]) -> usize
     requires { ⌜ length (now s) ≤ messageLimit ⌝ }
     requires { ⌜ Octets (now s) ⌝ }
     requires { ⌜ Accepts (indexed (now cells)) levels number (now s) ⌝ }
-    ensures { λ r. ⌜ r ≡ length (short (indexed (now (cells .entry))) levels number (now (s .entry))) ⌝ }
+    ensures { λ r. ⌜ r ≡ length (shortestWithin (indexed (now (cells .entry))) levels number (now (s .entry))) ⌝ }
 {
     let mut i: usize = 0;
     let mut size: usize = 0;
@@ -89,16 +91,16 @@ fn measure(cells: &[u32; 128], number: u64, levels: u64, s: &[u8]) -> usize
     }
 }
 
-// Whether the shortest form of an accepted message takes at most `len` octets. It is no longer than the message, so only a smaller
-// buffer needs it measured.
+// Returns whether the shortest form of an accepted message takes at most `len` octets. It is no longer than the message, so it is
+// measured only if the message takes more than `len`.
 pub(crate) fn has_room(cells: &[u32; 128], number: u64, message: &[u8], len: usize) -> bool
     requires { ⌜ length (now message) ≤ messageLimit ⌝ }
     requires { ⌜ Octets (now message) ⌝ }
     requires { ⌜ Accepts (indexed (now cells)) 8 number (now message) ⌝ }
-    ensures { λ r. ⌜ r ≡ leb (length (short (indexed (now (cells .entry))) 8 number (now (message .entry)))) len ⌝ }
+    ensures { λ r. ⌜ r ≡ leb (length (shortestWithin (indexed (now (cells .entry))) 8 number (now (message .entry)))) len ⌝ }
 {
     if message.len() <= len {
         return true;
     }
-    measure(cells, number, 8, message) <= len
+    measure(cells, number, reading::DEPTH_LIMIT, message) <= len
 }

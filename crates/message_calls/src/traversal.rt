@@ -1,4 +1,4 @@
-// The traversal of a message: its refusal, or the count of its fields and the depth of its deepest message.
+// The traversal of a message and of the messages nested in it, and the check that rests on it.
 use hproto_field::Next;
 use reading::Checked;
 use reading::Verdict;
@@ -11,15 +11,15 @@ ghost use Rattle.hproto_message.specs.Reading.{messageFrom};
 ghost use Rattle.message_calls.specs.Check.{checkUnder};
 ghost use Rattle.message_calls.specs.internal.Verdicts.{verdict as verdict-of};
 
-// A message of number `n` whose octets start at a place, in the field that starts at `from`. `levels` is how many messages deep it may
-// be, itself counted; a nested message has one less.
+// Reads a message of number `n` whose octets start at the place `at`, in the field that starts at `from`. Returns the first refusal, or the
+// count of its fields and its depth. `levels` is how many messages deep it may be, itself counted; a nested message has one less.
 fn traverse(cells: &[u32; 128], n: u64, levels: u64, from: u64, at: u64, s: &[u8]) -> Verdict
     requires { ⌜ at + length (now s) ≤ messageLimit ⌝ }
     requires { ⌜ levels ≤ 8 ⌝ }
     ensures { λ r. ⌜ r ≡ verdict-of (messageFrom (indexed (now (cells .entry))) levels n from at (now (s .entry))) ⌝ }
 {
     if levels == 0 {
-        return Verdict::Refused(5, from);
+        return Verdict::Refused(reading::TOO_DEEP, from);
     }
     let mut i: usize = 0;
     let mut fields: u64 = 0;
@@ -54,15 +54,15 @@ fn traverse(cells: &[u32; 128], n: u64, levels: u64, from: u64, at: u64, s: &[u8
     }
 }
 
-// The check under an index, whatever it is. The calls give it only the index of a table that the loader can give.
+// The check under any index. Internal: callers have already rejected tables that the loader cannot return.
 pub(crate) fn check_under(cells: &[u32; 128], number: u64, message: &[u8]) -> Checked
     ensures { λ r. ⌜ r ≡ checkUnder (indexed (now (cells .entry))) number (now (message .entry)) ⌝ }
 {
-    if 65536 < message.len() {
-        return reading::refused(1, 0);
+    if reading::MESSAGE_LIMIT < message.len() {
+        return reading::refused(reading::TOO_LONG, 0);
     }
-    if 15 < number {
-        return reading::refused(2, 0);
+    if reading::LAST_NUMBER < number {
+        return reading::refused(reading::TABLE, 0);
     }
-    reading::answer(traverse(cells, number, 8, 0, 0, message))
+    reading::answer(traverse(cells, number, reading::DEPTH_LIMIT, 0, 0, message))
 }

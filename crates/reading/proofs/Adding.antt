@@ -10,12 +10,12 @@ use Rattle.reading.specs.internal.Verdicts.{verdictOf}
 -- A verdict after fields of this count and depth.
 unfoldable pub after : ℕ → ℕ → Verdict → Verdict
 after f d (Accepted g e) = Accepted (f + g) (max d e)
-after f d (Refused number place) = Refused number place
+after f d (Refused reason place) = Refused reason place
 
 pub after-after : (f d g e : ℕ) (w : Verdict) → after f d (after g e w) ≡ after (f + g) (max d e) w
 unfolding after
 after-after f d g e (Accepted h k) = ap₂ Accepted (omega arith) (omega arith)
-after-after f d g e (Refused number place) = refl
+after-after f d g e (Refused reason place) = refl
 
 -- A division by its count of fields and its depth.
 module _ {A : Type 0} (count depth : A → ℕ) where
@@ -23,14 +23,14 @@ module _ {A : Type 0} (count depth : A → ℕ) where
   pub after-none : ((x : A) → 1 ≤ depth x) → (r : Reading A) → after 0 1 (verdictOf count depth r) ≡ verdictOf count depth r
   unfolding after verdictOf
   after-none deep (accepted x) = let h = deep x in ap₂ Accepted (omega arith) (omega arith)
-  after-none deep (refused number place) = refl
+  after-none deep (refused reason place) = refl
 
   -- A field that holds no message.
   pub verdict-over : (f : A → A) → ((x : A) → count (f x) ≡ 1 + count x) → ((x : A) → depth (f x) ≡ depth x) → (r : Reading A)
       → verdictOf count depth (onAccepted f r) ≡ after 1 0 (verdictOf count depth r)
   unfolding after verdictOf onAccepted
   verdict-over f counted deep (accepted x) = let a = counted x in let b = deep x in ap₂ Accepted (omega arith) (omega arith)
-  verdict-over f counted deep (refused number place) = refl
+  verdict-over f counted deep (refused reason place) = refl
 
   -- A field that holds a message with g fields, of depth d.
   pub verdict-into : (f : A → A → A) → ((i x : A) → count (f i x) ≡ 1 + count i + count x)
@@ -43,12 +43,12 @@ module _ {A : Type 0} (count depth : A → ℕ) where
       let a = counted i x in
       let b = deep i x in
       ap₂ Accepted (omega arith) (omega arith)
-  verdict-into f counted deep (accepted i) g d (refused number place) e = refl
-  verdict-into f counted deep (refused number place) g d r e = let z : _≡_ {A = ℕ} 0 1 = cc in absurd (omega arith)
+  verdict-into f counted deep (accepted i) g d (refused reason place) e = refl
+  verdict-into f counted deep (refused reason place) g d r e = let z : _≡_ {A = ℕ} 0 1 = cc in absurd (omega arith)
 
   -- A field that holds a message that is refused.
-  pub verdict-refused : (f : A → A → A) (q : Reading A) (number place : ℕ) (r : Reading A) → verdictOf count depth q ≡ Refused number place
-      → verdictOf count depth (inOrder f q r) ≡ Refused number place
+  pub verdict-refused : (f : A → A → A) (q : Reading A) (reason place : ℕ) (r : Reading A) → verdictOf count depth q ≡ Refused reason place
+      → verdictOf count depth (inOrder f q r) ≡ Refused reason place
   unfolding verdictOf inOrder
-  verdict-refused f (accepted i) number place r e = let z : _≡_ {A = ℕ} 0 1 = cc in absurd (omega arith)
-  verdict-refused f (refused k p) number place r e = e
+  verdict-refused f (accepted i) reason place r e = let z : _≡_ {A = ℕ} 0 1 = cc in absurd (omega arith)
+  verdict-refused f (refused k p) reason place r e = e

@@ -14,14 +14,14 @@ use Rattle.reading.proofs.Adding.{after, after-after, after-none, verdi
 -- A division has a count of fields and a depth. `from` reads the fields at the front of octets, by its fuel, which bounds the fields that
 -- it looks at, and by the offset of the octets. The message s begins at offset `at`; its first field begins `first` octets later.
 module _ {A : Type 0} (fields depth : A → ℕ) (from : ℕ → ℕ → List ℕ → Reading A) (at first : ℕ) (s : List ℕ) where
-  -- What the fields after i octets come to.
+  -- The verdict of the fields after i octets.
   abbrev rest : ℕ → ℕ → Verdict
   rest fuel i = verdictOf fields depth (from fuel (at + i) (drop i s))
 
   abbrev pub whole : Verdict
   whole = rest (suc (length s)) first
 
-  -- The loop invariant: after i octets, with f fields so far of depth d, what the rest comes to decides.
+  -- The loop invariant: after i octets, with f fields so far of depth d, the verdict of the rest decides.
   pub record Traversal (i f d : ℕ) : Type 0 where
     pub fuel : ℕ
     pub inside : i ≤ length s
@@ -42,7 +42,7 @@ module _ {A : Type 0} (fields depth : A → ℕ) (from : ℕ → ℕ → List �
       }
 
   module _ (i f d : ℕ) (now : Traversal i f d) where
-    -- Fuel is left, so the field after i octets is looked at.
+    -- There is still fuel, so the field after i octets is read.
     abbrev pub here : Reading A
     here = from (suc (now .fuel - 1)) (at + i) (drop i s)
 

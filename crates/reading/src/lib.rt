@@ -1,4 +1,4 @@
-// What the readers of every format share: what a verdict through a message comes to, and the answer of a check.
+// Shared by the readers of every format: the limits and refusals of document 01, the verdict of a traversal, and the answer of a check.
 ghost use mathlib.Core.Path.{_≡_};
 ghost use Rattle.reading.specs.Checks.{refusal};
 ghost use Rattle.reading.specs.internal.Verdicts.{checkedBy};
@@ -48,14 +48,14 @@ pub const NOT_IN_FRACTIONS: u64 = 17;
 // No such field.
 pub const ABSENT: u64 = 18;
 
-// What a verdict through a message comes to: the count of its fields and its depth, or a refusal's number and place.
+// The verdict of a traversal of a message: the count of its fields and its depth, or a refusal and its place.
 pub enum Verdict {
     Accepted(u64, u64),
     Refused(u64, u64),
 }
 
-// The answer of a check: a refusal number (0 where the message is accepted), the place of the fault, and where it is accepted the
-// count of fields at all depths and the depth of the deepest message.
+// The answer of a check: a refusal number (0 if the message is accepted), the place of the fault, and for an accepted message the count of
+// fields at all depths and the depth of the deepest message.
 pub struct Checked {
     pub refusal: u64,
     pub place: u64,
@@ -63,19 +63,19 @@ pub struct Checked {
     pub depth: u64,
 }
 
-// The answer where a message is refused.
-pub fn refused(number: u64, place: u64) -> Checked
-    ensures { λ r. ⌜ r ≡ refusal number place ⌝ }
+// The answer for a message that is rejected.
+pub fn refused(reason: u64, place: u64) -> Checked
+    ensures { λ r. ⌜ r ≡ refusal reason place ⌝ }
 {
     Checked {
-        refusal: number,
+        refusal: reason,
         place,
         fields: 0,
         depth: 0,
     }
 }
 
-// The answer by what the verdict through the message comes to.
+// The answer by the verdict of the traversal.
 pub fn answer(verdict: Verdict) -> Checked
     ensures { λ r. ⌜ r ≡ checkedBy verdict ⌝ }
 {
@@ -86,6 +86,6 @@ pub fn answer(verdict: Verdict) -> Checked
             fields,
             depth,
         },
-        Verdict::Refused(number, place) => refused(number, place),
+        Verdict::Refused(reason, place) => refused(reason, place),
     }
 }

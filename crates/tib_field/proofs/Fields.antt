@@ -55,11 +55,11 @@ module _ {A : Type 0} (octets : A → List ℕ) where
         same = p .same ∙ ap (λ (n : ℕ). some (n, p .field)) e;
       }
 
-  pub none-left : (fs : List A) (k at : ℕ) → length fs ≤ k → getElem? (placed octets at fs) k ≡ none
+  pub none-remaining : (fs : List A) (k at : ℕ) → length fs ≤ k → getElem? (placed octets at fs) k ≡ none
   unfolding placed
-  none-left [] k at h = refl
-  none-left (f ∷ fs) zero at h = absurd (omega arith)
-  none-left (f ∷ fs) (suc k) at h = none-left fs k (at + length (octets f)) (omega arith)
+  none-remaining [] k at h = refl
+  none-remaining (f ∷ fs) zero at h = absurd (omega arith)
+  none-remaining (f ∷ fs) (suc k) at h = none-remaining fs k (at + length (octets f)) (omega arith)
 
   -- Past a field that is not looked for.
   pub kth-next : (left i : ℕ) (f : A) (gs : List A) → (left ≡ 0 → ⊥)

@@ -9,7 +9,7 @@ use borrow.Author.Tests.{ne-eqb}
 use Rattle.tib_field.specs.Refused.{refusedField}
 use Rattle.tib_field.specs.Fields.{Each, joined, placed}
 use Rattle.tib_field.specs.Kth.{answerFor, fieldOf}
-use Rattle.tib_field.proofs.Fields.{each-one, joined-around, Picked, picked, none-left}
+use Rattle.tib_field.proofs.Fields.{each-one, joined-around, Picked, picked, none-remaining}
 use Rattle.tib_field.proofs.Standing.{name-stands, data-stands}
 use Rattle.tib_msg_field.specs.Layout.{kind, hinted, Hint, none, array, partial, value, Parts, octets, Allowed, magic, Whole}
 use Rattle.tib_msg_field.proofs.Steps.{flat}
@@ -67,4 +67,4 @@ module _ (s : List ℕ) (fs : List Parts) (w : Whole s fs) where
   unfolding field fieldOf answerFor places
   field-is-kth k =
       let e = whole-accepted s fs w in
-      (λ h. rw e (told k (picked octets fs k 9 h)), λ h. rw (e, none-left octets fs k 9 h))
+      (λ h. rw e (told k (picked octets fs k 9 h)), λ h. rw (e, none-remaining octets fs k 9 h))

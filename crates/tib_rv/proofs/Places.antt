@@ -9,7 +9,7 @@ use Rattle.tib_field.specs.Refused.{refusedField}
 use Rattle.reading.specs.Reading.{messageLimit}
 use Rattle.tib_field.specs.Fields.{Each, joined as joinedParts, placed}
 use Rattle.tib_field.specs.Kth.{answerFor, fieldOf}
-use Rattle.tib_field.proofs.Fields.{each-one, joined-around, Picked, picked, none-left}
+use Rattle.tib_field.proofs.Fields.{each-one, joined-around, Picked, picked, none-remaining}
 use Rattle.tib_field.proofs.Standing.{name-stands, data-stands}
 use Rattle.tib_rv_field.specs.Layout.{Parts, octets, magic, Fields, end, leaf, nested, joined, message, depth, Header, Allowed, Whole}
 use Rattle.tib_rv_field.proofs.Steps.{flat}
@@ -93,4 +93,4 @@ module _ (s : List ℕ) (fields : Fields) (w : Whole s fields) where
   unfolding field fieldOf answerFor places
   field-is-kth k =
       let e = whole-accepted s fields w in
-      (λ h. rw e (told k (picked octets (outermost fields) k 8 h)), λ h. rw (e, none-left octets (outermost fields) k 8 h))
+      (λ h. rw e (told k (picked octets (outermost fields) k 8 h)), λ h. rw (e, none-remaining octets (outermost fields) k 8 h))

@@ -17,7 +17,7 @@ use Rattle.hproto_message.specs.Reading as readings
 use Rattle.hproto_message.specs.Shortest as shortests
 use Rattle.message_calls.specs.Check as checks
 use Rattle.message_calls.specs.Lookup as lookups
-use Rattle.message_calls.specs.Written.{shortestOf}
+use Rattle.message_calls.specs.Written.{shortestOfReading}
 use Rattle.message_calls.specs.Shorten as shortens
 use Rattle.hproto_store.specs.Store.{stored}
 use Rattle.hproto_frame.specs.Frame as frames
@@ -69,7 +69,7 @@ unfolding kinds.always kinds.below kinds.array kinds.octets kinds.word kinds.wor
     readings.tagOf readings.tagAt trees.value trees.depth trees.fields shortests.shortest shortests.field shortests.leastContents answers.counts
     answers.refusal checks.check checks.checkUnder checks.treeCounts lookups.outermost items.itemTag items.withTag lookups.lastOr lookups.chosen
     items.itemKind items.kindOf items.uintOf items.intOf lookups.refusal lookups.found lookups.foundIn lookups.answer lookups.lookup lookups.lookupLast
-    shortestOf shortens.refusal shortens.shortUnder shortens.shortForm shortens.roomy shortens.answerTo shortens.bufferTo shortens.answer
+    shortestOfReading shortens.refusal shortens.shortestUnder shortens.shortestByTable shortens.roomy shortens.shortenResult shortens.resultBuffer shortens.answer
     shortens.buffer withTable checkOctets lookupOctets lookupLastOctets shortenOctets shortenBuffer stored frames.announced frames.prefixed
     frames.frontRead frames.frameRead frames.messagePart frames.shortestPrefix frames.framed frames.frameWritten frames.frameStored ascii
     digits.glyph digits.decimalWithin digits.decimal digits.fourDigits prints.kindName prints.valueText prints.lineStart prints.line prints.lines

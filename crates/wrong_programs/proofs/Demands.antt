@@ -18,7 +18,7 @@ use Rattle.octets.specs.Number.{Octets}
 use Rattle.hproto_table.specs.Load.{load}
 use Rattle.hproto_table.specs.Schema.{Schema, schema}
 use Rattle.hproto_table.specs.declared.Loaded.{Loaded}
-use Rattle.hproto_message.specs.ReadTheSame.{HasCut, ShortForm, ReadTheSame, OthersMore}
+use Rattle.hproto_message.specs.ReadTheSame.{HasCut, IsShortest, ReadTheSame, OthersMore}
 use Rattle.message_calls.specs.Demand3.{Demand3Holds, Shortens}
 use Rattle.message_calls.specs.declared.Shortened.{Shortened}
 use Rattle.message_calls.specs.Calls.{checkOctets, shortenOctets, shortenBuffer}
@@ -95,15 +95,15 @@ same-or-not (x ∷ a) (y ∷ b) = both (ℕ-discrete x y) (same-or-not a b)
     both (yes p) (no d) = no (λ e. d (ap (drop 1) e))
 
 -- A message has one short form.
-one-short : (sc : Schema) (n : ℕ) (s a b : List ℕ) → ShortForm sc n s a → ShortForm sc n s b → a ≡ b
+one-short : (sc : Schema) (n : ℕ) (s a b : List ℕ) → IsShortest sc n s a → IsShortest sc n s b → a ≡ b
 unfolding OthersMore
 one-short sc n s a b f g = go (same-or-not a b)
   where
     go : Dec (a ≡ b) → a ≡ b
     go (yes e) = e
     go (no d) =
-        let h = f .others-more b (g .short-octets) (g .reads-the-same) (λ e. d (sym e)) in
-        let k = g .others-more a (f .short-octets) (f .reads-the-same) d in
+        let h = f .others-more b (g .shortest-octets) (g .reads-the-same) (λ e. d (sym e)) in
+        let k = g .others-more a (f .shortest-octets) (f .reads-the-same) d in
         absurd (omega arith)
 
 -- Two short forms of a message lead to the same answer and the same buffer.
@@ -111,7 +111,7 @@ module _ (sc : Schema) (n : ℕ) (s : List ℕ) (check other : ℕ → List ℕ 
     (buffer buffer' : ℕ → List ℕ → List ℕ → List ℕ) (a b out : List ℕ) (x : Shortens sc check shorten buffer n s a)
     (y : Shortens sc other shorten' buffer' n s b) where
   same : a ≡ b
-  same = one-short sc n s a b (x .short-form) (y .short-form)
+  same = one-short sc n s a b (x .is-shortest) (y .is-shortest)
 
   agree : (shorten n s out ≡ shorten' n s out) × (buffer n s out ≡ buffer' n s out)
   agree = go (leb (length a) (length out)) refl

@@ -12,7 +12,7 @@ use Rattle.message_calls.specs.Shorten as shortens
 use Rattle.message_calls.specs.declared.Shortened.{Shortened}
 use Rattle.message_calls.proofs.ShortenAnswers.{refused-leaves}
 use Rattle.hproto_frame.specs.declared.FrameWritten.{FrameWritten}
-use Rattle.hproto_frame.proofs.Writing.{frame-refused-leaves}
+use Rattle.hproto_frame.proofs.FrameWriteAnswers.{frame-refused-leaves}
 use Rattle.message_calls.specs.Calls.{shortenOctets, shortenBuffer, withTable}
 use Rattle.hproto_state.specs.Call.{openField, closeField}
 use Rattle.hproto_state.specs.declared.State.{State}

@@ -82,7 +82,7 @@ unfolding check lookupLast lookups.lookupLast lookups.answer lookups.refusal
 lookup-last-accepts-bad-table = behind-the-check found-refusal (λ x e. checked found-refusal (check x .refusal) _ _ refl e)
 
 pub shorten-accepts-bad-table : BadTableRuledOut shorten shortened-refusal table
-unfolding check shorten shortens.answer shortens.answerTo shortens.refusal
+unfolding check shorten shortens.answer shortens.shortenResult shortens.refusal
 shorten-accepts-bad-table = behind-the-check shortened-refusal (λ x e. checked shortened-refusal (check x .refusal) _ _ refl e)
 
 pub valid-accepts-bad-table : BadTableRuledOut validity.valid refusal-of (λ (x : ValidCall). x .value)

@@ -31,8 +31,8 @@ inside c =
 add-start : tie.Need-add-start
 add-start c = omega (arith, inside c)
 
-sub-left : tie.Need-sub-left
-sub-left c = inside c
+sub-remaining : tie.Need-sub-remaining
+sub-remaining c = inside c
 
 returns : tie.Need-returns
 returns c =
@@ -84,7 +84,7 @@ step-spec =
     enum-told-2
     enum-known-tag
     add-start
-    sub-left
+    sub-remaining
     returns
     add-end
     cell-requires

@@ -1,20 +1,21 @@
--- The field at the front of octets that a message has from an offset on. `head_at` answers its tag and where its contents start and end.
+-- The head of the field at an offset of a message: its tag and the span of its contents. `head_at` returns it.
 use Prim.Native.Nat.{ℕ, _+_, _-_}
 use mathlib.Core.Bool.{cond}
 use mathlib.Core.List.{List}
 use lib.ListN.{length}
 use lib.Dec.{leb}
+use Rattle.reading.specs.Refusals as refusals
 use Rattle.octets.specs.Control.{control}
 use Rattle.octets.specs.declared.Control.{Control}
 use Rattle.octets.specs.declared.Control.the-variants.{Absent, Partial, Whole}
 use Rattle.hproto_field.specs.declared.Head.{Head}
 use Rattle.hproto_field.specs.declared.Head.the-variants.{End, Fault, Field}
 
--- By its control part.
+-- The head by the control part at the front of s, the octets of the message from the offset i on.
 unfoldable pub headFrom : ℕ → List ℕ → Control → Head
 headFrom i s Absent = End
-headFrom i s Partial = Fault 3
-headFrom i s (Whole tag len size) = cond (leb len (length s - size)) (Field tag (i + size) (i + size + len)) (Fault 4)
+headFrom i s Partial = Fault refusals.cut
+headFrom i s (Whole tag len size) = cond (leb len (length s - size)) (Field tag (i + size) (i + size + len)) (Fault refusals.pastTheEnd)
 
 unfoldable pub headAt : ℕ → List ℕ → Head
 headAt i s = headFrom i s (control s)

@@ -1,4 +1,4 @@
--- What `step` answers: a step at an offset, by offsets in the message.
+-- The step at an offset of a message, with offsets in the message in place of lengths. `step` returns it.
 use Prim.Native.Nat.{ℕ, _+_, _-_, _/_, _%_}
 use mathlib.Core.Bool.{Bool, cond, _&&_}
 use mathlib.Core.List.{List}
@@ -12,16 +12,16 @@ use Rattle.hproto_field.specs.declared.Next.the-variants.{Done, Fault, O
 
 unfoldable pub nextAt : ℕ → Step → Next
 nextAt i steps.Done = Done
-nextAt i (steps.Fault number) = Fault number
+nextAt i (steps.Fault reason) = Fault reason
 nextAt i (steps.Over k l) = Over (i + k + l)
 nextAt i (steps.Into m k l) = Into m (i + k) (i + k + l)
 
--- Whether the octet at an offset is a whole control part, and the contents that it announces end within the octets.
+-- Whether the octet at an offset is a whole control part whose contents end within the message.
 unfoldable pub smallAt : List ℕ → ℕ → Bool
 smallAt s i =
     let c = getD s i 0 in
     ltb i (length s) && ltb c 224 && ltb (c % 16) 12 && leb (c % 16) (length s - (i + 1))
 
--- The code of what the tag of such a field means; 32, which is no code, where there is no such field.
+-- The code of the kind of such a field; 32, which is no code, if there is no such field.
 unfoldable pub smallCode : List ℕ → ℕ → List ℕ → ℕ → ℕ
 smallCode cells number s i = cond (smallAt s i) (codeIn (cellFor cells number (getD s i 0 / 16))) 32

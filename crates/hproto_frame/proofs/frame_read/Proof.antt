@@ -4,7 +4,7 @@ use native.Mathlib.Omega.{arith}
 use mathlib.Core.Path.{_∙_}
 use mathlib.Core.List.{List}
 use lib.ListN.{length}
-use Rattle.hproto_frame.proofs.Reading.{read-long, read-empty, read-cut, read-too-large, read-past, read-whole}
+use Rattle.hproto_frame.proofs.FrameReadAnswers.{read-long, read-empty, read-cut, read-too-large, read-past, read-whole}
 use borrow.Author.Needs.{needs}
 use Rattle.hproto_frame.proofs.frame_read.Statement.{statement}
 use Rattle.hproto_frame.proofs.frame_read.Tie as tie
@@ -50,8 +50,8 @@ returns-3 c =
     c .read-refused3 .ensures
     ∙ read-cut (octets w) (w .size-width .result) (short w) (some w) (w .size-width .ensures .0) (c .before .if3 .taken)
 
-sub-left : tie.Need-sub-left
-sub-left c = search needs
+sub-remaining : tie.Need-sub-remaining
+sub-remaining c = search needs
 
 sub-size : tie.Need-sub-size
 sub-size c = search needs
@@ -113,7 +113,7 @@ frame-read-spec =
     add-start
     read-refused-requires-3
     returns-3
-    sub-left
+    sub-remaining
     sub-size
     part-size-start
     part-size-end

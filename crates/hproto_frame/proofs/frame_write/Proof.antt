@@ -1,7 +1,7 @@
 -- `hproto_frame::frame_write` meets its contract.
 use mathlib.Core.Path.{_∙_}
 use lib.ListN.{length-set}
-use Rattle.hproto_frame.proofs.Writing.{write-long, write-no-room, write-done}
+use Rattle.hproto_frame.proofs.FrameWriteAnswers.{write-long, write-no-room, write-done}
 use borrow.Author.Needs.{needs}
 use Rattle.hproto_frame.proofs.frame_write.Statement.{statement}
 use Rattle.hproto_frame.proofs.frame_write.Tie as tie

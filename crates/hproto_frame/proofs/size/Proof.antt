@@ -1,6 +1,6 @@
 -- `hproto_frame::size` meets its contract.
 use borrow.Author.Needs.{needs}
-use Rattle.hproto_frame.proofs.Reading.{size-direct, size-follows}
+use Rattle.hproto_frame.proofs.FrameReadAnswers.{size-direct, size-follows}
 use Rattle.hproto_frame.proofs.size.Statement.{statement}
 use Rattle.hproto_frame.proofs.size.Tie as tie
 

@@ -3,7 +3,7 @@ use native.Mathlib.Omega.{arith}
 use Rattle.octets.specs.Control.{following}
 use Rattle.octets_read.proofs.Leads.{direct, marked}
 use Rattle.hproto_frame.specs.Frame.{frameCode}
-use Rattle.hproto_frame.proofs.Reading.{last-lead}
+use Rattle.hproto_frame.proofs.FrameReadAnswers.{last-lead}
 use Rattle.hproto_frame.proofs.size_width.Statement.{statement}
 use Rattle.hproto_frame.proofs.size_width.Tie as tie
 

@@ -1,4 +1,4 @@
--- What the private function `shortest_prefix` answers.
+-- The prefix that the private function `shortest_prefix` returns.
 use Prim.Native.Nat.{ℕ, _≤_}
 use mathlib.Core.Path.{_≡_}
 use lib.ListN.{length}

@@ -7,7 +7,7 @@ use Rattle.message_calls.specs.Check.{check}
 use Rattle.octets.proofs.Number.{octets-of-slice}
 use Rattle.table_index.proofs.IndexLaws.{octets-few}
 use Rattle.message_calls.specs.Calls.{checkOctets}
-use Rattle.message_calls.proofs.Loading.{message-too-long, index-refused, check-by-index}
+use Rattle.message_calls.proofs.CallsByOctets.{message-too-long, index-refused, check-by-index}
 use borrow.Author.Needs.{needs}
 use Rattle.message_calls.proofs.check.Statement.{statement}
 use Rattle.message_calls.proofs.check.Tie as tie

@@ -3,7 +3,7 @@ use mathlib.Core.Path.{sym, _∙_}
 use borrow.Author.Tests.{not-true, not-false}
 use Rattle.table_index.proofs.IndexLaws.{table-valid, table-schema}
 use Rattle.table_index.specs.internal.Cells.{indexed}
-use Rattle.message_calls.proofs.Counts.{too-long, bad-table, under-valid}
+use Rattle.message_calls.proofs.CheckAnswers.{too-long, bad-table, under-valid}
 use borrow.Author.Needs.{needs}
 use Rattle.message_calls.proofs.check_loaded.Statement.{statement}
 use Rattle.message_calls.proofs.check_loaded.Tie as tie

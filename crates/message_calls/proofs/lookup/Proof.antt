@@ -6,7 +6,7 @@ use Rattle.message_calls.specs.Lookup.{lookup, refusal}
 use Rattle.octets.proofs.Number.{octets-of-slice}
 use Rattle.table_index.proofs.IndexLaws.{octets-few}
 use Rattle.message_calls.specs.Calls.{lookupOctets}
-use Rattle.message_calls.proofs.Loading.{message-too-long, index-refused, lookup-by-index}
+use Rattle.message_calls.proofs.CallsByOctets.{message-too-long, index-refused, lookup-by-index}
 use borrow.Author.Needs.{needs}
 use Rattle.message_calls.proofs.lookup.Statement.{statement}
 use Rattle.message_calls.proofs.lookup.Tie as tie

@@ -7,7 +7,7 @@ use Rattle.message_calls.specs.Shorten.{answer, buffer, refusal}
 use Rattle.octets.proofs.Number.{octets-of-slice}
 use Rattle.table_index.proofs.IndexLaws.{octets-few}
 use Rattle.message_calls.specs.Calls.{shortenOctets, shortenBuffer}
-use Rattle.message_calls.proofs.Loading.{message-too-long, index-refused, shorten-by-index, buffer-by-index}
+use Rattle.message_calls.proofs.CallsByOctets.{message-too-long, index-refused, shorten-by-index, buffer-by-index}
 use borrow.Author.Needs.{needs}
 use Rattle.message_calls.proofs.shorten.Statement.{statement}
 use Rattle.message_calls.proofs.shorten.Tie as tie
@@ -21,7 +21,7 @@ returns c =
     let a = c .before .before .before .before .before .args in
     let h = c .before .if1 .taken in (
       c .refused .ensures ∙ message-too-long (a .table .now) (a .message .now) (λ (t : Table). answer t (a .number) (a .message .now) (a .out .now)) refusal h,
-      message-too-long (a .table .now) (a .message .now) (λ (t : Table). buffer t (a .number) (a .message .now) (a .out .now)) (λ (number place : ℕ). a .out .now) h,
+      message-too-long (a .table .now) (a .message .now) (λ (t : Table). buffer t (a .number) (a .message .now) (a .out .now)) (λ (reason place : ℕ). a .out .now) h,
     )
 
 index-requires : tie.Need-index-requires
@@ -44,7 +44,7 @@ returns-2 c =
     let l = c .before .if2 .taken in (
       c .refused2 .ensures
           ∙ index-refused (a .table .now) (a .message .now) h (x .result) (x .ensures .0) (λ (t : Table). answer t (a .number) (a .message .now) (a .out .now)) refusal l,
-      index-refused (a .table .now) (a .message .now) h (x .result) (x .ensures .0) (λ (t : Table). buffer t (a .number) (a .message .now) (a .out .now)) (λ (number place : ℕ). a .out .now) l,
+      index-refused (a .table .now) (a .message .now) h (x .result) (x .ensures .0) (λ (t : Table). buffer t (a .number) (a .message .now) (a .out .now)) (λ (reason place : ℕ). a .out .now) l,
     )
 
 shorten-under-requires : tie.Need-shorten-under-requires

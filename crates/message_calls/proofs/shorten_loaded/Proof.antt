@@ -7,8 +7,8 @@ use Rattle.table_index.specs.internal.Cells.{indexed}
 use Rattle.table_index.proofs.IndexLaws.{table-valid, table-schema}
 use Rattle.reading.specs.Checks as answers
 use Rattle.message_calls.specs.Check.{check}
-use Rattle.message_calls.proofs.Counts.{too-long, bad-table}
-use Rattle.message_calls.specs.Shorten.{refusal, shortForm, answer, buffer}
+use Rattle.message_calls.proofs.CheckAnswers.{too-long, bad-table}
+use Rattle.message_calls.specs.Shorten.{refusal, shortestByTable, answer, buffer}
 use Rattle.message_calls.proofs.ShortenAnswers.{refused-first, answer-under, buffer-under}
 use borrow.Author.Needs.{needs}
 use Rattle.message_calls.proofs.shorten_loaded.Statement.{statement}
@@ -22,8 +22,8 @@ unfolding refusal answers.refusal answer buffer
 returns c =
     let a = c .before .before .before .before .args in
     let m = now (a .message) in
-    let r = refused-first (check (a .t1) (a .number) m) (shortForm (a .t1) (a .number) m) (now (a .out)) (answers.refusal 1 0) (too-long (a .t1) (a .number) m (c .before .if1 .taken)) (λ z. omega arith) in
-    (c .refused .ensures ∙ r .answered, r .left)
+    let r = refused-first (check (a .t1) (a .number) m) (shortestByTable (a .t1) (a .number) m) (now (a .out)) (answers.refusal 1 0) (too-long (a .t1) (a .number) m (c .before .if1 .taken)) (λ z. omega arith) in
+    (c .refused .ensures ∙ r .result-is, r .buffer-is)
 
 index-table-requires : tie.Need-index-table-requires
 index-table-requires c κs = search needs
@@ -38,8 +38,8 @@ returns-2 c =
     let m = now (a .message) in
     let x = c .before .before .index-table in
     let b = bad-table (a .t1) (a .number) m (c .before .before .before .before .before .before .if1 .left) (sym (table-valid (a .t1) (x .ensures .0)) ∙ not-true (x .result) (c .before .if2 .taken)) in
-    let r = refused-first (check (a .t1) (a .number) m) (shortForm (a .t1) (a .number) m) (now (a .out)) (answers.refusal 2 0) b (λ z. omega arith) in
-    (c .refused2 .ensures ∙ r .answered, r .left)
+    let r = refused-first (check (a .t1) (a .number) m) (shortestByTable (a .t1) (a .number) m) (now (a .out)) (answers.refusal 2 0) b (λ z. omega arith) in
+    (c .refused2 .ensures ∙ r .result-is, r .buffer-is)
 
 shorten-under-requires : tie.Need-shorten-under-requires
 shorten-under-requires c κs = search needs

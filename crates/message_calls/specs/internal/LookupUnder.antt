@@ -11,13 +11,13 @@ use Rattle.message_calls.specs.declared.outermost.Occurrence.{Occurrence
 use Rattle.message_calls.specs.declared.outermost.Occurrence.the-variants.{Nth, Last}
 use Rattle.message_calls.specs.declared.Found.{Found}
 
-unfoldable pub answerUnder : Schema → ℕ → List ℕ → ℕ → Occurrence → Found
-answerUnder sc n s tag which =
+unfoldable pub lookUnder : Schema → ℕ → List ℕ → ℕ → Occurrence → Found
+lookUnder sc n s tag which =
     let c = checkUnder sc n s in
     cond (eqb (c .refusal) 0) (foundIn sc n tag which (reading sc n s)) (refusal (c .refusal) (c .place))
 
 unfoldable pub lookupUnder : Schema → ℕ → List ℕ → ℕ → ℕ → Found
-lookupUnder sc n s tag k = answerUnder sc n s tag (Nth k)
+lookupUnder sc n s tag k = lookUnder sc n s tag (Nth k)
 
 unfoldable pub lookupLastUnder : Schema → ℕ → List ℕ → ℕ → Found
-lookupLastUnder sc n s tag = answerUnder sc n s tag Last
+lookupLastUnder sc n s tag = lookUnder sc n s tag Last

@@ -4,10 +4,10 @@ use mathlib.Core.List.{List}
 use Rattle.hproto_table.specs.Schema.{Schema}
 use Rattle.message_calls.specs.Check.{checkUnder}
 use Rattle.message_calls.specs.declared.Shortened.{Shortened}
-use Rattle.message_calls.specs.Shorten.{answerTo, bufferTo, shortUnder}
+use Rattle.message_calls.specs.Shorten.{shortenResult, resultBuffer, shortestUnder}
 
-unfoldable pub answerUnder : Schema → ℕ → List ℕ → List ℕ → Shortened
-answerUnder sc n s out = answerTo (checkUnder sc n s) (shortUnder sc n s) out
+unfoldable pub shortenUnder : Schema → ℕ → List ℕ → List ℕ → Shortened
+shortenUnder sc n s out = shortenResult (checkUnder sc n s) (shortestUnder sc n s) out
 
 unfoldable pub bufferUnder : Schema → ℕ → List ℕ → List ℕ → List ℕ
-bufferUnder sc n s out = bufferTo (checkUnder sc n s) (shortUnder sc n s) out
+bufferUnder sc n s out = resultBuffer (checkUnder sc n s) (shortestUnder sc n s) out

@@ -1,4 +1,4 @@
--- What the private function `nested` answers: what a reading comes to, with the counts of its cut.
+-- The verdict that the private function `traverse` returns: a reading's refusal, or the counts of its cut.
 use Prim.Native.Nat.{ℕ, _+_}
 use Rattle.reading.specs.Reading.{Reading}
 use Rattle.reading.specs.internal.Verdicts.{verdictOf}

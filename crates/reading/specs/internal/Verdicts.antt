@@ -1,4 +1,4 @@
--- The answer of a check in two steps, as the readers have it: what the verdict through the message comes to, and the answer by that.
+-- The answer of a check in two steps, as the readers compute it: the verdict of the traversal, and the answer by that verdict.
 use Prim.Native.Nat.{ℕ}
 use Rattle.reading.specs.declared.Verdict.{Verdict}
 use Rattle.reading.specs.declared.Verdict.the-variants.{Accepted, Refused}
@@ -7,14 +7,15 @@ use Rattle.reading.specs.Reading.{Reading, accepted, refused}
 use Rattle.reading.specs.Checks.{refusal}
 use mathlib.Core.Path.{_≡_}
 
--- The same in two steps, as the readers have it: what the verdict through the message comes to, and the answer by that.
+-- The verdict of a reading.
 unfoldable pub verdictOf : {A : Type 0} → (A → ℕ) → (A → ℕ) → Reading A → Verdict
 verdictOf fields depth (accepted x) = Accepted (fields x) (depth x)
-verdictOf fields depth (refused number place) = Refused number place
+verdictOf fields depth (refused reason place) = Refused reason place
 
+-- The answer by a verdict.
 unfoldable pub checkedBy : Verdict → Checked
 checkedBy (Accepted f d) = record { refusal = 0; place = 0; fields = f; depth = d }
-checkedBy (Refused number place) = refusal number place
+checkedBy (Refused reason place) = refusal reason place
 
 -- A reading that accepts.
 unfoldable pub IsAccepted : {A : Type 0} → Reading A → Type 0

@@ -2,7 +2,7 @@
 use mathlib.Core.Path.{ap, _∙_}
 use lib.ListN.{length}
 use Rattle.reading.specs.internal.Verdicts.{checkedBy}
-use Rattle.reading.proofs.Checks.{answer-by-walk}
+use Rattle.reading.proofs.Checks.{answer-by-verdict}
 use Rattle.tib_msg_field.specs.Reading.{reading}
 use Rattle.tib_msg.specs.Answers.{depth, check}
 use borrow.Author.Needs.{needs}
@@ -19,7 +19,7 @@ returns : tie.Need-returns
 unfolding check
 returns c =
     let r = c .before in
-    c .answer .ensures ∙ ap checkedBy (r .read .ensures) ∙ answer-by-walk length depth (reading (r .before .before .args .message .now))
+    c .answer .ensures ∙ ap checkedBy (r .read .ensures) ∙ answer-by-verdict length depth (reading (r .before .before .args .message .now))
 
 pub check-spec : {M : Type 1} → statement M
 check-spec = tie.close (tie.spec read-requires answer-requires returns)

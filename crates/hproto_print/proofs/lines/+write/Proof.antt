@@ -13,7 +13,7 @@ use Rattle.table_index.specs.internal.Cells.{indexed}
 use Rattle.hproto_field.specs.internal.Heads.{headAt}
 use Rattle.hproto_field.specs.declared.Head.the-variants.{Field}
 use Rattle.hproto_field.proofs.Heads.{fieldless}
-use Rattle.hproto_field.proofs.Passing.{Ends}
+use Rattle.hproto_field.proofs.FieldsByHead.{Ends}
 use Rattle.hproto_print.proofs.WriteLoop.{plain-kind, Progress, begun, ended, same-length, next-ends, leaf-contents, leaf-written, nested-accepts, nested-written}
 use borrow.Fn.Kinds.{In}
 use borrow.Fn.PlainCycle.{Measures, is, falls, and}
@@ -84,7 +84,7 @@ module _ (t : ℕ) (c : Found t) where
   found = rw (take-length (now (b .args .s))) at (sym (c .before .before .before .before .head-at .ensures) ∙ c .before .before .tag .given .1)
 
   -- Where the field ends.
-  ends-of : Ends (sc t b) (b .args .levels - 1) (b .args .number) (now (b .args .s)) i (state .left) tag start stop found
+  ends-of : Ends (sc t b) (b .args .levels - 1) (b .args .number) (now (b .args .s)) i (state .remaining) tag start stop found
   ends-of = next-ends (sc t b) (b .args .levels) (b .args .number) (now (b .args .s)) (now (b .args .out)) (b .args .from) (b .args .at) i end out state tag start stop found kind (c .find .ensures)
 
 write-loop-holds : (t : ℕ) → write-lts.Need-loop-holds (head-at-reads.Asked, head-at-reads.Learnt, find-reads.Asked, find-reads.Learnt, message-line-reads.Asked, message-line-reads.Learnt, write-below t, write.Post, leaf-line-reads.Asked, leaf-line-reads.Learnt) (write-at t) write.Post write-Inv-loop write-μ-loop

@@ -11,7 +11,7 @@ use Rattle.table_index.specs.internal.Cells.{indexed}
 use Rattle.hproto_field.specs.internal.Heads.{headAt}
 use Rattle.hproto_field.specs.declared.Head.the-variants.{Field}
 use Rattle.hproto_field.proofs.Heads.{fieldless}
-use Rattle.hproto_field.proofs.Passing.{Ends}
+use Rattle.hproto_field.proofs.FieldsByHead.{Ends}
 use Rattle.hproto_print.proofs.CountLoop.{Counted, none-counted, all-counted, count-ends, counted-more}
 use Rattle.hproto_print.proofs.lines.direct.Statement.{statement}
 use Rattle.hproto_print.proofs.lines.direct.Tie as tie
@@ -45,7 +45,7 @@ module _ (c : tie.After-known-told Inv-loop μ-loop) where
   found : headAt i (drop i (now (b .args .s))) ≡ Field tag start stop
   found = rw (take-length (now (b .args .s))) at (sym (c .before .before .before .head-at .ensures) ∙ c .before .end .given .1)
 
-  at-end : Ends (sc b) 7 (b .args .number) (now (b .args .s)) i (c .before .before .before .before .loop .inv .left) tag start stop found
+  at-end : Ends (sc b) 7 (b .args .number) (now (b .args .s)) i (c .before .before .before .before .loop .inv .remaining) tag start stop found
   at-end =
       let l = c .before .before .before .before .loop in
       count-ends (sc b) (b .args .number) (now (b .args .s)) i (l .n) (l .inv) tag start stop found

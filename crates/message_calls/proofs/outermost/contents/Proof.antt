@@ -1,6 +1,6 @@
 use mir.Syntax.{w64}
 use mir.ValLaws.{toZ-ofZ}
-use Rattle.message_calls.specs.internal.Spots.{read}
+use Rattle.message_calls.specs.internal.Spans.{read}
 use borrow.Author.Needs.{needs}
 use Rattle.message_calls.proofs.outermost.contents.Statement.{statement}
 use Rattle.message_calls.proofs.outermost.contents.Tie as tie

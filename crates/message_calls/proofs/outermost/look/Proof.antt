@@ -5,7 +5,7 @@ use borrow.Author.Tests.{not-true, not-false}
 use Rattle.table_index.specs.internal.Cells.{indexed}
 use Rattle.table_index.proofs.IndexLaws.{table-valid, table-schema}
 use Rattle.reading.specs.Checks as answers
-use Rattle.message_calls.proofs.Counts.{too-long, bad-table}
+use Rattle.message_calls.proofs.CheckAnswers.{too-long, bad-table}
 use Rattle.message_calls.specs.Lookup.{refusal}
 use Rattle.message_calls.proofs.LookupAnswers.{refused-first, answer-under}
 use borrow.Author.Needs.{needs}

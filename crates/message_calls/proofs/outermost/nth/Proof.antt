@@ -14,10 +14,10 @@ use Rattle.message_calls.proofs.outermost.nth.Statement.{statement}
 use Rattle.message_calls.proofs.outermost.nth.Tie as tie
 
 abbrev Inv-loop : tie.InvT-loop
-Inv-loop s tag k i₀ left₀ i left = Sought tag s k i left
+Inv-loop s tag k i₀ remaining₀ i remaining = Sought tag s k i remaining
 
 abbrev μ-loop : tie.MeasureT-loop
-μ-loop s tag k i₀ left₀ i left = length s - i
+μ-loop s tag k i₀ remaining₀ i remaining = length s - i
 
 -- What the code found at i.
 found : (c : tie.After-head-at Inv-loop μ-loop)
@@ -53,10 +53,10 @@ module _ (c : tie.After-known-told Inv-loop μ-loop) where
   abbrev k : ℕ
   k = c .before .before .before .before .before .before .args .k
 
-  abbrev left : ℕ
-  left = c .before .before .before .before .loop .left
+  abbrev remaining : ℕ
+  remaining = c .before .before .before .before .loop .remaining
 
-  abbrev state : Sought tag s k i left
+  abbrev state : Sought tag s k i remaining
   state = c .before .before .before .before .loop .inv
 
 loop-holds : tie.Need-loop-holds Inv-loop μ-loop
@@ -71,10 +71,10 @@ enum-known-t c = search needs
 returns : tie.Need-returns Inv-loop μ-loop
 returns c =
     let f = c .before .before in
-    reached (tag f) (s f) (k f) (i f) (left f) (state f) (t f) (start f) (end f) (is f) (c .before .if1 .taken) (c .if2 .taken)
+    reached (tag f) (s f) (k f) (i f) (remaining f) (state f) (t f) (start f) (end f) (is f) (c .before .if1 .taken) (c .if2 .taken)
 
-sub-left : tie.Need-sub-left Inv-loop μ-loop
-sub-left c = search needs
+sub-remaining : tie.Need-sub-remaining Inv-loop μ-loop
+sub-remaining c = search needs
 
 loop-less : tie.Need-loop-less Inv-loop μ-loop
 loop-less c = let h = passed (c .before .before) in omega arith
@@ -82,7 +82,7 @@ loop-less c = let h = passed (c .before .before) in omega arith
 loop-again : tie.Need-loop-again Inv-loop μ-loop
 loop-again c =
     let f = c .before .before in
-    one-passed (tag f) (s f) (k f) (i f) (left f) (state f) (t f) (start f) (end f) (is f) (c .before .if1 .taken) (c .if2 .left)
+    one-passed (tag f) (s f) (k f) (i f) (remaining f) (state f) (t f) (start f) (end f) (is f) (c .before .if1 .taken) (c .if2 .left)
 
 loop-less-2 : tie.Need-loop-less-2 Inv-loop μ-loop
 loop-less-2 c = let h = passed (c .before) in omega arith
@@ -90,13 +90,13 @@ loop-less-2 c = let h = passed (c .before) in omega arith
 loop-again-2 : tie.Need-loop-again-2 Inv-loop μ-loop
 loop-again-2 c =
     let f = c .before in
-    other-passed (tag f) (s f) (k f) (i f) (left f) (state f) (t f) (start f) (end f) (is f) (c .if1 .left)
+    other-passed (tag f) (s f) (k f) (i f) (remaining f) (state f) (t f) (start f) (end f) (is f) (c .if1 .left)
 
 returns-2 : tie.Need-returns-2 Inv-loop μ-loop
 returns-2 c =
     let f = c .before in
     let a = f .before .before .before .args in
-    not-there (a .tag) (now (a .s)) (a .k) (f .before .loop .i) (f .before .loop .left) (f .before .loop .inv) (f .head-at .result)
+    not-there (a .tag) (now (a .s)) (a .k) (f .before .loop .i) (f .before .loop .remaining) (f .before .loop .inv) (f .head-at .result)
     (sym (found f)) (fieldless (f .head-at .result) (c .match .keys2))
 
 pub nth-spec : {M : Type 1} → statement M
@@ -109,7 +109,7 @@ nth-spec =
     head-at-requires
     enum-known-t
     returns
-    sub-left
+    sub-remaining
     loop-less
     loop-again
     loop-less-2

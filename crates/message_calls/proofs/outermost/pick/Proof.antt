@@ -1,5 +1,5 @@
 use borrow.Author.Needs.{needs}
-use Rattle.message_calls.specs.internal.Spots.{chosenSpot}
+use Rattle.message_calls.specs.internal.Spans.{chosenSpan}
 use Rattle.message_calls.proofs.outermost.pick.Statement.{statement}
 use Rattle.message_calls.proofs.outermost.pick.Tie as tie
 
@@ -16,11 +16,11 @@ last-requires : tie.Need-last-requires
 last-requires c κs = search needs
 
 returns : tie.Need-returns
-unfolding chosenSpot
+unfolding chosenSpan
 returns c = rw (c .before .before .which .given .1) (c .nth .ensures)
 
 returns-2 : tie.Need-returns-2
-unfolding chosenSpot
+unfolding chosenSpan
 returns-2 c = rw (c .before .enum-told .given .1) (c .last .ensures)
 
 pub pick-spec : {M : Type 1} → statement M

@@ -3,7 +3,7 @@ use mathlib.Core.Path.{_∙_}
 use mir.Syntax.{w64}
 use mir.ValLaws.{toZ-ofZ}
 use borrow.Author.Tests.{eq-eqb, ne-eqb}
-use Rattle.message_calls.specs.internal.Spots.{intIn}
+use Rattle.message_calls.specs.internal.Spans.{intIn}
 use borrow.Author.Needs.{needs}
 use Rattle.message_calls.proofs.outermost.signed.Statement.{statement}
 use Rattle.message_calls.proofs.outermost.signed.Tie as tie

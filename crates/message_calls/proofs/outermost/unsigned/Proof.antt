@@ -1,6 +1,6 @@
 -- `unsigned` reads a number only where the kind is uint.
 use borrow.Author.Tests.{eq-eqb, ne-eqb}
-use Rattle.message_calls.specs.internal.Spots.{uintIn}
+use Rattle.message_calls.specs.internal.Spans.{uintIn}
 use borrow.Author.Needs.{needs}
 use Rattle.message_calls.proofs.outermost.unsigned.Statement.{statement}
 use Rattle.message_calls.proofs.outermost.unsigned.Tie as tie

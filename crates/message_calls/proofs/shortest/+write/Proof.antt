@@ -16,11 +16,11 @@ use Rattle.table_index.proofs.Meanings as meaning
 use Rattle.hproto_field.specs.internal.Heads.{headAt}
 use Rattle.hproto_field.specs.declared.Head.the-variants.{Field}
 use Rattle.hproto_field.proofs.Heads.{fieldless}
-use Rattle.hproto_field.proofs.Passing.{Ends}
-use Rattle.message_calls.specs.internal.Stores.{short, Put}
+use Rattle.hproto_field.proofs.FieldsByHead.{Ends}
+use Rattle.message_calls.specs.internal.Stores.{shortestWithin, Put}
 use Rattle.octets.proofs.Number.{octets-part}
 use Rattle.message_calls.proofs.Codes.{plain-code, code-means}
-use Rattle.message_calls.proofs.Writing.{Progress, begun, ended, same-length, next-ends, next-contents, leaf-fits, leaf-written, nested-accepts, nested-fits, inner-after, wrap-fits, nested-written}
+use Rattle.message_calls.proofs.WriteLoop.{Progress, begun, ended, same-length, next-ends, next-contents, leaf-fits, leaf-written, nested-accepts, nested-fits, inner-after, wrap-fits, nested-written}
 use borrow.Fn.Kinds.{In}
 use borrow.Fn.PlainCycle.{Measures, is, falls, and}
 use Rattle.message_calls.proofs.shortest.write.Reads as write
@@ -69,7 +69,7 @@ module _ (t : ℕ) (b : At-start t) where
   accepts : Accepts sc (suc (b .args .levels - 1)) (b .args .number) (now (b .args .s))
   accepts = subst (λ (r : ℕ). Accepts sc r (b .args .number) (now (b .args .s))) (sym levels-is) (b .pre .1 .1 .0)
 
-  fits : b .args .to + length (short sc (suc (b .args .levels - 1)) (b .args .number) (now (b .args .s))) ≤ length (now (b .args .out))
+  fits : b .args .to + length (shortestWithin sc (suc (b .args .levels - 1)) (b .args .number) (now (b .args .s))) ≤ length (now (b .args .out))
   fits = rw levels-is (b .pre .1 .1 .1)
 
 module _ (t : ℕ) (c : Coded t) where
@@ -106,7 +106,7 @@ module _ (t : ℕ) (c : Coded t) where
   means : meaningOf code ≡ sc t b .means (b .args .number) tag
   means = code-means (now (b .args .cells)) (b .args .number) tag (c .before .cell .result) code (c .before .cell .ensures) (c .code .ensures)
 
-  next : Ends (sc t b) (b .args .levels - 1) (b .args .number) (now (b .args .s)) i (state .passed .left) tag start end found
+  next : Ends (sc t b) (b .args .levels - 1) (b .args .number) (now (b .args .s)) i (state .passed .remaining) tag start end found
   next = next-ends (sc t b) (b .args .levels - 1) (b .args .number) (now (b .args .s)) (now (b .args .out)) (b .args .to) (fits t b) i place out state (octets t b) tag start end found (meaningOf code) means
 
   -- The number of the message that the field holds.
@@ -122,7 +122,7 @@ module _ (t : ℕ) (c : Coded t) where
   inside : (h : 5 ≤ code) → (1 ≤ b .args .levels - 1) × Accepts (sc t b) (b .args .levels - 1) inner contents
   inside h = nested-accepts (sc t b) (b .args .levels - 1) (b .args .number) (now (b .args .s)) (now (b .args .out)) (b .args .to) (fits t b) i place out state (octets t b) tag start end found (meaningOf code) means inner (message h)
 
-  inner-fits : 5 ≤ code → place + 1 + length (short (sc t b) (b .args .levels - 1) inner contents) ≤ length out
+  inner-fits : 5 ≤ code → place + 1 + length (shortestWithin (sc t b) (b .args .levels - 1) inner contents) ≤ length out
   inner-fits h = nested-fits (sc t b) (b .args .levels - 1) (b .args .number) (now (b .args .s)) (now (b .args .out)) (b .args .to) (fits t b) i place out state (octets t b) tag start end found (meaningOf code) means inner (message h)
 
   -- There is room for the octet before the nested message.
@@ -133,7 +133,7 @@ module _ (t : ℕ) (c : Coded t) where
       let g = b .good in
       omega arith
 
-  module _ (h : 5 ≤ code) (x : ℕ) (between : List ℕ) (put : Put out (place + 1) (short (sc t b) (b .args .levels - 1) inner contents) x between) where
+  module _ (h : 5 ≤ code) (x : ℕ) (between : List ℕ) (put : Put out (place + 1) (shortestWithin (sc t b) (b .args .levels - 1) inner contents) x between) where
     after-inner : place + 1 ≤ x
     after-inner = inner-after (sc t b) (b .args .levels - 1) (b .args .number) (now (b .args .s)) (now (b .args .out)) (b .args .to) (fits t b) i place out state (octets t b) tag start end found (meaningOf code) means inner (message h) x between put
 
@@ -236,7 +236,7 @@ write-returns t c =
     let s = c .before .before .before .before .before in
     let l = c .before .before .loop in
     let h = c .before .next-field in
-    subst (λ (r : ℕ). Put (now (s .args .out)) (s .args .to) (short (sc t s) r (s .args .number) (now (s .args .s))) (l .place) (l .out)) (levels-is t s)
+    subst (λ (r : ℕ). Put (now (s .args .out)) (s .args .to) (shortestWithin (sc t s) r (s .args .number) (now (s .args .s))) (l .place) (l .out)) (levels-is t s)
     (ended (sc t s) (s .args .levels - 1) (s .args .number) (now (s .args .s)) (now (s .args .out)) (s .args .to) (l .i) (l .place) (l .out) (l .inv)
     (h .result) (sym (h .ensures)) (fieldless (h .result) (c .match .keys2)))
 

@@ -83,8 +83,8 @@ add-start c =
     let g = c .before .before .before .before .before .before .before .good in
     omega arith
 
-sub-left : tie.Need-sub-left
-sub-left c = size-fits (c .before .before .before) (tag c) (len c) (size c) (is c)
+sub-remaining : tie.Need-sub-remaining
+sub-remaining c = size-fits (c .before .before .before) (tag c) (len c) (size c) (is c)
 
 returns-2 : tie.Need-returns-2
 returns-2 c =
@@ -123,7 +123,7 @@ next-field-spec =
     enum-told-2
     enum-known-tag
     add-start
-    sub-left
+    sub-remaining
     returns-2
     add-t16
     returns-3

@@ -2,7 +2,7 @@ use borrow.Author.Needs.{needs}
 use native.Mathlib.Omega.{arith}
 use denote.Ref.{now}
 use Rattle.octets.proofs.Number.{length-octetsOf}
-use Rattle.message_calls.proofs.Puts.{one-digit}
+use Rattle.message_calls.proofs.FieldStores.{one-digit}
 use Rattle.message_calls.proofs.shortest.put_digits.Statement.{statement}
 use Rattle.message_calls.proofs.shortest.put_digits.Tie as tie
 

@@ -5,7 +5,7 @@ use denote.Ref.{now}
 use mir.Syntax.{w64}
 use mir.ValLaws.{toZ-ofZ}
 use Rattle.octets.specs.internal.Least.{intWidthBits}
-use Rattle.message_calls.proofs.Puts.{int-held}
+use Rattle.message_calls.proofs.FieldStores.{int-held}
 use borrow.Author.Needs.{needs}
 use Rattle.message_calls.proofs.shortest.put_int.Statement.{statement}
 use Rattle.message_calls.proofs.shortest.put_int.Tie as tie

@@ -5,12 +5,12 @@ use mathlib.Core.Path.{refl}
 use denote.Ref.{now}
 use lib.ListN.{length}
 use Rattle.hproto_message.proofs.Fields.{field-length}
-use Rattle.message_calls.proofs.Puts.{field-put}
+use Rattle.message_calls.proofs.FieldStores.{field-put}
 use Rattle.message_calls.proofs.shortest.put_plain.Statement.{statement}
 use Rattle.message_calls.proofs.shortest.put_plain.Tie as tie
 
-put-front-requires : tie.Need-put-front-requires
-put-front-requires c κs =
+put-least-control-requires : tie.Need-put-least-control-requires
+put-least-control-requires c κs =
     let s = c .before .before .before in
     let h = s .pre in
     let l = field-length (s .args .tag) (now (s .args .s)) in
@@ -26,7 +26,7 @@ add-result c =
     let h = s .pre in
     let g = s .good in
     let l = field-length (s .args .tag) (now (s .args .s)) in
-    let p = k .put-front .ensures .place in
+    let p = k .put-least-control .ensures .place in
     omega arith
 
 same-length : tie.Need-same-length
@@ -37,9 +37,9 @@ returns c =
     let k = c .before .before .before .before .before .before in
     let s = k .before .before .before .before in
     let x = now (s .args .s) in
-    field-put (now (s .args .out)) (s .args .to) (s .args .tag) (length x) x (k .put-front .result) (k .put-front .result + length x)
-    (k .put-front .last .1 .1 .0) (c .before .before .put-octets .last .0) refl (s .pre) (k .put-front .ensures) (record { place = refl; buffer = c .before .before .put-octets .ensures })
+    field-put (now (s .args .out)) (s .args .to) (s .args .tag) (length x) x (k .put-least-control .result) (k .put-least-control .result + length x)
+    (k .put-least-control .last .1 .1 .0) (c .before .before .put-octets .last .0) refl (s .pre) (k .put-least-control .ensures) (record { place = refl; buffer = c .before .before .put-octets .ensures })
 
 pub put-plain-spec : {M : Type 1} → statement M
 put-plain-spec =
-    tie.close (tie.spec put-front-requires put-octets-requires add-result same-length returns)
+    tie.close (tie.spec put-least-control-requires put-octets-requires add-result same-length returns)

@@ -1,7 +1,7 @@
 -- `put_uint` puts the least octets of the number that was read.
 use native.Mathlib.Omega.{arith}
 use denote.Ref.{now}
-use Rattle.message_calls.proofs.Puts.{uint-held}
+use Rattle.message_calls.proofs.FieldStores.{uint-held}
 use borrow.Author.Needs.{needs}
 use Rattle.message_calls.proofs.shortest.put_uint.Statement.{statement}
 use Rattle.message_calls.proofs.shortest.put_uint.Tie as tie

@@ -3,7 +3,7 @@ use native.Mathlib.Omega.{arith}
 use mathlib.Core.Path.{_∙_}
 use denote.Ref.{now}
 use borrow.Author.Tests.{ltb-true}
-use Rattle.message_calls.proofs.Puts.{control-some, direct-wrapped}
+use Rattle.message_calls.proofs.FieldStores.{control-some, direct-wrapped}
 use borrow.Author.Needs.{needs}
 use Rattle.message_calls.proofs.shortest.wrap.Statement.{statement}
 use Rattle.message_calls.proofs.shortest.wrap.Tie as tie
@@ -49,8 +49,8 @@ sub-move-up c =
 move-up-requires : tie.Need-move-up-requires
 move-up-requires c κs = search needs
 
-wide-front-requires : tie.Need-wide-front-requires
-wide-front-requires c κs = search needs
+put-wide-control-requires : tie.Need-put-wide-control-requires
+put-wide-control-requires c κs = search needs
 
 add-result-3 : tie.Need-add-result-3
 add-result-3 c = search needs
@@ -62,7 +62,7 @@ returns-2 : tie.Need-returns-2
 returns-2 c =
     let k = c .before .before .before .before .before .before .before .before in
     let e = k .control-size .ensures in
-    let w = c .before .before .wide-front .ensures in
+    let w = c .before .before .put-wide-control .ensures in
     (rw (w .place), w .buffer ∙ rw (c .before .before .before .before .before .before .move-up .ensures, e))
 
 pub wrap-spec : {M : Type 1} → statement M
@@ -79,7 +79,7 @@ wrap-spec =
     add-move-up
     sub-move-up
     move-up-requires
-    wide-front-requires
+    put-wide-control-requires
     add-result-3
     same-length-2
     returns-2)

@@ -19,11 +19,11 @@ use Rattle.table_index.proofs.Meanings as meaning
 use Rattle.hproto_field.specs.internal.Heads.{headAt}
 use Rattle.hproto_field.specs.declared.Head.the-variants.{Field}
 use Rattle.hproto_field.proofs.Heads.{fieldless}
-use Rattle.hproto_field.proofs.Passing.{Ends}
-use Rattle.message_calls.specs.internal.Stores.{short}
+use Rattle.hproto_field.proofs.FieldsByHead.{Ends}
+use Rattle.message_calls.specs.internal.Stores.{shortestWithin}
 use Rattle.octets.proofs.Number.{octets-part}
 use Rattle.message_calls.proofs.Codes.{plain-code, code-means}
-use Rattle.message_calls.proofs.Measuring.{Counted, counted-none, counted-all, counted-few, short-few, next-ends, next-contents, leaf-counted, nested-accepts, nested-counted}
+use Rattle.message_calls.proofs.MeasureLoop.{Counted, counted-none, counted-all, counted-few, short-few, next-ends, next-contents, leaf-counted, nested-accepts, nested-counted}
 use borrow.Fn.Kinds.{In}
 use borrow.Fn.PlainCycle.{Measures, is, falls, and}
 use Rattle.message_calls.proofs.sizes.measure.Reads as measure
@@ -75,7 +75,7 @@ module _ (t : ℕ) (b : At-start t) where
   accepts : Accepts sc (suc (b .args .levels - 1)) (b .args .number) (now (b .args .s))
   accepts = subst (λ (r : ℕ). Accepts sc r (b .args .number) (now (b .args .s))) (sym levels-is) (b .pre .1 .1 .1)
 
-  whole-few : length (short sc (suc (b .args .levels - 1)) (b .args .number) (now (b .args .s))) ≤ 65536
+  whole-few : length (shortestWithin sc (suc (b .args .levels - 1)) (b .args .number) (now (b .args .s))) ≤ 65536
   whole-few = let h = short-few sc (suc (b .args .levels - 1)) (b .args .number) (now (b .args .s)) octets accepts in let k = few in omega arith
 
   -- What has been counted so far is small.
@@ -117,7 +117,7 @@ module _ (t : ℕ) (c : Coded t) where
   means : meaningOf code ≡ sc t b .means (b .args .number) tag
   means = code-means (now (b .args .cells)) (b .args .number) tag (c .before .cell .result) code (c .before .cell .ensures) (c .code .ensures)
 
-  next : Ends (sc t b) (b .args .levels - 1) (b .args .number) (now (b .args .s)) i (state .passed .left) tag start end found
+  next : Ends (sc t b) (b .args .levels - 1) (b .args .number) (now (b .args .s)) i (state .passed .remaining) tag start end found
   next = next-ends (sc t b) (b .args .levels - 1) (b .args .number) (now (b .args .s)) i size state (octets t b) tag start end found (meaningOf code) means
 
   -- The number of the message that the field holds.
@@ -138,7 +138,7 @@ module _ (t : ℕ) (c : Coded t) where
       → Counted (sc t b) (b .args .levels - 1) (b .args .number) (now (b .args .s)) end (size + r)
   leaf h r e = leaf-counted (sc t b) (b .args .levels - 1) (b .args .number) (now (b .args .s)) i size state (octets t b) tag start end found (meaningOf code) means r (plain-code code h) e
 
-  nested : 5 ≤ code → (n l : ℕ) → n ≡ length (short (sc t b) (b .args .levels - 1) inner contents) → l ≡ length (leastControl (tag % 65536) n)
+  nested : 5 ≤ code → (n l : ℕ) → n ≡ length (shortestWithin (sc t b) (b .args .levels - 1) inner contents) → l ≡ length (leastControl (tag % 65536) n)
       → Counted (sc t b) (b .args .levels - 1) (b .args .number) (now (b .args .s)) end (size + (l + n))
   nested h n l p q = nested-counted (sc t b) (b .args .levels - 1) (b .args .number) (now (b .args .s)) i size state (octets t b) tag start end found (meaningOf code) means inner (message h) n l p q
 
@@ -236,7 +236,7 @@ measure-returns t c =
     let h = c .before .head-at in
     counted-all (sc t s) (s .args .levels - 1) (s .args .number) (now (s .args .s)) (l .i) (l .size) (l .inv)
     (h .result) (rw (take-length (now (s .args .s))) at (sym (h .ensures))) (fieldless (h .result) (c .match .keys2))
-    ∙ ap (λ (r : ℕ). length (short (sc t s) r (s .args .number) (now (s .args .s)))) (levels-is t s)
+    ∙ ap (λ (r : ℕ). length (shortestWithin (sc t s) r (s .args .number) (now (s .args .s)))) (levels-is t s)
 
 pub +measure-spec : {M : Type 1} → statement M
 +measure-spec = close μ-measure λ t. measure-lts.spec (head-at-reads.Asked, head-at-reads.Learnt, cell-reads.Asked, cell-reads.Learnt, code-reads.Asked, code-reads.Learnt, value-size-reads.Asked, value-size-reads.Learnt, measure-below t, measure.Post, control-size-reads.Asked, control-size-reads.Learnt)

@@ -5,8 +5,8 @@ use denote.Ref.{now}
 use lib.ListN.{length}
 use borrow.Author.Tests.{le-leb}
 use Rattle.table_index.specs.internal.Cells.{indexed}
-use Rattle.message_calls.specs.internal.Stores.{short}
-use Rattle.message_calls.proofs.Measuring.{short-few}
+use Rattle.message_calls.specs.internal.Stores.{shortestWithin}
+use Rattle.message_calls.proofs.MeasureLoop.{short-few}
 use Rattle.message_calls.proofs.sizes.has_room.Statement.{statement}
 use Rattle.message_calls.proofs.sizes.has_room.Tie as tie
 
@@ -16,7 +16,7 @@ returns c =
     let es = indexed (now (s .args .cells)) in
     let h = short-few es 8 (s .args .number) (now (s .args .message)) (s .pre .1 .0) (s .pre .1 .1) in
     let k = c .if1 .taken in
-    sym (le-leb (length (short es 8 (s .args .number) (now (s .args .message)))) (s .args .len) (omega arith))
+    sym (le-leb (length (shortestWithin es 8 (s .args .number) (now (s .args .message)))) (s .args .len) (omega arith))
 
 measure-requires : tie.Need-measure-requires
 measure-requires c κs = search needs

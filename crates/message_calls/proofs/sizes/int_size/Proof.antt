@@ -7,7 +7,7 @@ use mir.Syntax.{w64}
 use mir.ValLaws.{toZ-ofZ}
 use Rattle.octets.specs.internal.Least.{intWidthBits}
 use Rattle.octets.proofs.Number.{length-octetsOf}
-use Rattle.message_calls.proofs.Puts.{int-held}
+use Rattle.message_calls.proofs.FieldStores.{int-held}
 use borrow.Author.Needs.{needs}
 use Rattle.message_calls.proofs.sizes.int_size.Statement.{statement}
 use Rattle.message_calls.proofs.sizes.int_size.Tie as tie

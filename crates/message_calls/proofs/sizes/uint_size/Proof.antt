@@ -4,7 +4,7 @@ use mathlib.Core.Path.{sym, ap, _∙_}
 use denote.Ref.{now}
 use lib.ListN.{length}
 use Rattle.octets.proofs.Number.{length-octetsOf}
-use Rattle.message_calls.proofs.Puts.{uint-held}
+use Rattle.message_calls.proofs.FieldStores.{uint-held}
 use borrow.Author.Needs.{needs}
 use Rattle.message_calls.proofs.sizes.uint_size.Statement.{statement}
 use Rattle.message_calls.proofs.sizes.uint_size.Tie as tie

@@ -8,7 +8,7 @@ use Rattle.table_index.specs.internal.Cells.{meaningOf}
 use Rattle.hproto_message.specs.Tree.{value}
 use Rattle.hproto_message.specs.Shortest.{leastContents}
 use Rattle.hproto_message.proofs.Fields.{field-length}
-use Rattle.message_calls.proofs.Measuring.{control-few, least-few}
+use Rattle.message_calls.proofs.MeasureLoop.{control-few, least-few}
 use Rattle.message_calls.proofs.sizes.value_size.Statement.{statement}
 use Rattle.message_calls.proofs.sizes.value_size.Tie as tie
 

@@ -3,7 +3,7 @@ use borrow.Author.Needs.{needs}
 use mathlib.Core.Path.{_∙_}
 use denote.Ref.{now}
 use Rattle.table_index.specs.internal.Cells.{indexed}
-use Rattle.message_calls.proofs.Counts.{too-long-under, bad-number, by-walk}
+use Rattle.message_calls.proofs.CheckAnswers.{too-long-under, bad-number, by-verdict}
 use Rattle.message_calls.proofs.traversal.check_under.Statement.{statement}
 use Rattle.message_calls.proofs.traversal.check_under.Tie as tie
 
@@ -35,7 +35,7 @@ returns-3 c =
     let a = c .before .before .before .before .before .args in
     let n = c .before .traverse in
     c .answer .ensures
-    ∙ by-walk (indexed (now (a .cells))) (a .number) (now (a .message)) (c .before .before .before .if1 .left) (c .before .before .if2 .left) (n .result) (n .ensures)
+    ∙ by-verdict (indexed (now (a .cells))) (a .number) (now (a .message)) (c .before .before .before .if1 .left) (c .before .before .if2 .left) (n .result) (n .ensures)
 
 pub check-under-spec : {M : Type 1} → statement M
 check-under-spec =

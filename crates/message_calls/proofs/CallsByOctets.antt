@@ -15,7 +15,7 @@ use Rattle.hproto_table.specs.declared.Loaded.{Loaded}
 use Rattle.hproto_table.proofs.LoadResults.{loaded-valid}
 use Rattle.table_index.specs.internal.Cells.{insertedBefore, prefixEnd, indexed}
 use Rattle.table_index.proofs.IndexLaws.{octets-accepted, octets-refused, octets-schema}
-use Rattle.message_calls.proofs.Counts.{under-valid}
+use Rattle.message_calls.proofs.CheckAnswers.{under-valid}
 use Rattle.message_calls.proofs.ShortenAnswers.{answer-under, buffer-under}
 use Rattle.message_calls.specs.Calls.{withTable, checkOctets, shortenOctets, shortenBuffer, lookupOctets, lookupLastOctets}
 use Rattle.reading.specs.Reading.{messageLimit}
@@ -23,7 +23,7 @@ use Rattle.reading.specs.Checks as answers
 use Rattle.message_calls.specs.Check.{checkUnder, check}
 use Rattle.message_calls.specs.Shorten as shortens
 use Rattle.message_calls.specs.Shorten.{answer, buffer}
-use Rattle.message_calls.specs.internal.ShortenUnder.{answerUnder, bufferUnder}
+use Rattle.message_calls.specs.internal.ShortenUnder.{shortenUnder, bufferUnder}
 use Rattle.message_calls.specs.Lookup as lookups
 use Rattle.message_calls.specs.internal.LookupUnder.{lookupUnder, lookupLastUnder}
 use Rattle.message_calls.proofs.LookupAnswers.{lookup-under, last-under}
@@ -74,7 +74,7 @@ module _ (octets s : List ℕ) (h : length s ≤ 65536) (n : ℕ)
         under-valid (load octets .table) m s h good (indexed cells) same
         ∙ table-loaded octets s (λ (t : Table). check t m s) answers.refusal h (load octets) refl loads
 
-    pub shorten-by-index : (out : List ℕ) → answerUnder (indexed cells) m s out ≡ shortenOctets octets m s out
+    pub shorten-by-index : (out : List ℕ) → shortenUnder (indexed cells) m s out ≡ shortenOctets octets m s out
     unfolding shortenOctets
     shorten-by-index out =
         answer-under (load octets .table) (indexed cells) same m s out h good
@@ -84,7 +84,7 @@ module _ (octets s : List ℕ) (h : length s ≤ 65536) (n : ℕ)
     unfolding shortenBuffer
     buffer-by-index out =
         buffer-under (load octets .table) (indexed cells) same m s out h good
-        ∙ table-loaded octets s (λ (t : Table). buffer t m s out) (λ (number place : ℕ). out) h (load octets) refl loads
+        ∙ table-loaded octets s (λ (t : Table). buffer t m s out) (λ (reason place : ℕ). out) h (load octets) refl loads
 
     pub lookup-by-index : (tag k : ℕ) → lookupUnder (indexed cells) m s tag k ≡ lookupOctets octets m s tag k
     unfolding lookupOctets
@@ -112,4 +112,4 @@ module _ (octets s : List ℕ) (z : load octets .refusal ≡ 0) (h : length s �
   pub buffer-as-loaded : (out : List ℕ) → shortenBuffer octets n s out ≡ buffer (load octets .table) n s out
   unfolding shortenBuffer
   buffer-as-loaded out =
-      sym (table-loaded octets s (λ (t : Table). buffer t n s out) (λ (number place : ℕ). out) h (load octets) refl z)
+      sym (table-loaded octets s (λ (t : Table). buffer t n s out) (λ (reason place : ℕ). out) h (load octets) refl z)

@@ -14,11 +14,11 @@ use Rattle.hproto_message.specs.Items.{Item, itemTag, withTag}
 use Rattle.hproto_message.specs.Reading.{reading}
 use Rattle.hproto_message.proofs.Accepted.{good-accepted}
 use Rattle.message_calls.specs.Check.{check}
-use Rattle.message_calls.specs.Lookup.{Outer, outermost, chosen, refusal, found, answer, occurrence}
+use Rattle.message_calls.specs.Lookup.{ItemSpan, outermost, chosen, refusal, found, answer, occurrence}
 use Rattle.message_calls.specs.declared.outermost.Occurrence.{Occurrence}
 use Rattle.message_calls.specs.declared.Found.{Found}
-use Rattle.message_calls.proofs.Choosing.{Of, chosen-map, chosen-none, withTag-map, withTag-none}
-use Rattle.message_calls.proofs.Outers.{itemOf, items-are, Held, small-tags}
+use Rattle.message_calls.proofs.ChosenElements.{Of, chosen-map, chosen-none, withTag-map, withTag-none}
+use Rattle.message_calls.proofs.OutermostSpans.{itemOf, items-are, Held, small-tags}
 use Rattle.message_calls.proofs.LookupAnswers.{refused-first, wanted, answered, wanted-held}
 use Rattle.message_calls.specs.InTree.{Answers}
 
@@ -45,7 +45,7 @@ module _ (t : Table) (n : ℕ) (s : List ℕ) (tag : ℕ) (which : Occurrence) w
     answers-tree =
         rw (← wanted-item, is-found) (go (wanted (schema t) n s tag which cut) (wanted-held (schema t) n s tag which cut g))
       where
-        go : (o : Option Outer) → Of (λ (o : Outer). Held (schema t) 7 n s o × (itemTag (o .item) ≡ tag)) o
+        go : (o : Option ItemSpan) → Of (λ (o : ItemSpan). Held (schema t) 7 n s o × (itemTag (o .item) ≡ tag)) o
             → Answers (schema t) n s tag (Option·map itemOf o) (found o)
         go none h = refl
         go (some o) h =
@@ -75,4 +75,4 @@ module _ (t : Table) (n : ℕ) (s : List ℕ) (tag : ℕ) (which : Occurrence) w
     large-tag o h =
         let k = small-tags (schema t) n cut 0 (g .allowed) (subst Octets (sym (g .divides)) o) in
         let f = withTag-none itemOf (256 ^ 2) tag (outermost (schema t) n 0 cut) (omega arith) k in
-        is-found ∙ rw (f, chosen-none {A = Outer} which)
+        is-found ∙ rw (f, chosen-none {A = ItemSpan} which)

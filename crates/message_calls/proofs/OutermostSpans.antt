@@ -19,16 +19,16 @@ use Rattle.hproto_message.specs.Cut.{Cut, joined, WholeField, Allowed, Good}
 use Rattle.hproto_message.specs.Tree.{value, tree}
 use Rattle.hproto_message.specs.Items.{Item, items, itemTag, withTag}
 use Rattle.hproto_message.proofs.Steps.{field-control, in-three}
-use Rattle.message_calls.specs.Lookup.{Outer, outermost}
-use Rattle.message_calls.specs.internal.Spots.{Span, afterHead, placesFrom, places}
+use Rattle.message_calls.specs.Lookup.{ItemSpan, outermost}
+use Rattle.message_calls.specs.internal.Spans.{Span, afterHead, spansFrom, spans}
 use Rattle.hproto_field.specs.internal.Heads.{headFrom, headAt}
 use Rattle.hproto_field.specs.declared.Head.the-variants.{Field}
 use Rattle.hproto_field.proofs.Heads.{head-field}
-use Rattle.message_calls.proofs.Choosing.{Each, map-withTag}
+use Rattle.message_calls.proofs.ChosenElements.{Each, map-withTag}
 use Rattle.message_calls.specs.InTree.{Shows}
 
 -- The field of the tree that an outermost field is.
-abbrev pub itemOf : Outer → Item
+abbrev pub itemOf : ItemSpan → Item
 itemOf o = o .item
 
 -- The outermost fields of a cut are those of its tree, in the same order.
@@ -43,7 +43,7 @@ items-are sc n at (Cut.nested tag c inside rest) =
     (items-are sc n (at + length c + length (joined inside)) rest)
 
 -- The contents of an outermost field stand within the message, at its place.
-pub record Held (sc : Schema) (levels n : ℕ) (s : List ℕ) (o : Outer) : Type 0 where
+pub record Held (sc : Schema) (levels n : ℕ) (s : List ℕ) (o : ItemSpan) : Type 0 where
   pub inside : o .start + o .length ≤ length s
   pub shows : Shows sc levels n (take (o .length) (drop (o .start) s)) (o .item)
 
@@ -76,13 +76,13 @@ module _ (c b r : List ℕ) (t : ℕ) (w : WholeField t c b) where
       let l : length (c ++ b ++ r) ≡ length c + length b + length r = simp length-append (omega arith) in
       sym (head-field at (c ++ b ++ r) t (length b) (length c) (field-control t c b r w) (omega arith))
 
-  pub walked : (s : List ℕ) (at : ℕ) → drop at s ≡ c ++ b ++ r → (tag fuel : ℕ)
-      → placesFrom tag s (suc fuel) at
+  pub spans-step : (s : List ℕ) (at : ℕ) → drop at s ≡ c ++ b ++ r → (tag fuel : ℕ)
+      → spansFrom tag s (suc fuel) at
       ≡ cond (eqb t tag)
-      (record { start = at + length c; end = at + length c + length b } ∷ placesFrom tag s fuel (at + length c + length b))
-      (placesFrom tag s fuel (at + length c + length b))
-  unfolding placesFrom afterHead
-  walked s at e tag fuel = rw (e, head-is at)
+      (record { start = at + length c; end = at + length c + length b } ∷ spansFrom tag s fuel (at + length c + length b))
+      (spansFrom tag s fuel (at + length c + length b))
+  unfolding spansFrom afterHead
+  spans-step s at e tag fuel = rw (e, head-is at)
 
 module _ (sc : Schema) (levels n : ℕ) (s : List ℕ) where
   pub each-held : (cut : Cut) (at : ℕ) → drop at s ≡ joined cut → Allowed sc n cut → cuts.depth cut ≤ suc levels
@@ -105,14 +105,14 @@ module _ (sc : Schema) (levels n : ℕ) (s : List ℕ) where
       )
 
 -- Where the contents of an outermost field start and end.
-abbrev pub placeOf : Outer → Span
-placeOf o = record { start = o .start; end = o .start + o .length }
+abbrev pub spanOf : ItemSpan → Span
+spanOf o = record { start = o .start; end = o .start + o .length }
 
 module _ (sc : Schema) (n t : ℕ) (s : List ℕ) where
   -- The places of the outermost fields with a tag are those that the verdict finds.
   found-at : (cut : Cut) (fuel at : ℕ) → drop at s ≡ joined cut → Allowed sc n cut → length (joined cut) < fuel
-      → placesFrom t s fuel at ≡ map placeOf (withTag itemOf t (outermost sc n at cut))
-  unfolding placesFrom afterHead headAt headFrom outermost withTag joined Allowed itemTag
+      → spansFrom t s fuel at ≡ map spanOf (withTag itemOf t (outermost sc n at cut))
+  unfolding spansFrom afterHead headAt headFrom outermost withTag joined Allowed itemTag
   found-at Cut.end zero at e a h = absurd (omega arith)
   found-at Cut.end (suc fuel) at e a h = rw (e, control-nil)
   found-at (Cut.leaf tag c b rest) zero at e a h = absurd (omega arith)
@@ -121,8 +121,8 @@ module _ (sc : Schema) (n t : ℕ) (s : List ℕ) where
       let k = positive c b (joined rest) tag (f .whole) in
       let l : length (c ++ b ++ joined rest) ≡ length c + length b + length (joined rest) = simp length-append (omega arith) in
       let i = found-at rest fuel (at + length c + length b) (parts c b (joined rest) tag (f .whole) s at e .rest) (a .1) (omega arith) in
-      walked c b (joined rest) tag (f .whole) s at e t fuel ∙ rw i
-      (sym (map-withTag placeOf itemOf t (record { item = Item.leaf tag (value (sc .means n tag) b); start = at + length c; length = length b })
+      spans-step c b (joined rest) tag (f .whole) s at e t fuel ∙ rw i
+      (sym (map-withTag spanOf itemOf t (record { item = Item.leaf tag (value (sc .means n tag) b); start = at + length c; length = length b })
       (outermost sc n (at + length c + length b) rest)))
   found-at (Cut.nested tag c inner rest) zero at e a h = absurd (omega arith)
   found-at (Cut.nested tag c inner rest) (suc fuel) at e a h =
@@ -131,18 +131,18 @@ module _ (sc : Schema) (n t : ℕ) (s : List ℕ) where
       let k = positive c b (joined rest) tag (f .whole) in
       let l : length (c ++ b ++ joined rest) ≡ length c + length b + length (joined rest) = simp length-append (omega arith) in
       let i = found-at rest fuel (at + length c + length b) (parts c b (joined rest) tag (f .whole) s at e .rest) (a .1) (omega arith) in
-      walked c b (joined rest) tag (f .whole) s at e t fuel ∙ rw i
-      (sym (map-withTag placeOf itemOf t
+      spans-step c b (joined rest) tag (f .whole) s at e t fuel ∙ rw i
+      (sym (map-withTag spanOf itemOf t
       (record { item = Item.nested tag (tree sc (innerOf (sc .means n tag)) inner); start = at + length c; length = length b })
       (outermost sc n (at + length c + length b) rest)))
 
-  pub places-are : (levels : ℕ) (cut : Cut) → Good sc levels n s cut → places t s ≡ map placeOf (withTag itemOf t (outermost sc n 0 cut))
-  unfolding places
-  places-are levels cut g = let l = ap length (g .divides) in found-at cut (suc (length s)) 0 (sym (g .divides)) (g .allowed) (omega arith)
+  pub spans-are : (levels : ℕ) (cut : Cut) → Good sc levels n s cut → spans t s ≡ map spanOf (withTag itemOf t (outermost sc n 0 cut))
+  unfolding spans
+  spans-are levels cut g = let l = ap length (g .divides) in found-at cut (suc (length s)) 0 (sym (g .divides)) (g .allowed) (omega arith)
 
 -- A tag has at most two octets.
 pub small-tags : (sc : Schema) (n : ℕ) (cut : Cut) (at : ℕ) → Allowed sc n cut → Octets (joined cut)
-    → Each (λ (o : Outer). itemTag (o .item) < 256 ^ 2) (outermost sc n at cut)
+    → Each (λ (o : ItemSpan). itemTag (o .item) < 256 ^ 2) (outermost sc n at cut)
 unfolding Each outermost joined Allowed itemTag
 small-tags sc n Cut.end at a o = tt
 small-tags sc n (Cut.leaf tag c b rest) at a o =

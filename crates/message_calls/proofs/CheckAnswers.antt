@@ -28,10 +28,10 @@ tree-fields sc (Cut.leaf tag c b rest) n = rw (tree-fields sc rest n)
 tree-fields sc (Cut.nested tag c inside rest) n = rw (tree-fields sc inside (innerOf (sc .means n tag)), tree-fields sc rest n)
 
 -- The answer by the verdict through a message is that by its tree.
-walked : (sc : Schema) (n : ℕ) (r : Reading Cut) → checkedBy (verdict r) ≡ treeCounts sc n r
+verdict-counts : (sc : Schema) (n : ℕ) (r : Reading Cut) → checkedBy (verdict r) ≡ treeCounts sc n r
 unfolding verdictOf checkedBy treeCounts counts
-walked sc n (accepted cut) = rw (tree-fields sc cut n, tree-depth sc cut n)
-walked sc n (refused number place) = refl
+verdict-counts sc n (accepted cut) = rw (tree-fields sc cut n, tree-depth sc cut n)
+verdict-counts sc n (refused reason place) = refl
 
 module _ (t : Table) (n : ℕ) (s : List ℕ) where
   pub too-long : 65536 < length s → refusal 1 0 ≡ check t n s
@@ -61,9 +61,9 @@ module _ (sc : Schema) (n : ℕ) (s : List ℕ) where
     unfolding checkUnder
     read-under = rw (le-ltb messageLimit (length s) h, le-ltb 15 n k)
 
-    pub by-walk : (w : Verdict) → w ≡ verdict (messageFrom sc 8 n 0 0 s) → checkedBy w ≡ checkUnder sc n s
+    pub by-verdict : (w : Verdict) → w ≡ verdict (messageFrom sc 8 n 0 0 s) → checkedBy w ≡ checkUnder sc n s
     unfolding reading
-    by-walk w e = ap checkedBy e ∙ walked sc n (messageFrom sc 8 n 0 0 s) ∙ sym read-under
+    by-verdict w e = ap checkedBy e ∙ verdict-counts sc n (messageFrom sc 8 n 0 0 s) ∙ sym read-under
 
 module _ (t : Table) (n : ℕ) (s : List ℕ) (h : length s ≤ 65536) (v : valid t ≡ true) (k : n ≤ 15) where
   pub read-through : check t n s ≡ treeCounts (schema t) n (reading (schema t) n s)

@@ -1,11 +1,11 @@
--- `put_front` stores one octet for a small tag and a small length, else calls `wide_front`.
+-- `put_least_control` stores one octet for a small tag and a small length, else calls `put_wide_control`.
 use native.Mathlib.Omega.{arith}
 use denote.Ref.{now}
 use borrow.Author.Tests.{ltb-true}
-use Rattle.message_calls.proofs.Puts.{control-some, direct-put}
+use Rattle.message_calls.proofs.FieldStores.{control-some, direct-put}
 use borrow.Author.Needs.{needs}
-use Rattle.message_calls.proofs.shortest.put_front.Statement.{statement}
-use Rattle.message_calls.proofs.shortest.put_front.Tie as tie
+use Rattle.message_calls.proofs.shortest.put_least_control.Statement.{statement}
+use Rattle.message_calls.proofs.shortest.put_least_control.Tie as tie
 
 one-octet-requires : tie.Need-one-octet-requires
 one-octet-requires c κs = search needs
@@ -29,8 +29,8 @@ returns c =
     rw (c .one-octet .ensures)
     (direct-put (now (s .args .out)) (s .args .to) (s .args .tag) (s .args .n) (c .before .before .if1 .taken) (ltb-true (s .args .n) 12 (c .before .if2 .taken)) (s .pre))
 
-wide-front-requires : tie.Need-wide-front-requires
-wide-front-requires c κs = search needs
+put-wide-control-requires : tie.Need-put-wide-control-requires
+put-wide-control-requires c κs = search needs
 
 same-length-2 : tie.Need-same-length-2
 same-length-2 c = search needs
@@ -38,8 +38,8 @@ same-length-2 c = search needs
 returns-2 : tie.Need-returns-2
 returns-2 c = search needs
 
-pub put-front-spec : {M : Type 1} → statement M
-put-front-spec =
+pub put-least-control-spec : {M : Type 1} → statement M
+put-least-control-spec =
     tie.close
     (tie.spec
     one-octet-requires
@@ -47,6 +47,6 @@ put-front-spec =
     add-result
     same-length
     returns
-    wide-front-requires
+    put-wide-control-requires
     same-length-2
     returns-2)

@@ -1,13 +1,13 @@
--- `wide_front` stores a control part whose length stands in its first octet with no loop.
+-- `put_wide_control` stores a control part whose length stands in its first octet with no loop.
 use native.Mathlib.Omega.{arith}
 use mathlib.Core.Path.{ap}
 use denote.Ref.{now}
 use lib.ListN.{length, length-set}
 use borrow.Author.Tests.{leb-false}
-use Rattle.message_calls.proofs.Puts.{control-one, control-two, one-put, two-put}
+use Rattle.message_calls.proofs.FieldStores.{control-one, control-two, one-put, two-put}
 use borrow.Author.Needs.{needs}
-use Rattle.message_calls.proofs.shortest.wide_front.Statement.{statement}
-use Rattle.message_calls.proofs.shortest.wide_front.Tie as tie
+use Rattle.message_calls.proofs.shortest.put_wide_control.Statement.{statement}
+use Rattle.message_calls.proofs.shortest.put_wide_control.Tie as tie
 
 put-control-requires : tie.Need-put-control-requires
 put-control-requires c κs = search needs
@@ -119,8 +119,8 @@ returns-3 c =
     let k = s .fits .tag in
     two-put (now (s .args .out)) (s .args .to) (s .args .tag) (s .args .n) (c .if3 .left) (omega arith) (leb-false 12 (s .args .n) (c .before .if2 .left)) (s .pre)
 
-pub wide-front-spec : {M : Type 1} → statement M
-wide-front-spec =
+pub put-wide-control-spec : {M : Type 1} → statement M
+put-wide-control-spec =
     tie.close
     (tie.spec
     put-control-requires

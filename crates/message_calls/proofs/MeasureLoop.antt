@@ -25,10 +25,10 @@ use Rattle.hproto_field.specs.internal.Heads.{headAt}
 use Rattle.hproto_field.specs.declared.Head.{Head}
 use Rattle.hproto_field.specs.declared.Head.the-variants.{Field}
 use Rattle.hproto_field.proofs.Heads.{Fieldless}
-use Rattle.hproto_field.proofs.Passing.{Ends, ends}
+use Rattle.hproto_field.proofs.FieldsByHead.{Ends, ends}
 use Rattle.hproto_put.proofs.Least.{leastControl-size, leastControl-widths}
-use Rattle.message_calls.specs.internal.Stores.{short}
-use Rattle.message_calls.proofs.Passing.{Passed, nothing-passed, all-passed, passed-length, part, tag-small, leaf-contents, leaf-passed, nested-passed, short-is}
+use Rattle.message_calls.specs.internal.Stores.{shortestWithin}
+use Rattle.message_calls.proofs.ShortestPrefix.{Passed, nothing-passed, all-passed, passed-length, part, tag-small, leaf-contents, leaf-passed, nested-passed, shortest-is}
 use Rattle.hproto_message.proofs.Fields.{field-length}
 
 signedWidth-bound : (z : ℤ) → signedWidth z ≤ 8
@@ -55,10 +55,10 @@ control-few tag len =
     omega arith
 
 -- The shortest form of an accepted message is no longer than the message.
-pub short-few : (sc : Schema) (levels n : ℕ) (s : List ℕ) → Octets s → Accepts sc levels n s → length (short sc levels n s) ≤ length s
+pub short-few : (sc : Schema) (levels n : ℕ) (s : List ℕ) → Octets s → Accepts sc levels n s → length (shortestWithin sc levels n s) ≤ length s
 short-few sc levels n s o a =
     let g = accepts-good sc levels n s a in
-    rw (short-is sc levels n s (g .0) (g .1)) (shortest-no-longer sc levels n s (g .0) o (g .1))
+    rw (shortest-is sc levels n s (g .0) (g .1)) (shortest-no-longer sc levels n s (g .0) o (g .1))
 
 module _ (sc : Schema) (levels n : ℕ) (s : List ℕ) where
   -- After i octets, `size` counts what has been passed.
@@ -70,10 +70,10 @@ module _ (sc : Schema) (levels n : ℕ) (s : List ℕ) where
   pub counted-none : Accepts sc (suc levels) n s → Counted 0 0
   counted-none a = record { written = []; passed = nothing-passed sc levels n s a; total = refl }
 
-  pub counted-all : (i size : ℕ) → Counted i size → (h : Head) → headAt i (drop i s) ≡ h → Fieldless h → size ≡ length (short sc (suc levels) n s)
+  pub counted-all : (i size : ℕ) → Counted i size → (h : Head) → headAt i (drop i s) ≡ h → Fieldless h → size ≡ length (shortestWithin sc (suc levels) n s)
   counted-all i size p h e q = p .total ∙ sym (ap length (all-passed sc levels n s i (p .written) (p .passed) h e q))
 
-  pub counted-few : (i size : ℕ) → Counted i size → size ≤ length (short sc (suc levels) n s)
+  pub counted-few : (i size : ℕ) → Counted i size → size ≤ length (shortestWithin sc (suc levels) n s)
   counted-few i size p = let e = p .total in let k = passed-length sc levels n s i (p .written) (p .passed) in omega arith
 
   module _ (i size : ℕ) (p : Counted i size) (o : Octets s) (tag start stop : ℕ) (found : headAt i (drop i s) ≡ Field tag start stop) (k : Meaning) (means : k ≡ sc .means n tag) where
@@ -83,8 +83,8 @@ module _ (sc : Schema) (levels n : ℕ) (s : List ℕ) where
     small : tag % 65536 ≡ tag
     small = tag-small sc levels n s i (p .written) (p .passed) tag start stop found o
 
-    pub next-ends : Ends sc levels n s i (p .passed .left) tag start stop found
-    next-ends = ends sc levels n s i (p .passed .left) tag start stop found
+    pub next-ends : Ends sc levels n s i (p .passed .remaining) tag start stop found
+    next-ends = ends sc levels n s i (p .passed .remaining) tag start stop found
 
     pub next-contents : Plain k → Contents k contents
     next-contents q = leaf-contents sc levels n s i (p .written) (p .passed) tag start stop found k means q
@@ -107,11 +107,11 @@ module _ (sc : Schema) (levels n : ℕ) (s : List ℕ) where
           let h = nested-passed sc levels n s i (p .written) (p .passed) tag start stop found k means m q in
           (h .positive, h .accepts)
 
-      pub nested-counted : (inner l : ℕ) → inner ≡ length (short sc levels m contents) → l ≡ length (leastControl (tag % 65536) inner)
+      pub nested-counted : (inner l : ℕ) → inner ≡ length (shortestWithin sc levels m contents) → l ≡ length (leastControl (tag % 65536) inner)
           → Counted stop (size + (l + inner))
       nested-counted inner l a b =
           let h = nested-passed sc levels n s i (p .written) (p .passed) tag start stop found k means m q in
-          let xs = short sc levels m contents in
+          let xs = shortestWithin sc levels m contents in
           let c : l ≡ length (leastControl tag (length xs)) = b ∙ rw (small, a) in
           let e : length (field tag xs) ≡ l + inner = field-length tag xs ∙ rw (a, c) in
           subst (λ (x : ℕ). Counted stop (size + x)) e

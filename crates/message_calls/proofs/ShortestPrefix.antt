@@ -21,42 +21,42 @@ use Rattle.hproto_field.specs.internal.Heads.{headAt}
 use Rattle.hproto_field.specs.declared.Head.{Head}
 use Rattle.hproto_field.specs.declared.Head.the-variants.{Field}
 use Rattle.hproto_field.proofs.Heads.{Fieldless}
-use Rattle.hproto_field.proofs.Passing as fields
-use Rattle.hproto_field.proofs.Passing.{Left, all-left, none-left, here, leaf-next, nested-next}
-use Rattle.message_calls.specs.Written.{shortestOf}
-use Rattle.message_calls.specs.internal.Stores.{short}
+use Rattle.hproto_field.proofs.FieldsByHead as fields
+use Rattle.hproto_field.proofs.FieldsByHead.{Remaining, all-remaining, none-remaining, here, leaf-next, nested-next}
+use Rattle.message_calls.specs.Written.{shortestOfReading}
+use Rattle.message_calls.specs.internal.Stores.{shortestWithin}
 
 -- The cut of an accepted message, and its shortest form.
-pub short-is : (sc : Schema) (levels n : ℕ) (s : List ℕ) (cut : Cut) → Good sc levels n s cut → short sc levels n s ≡ shortest (tree sc n cut)
-unfolding short shortestOf
-short-is sc levels n s cut g = rw (good-accepted sc levels n 0 0 s cut g)
+pub shortest-is : (sc : Schema) (levels n : ℕ) (s : List ℕ) (cut : Cut) → Good sc levels n s cut → shortestWithin sc levels n s ≡ shortest (tree sc n cut)
+unfolding shortestWithin shortestOfReading
+shortest-is sc levels n s cut g = rw (good-accepted sc levels n 0 0 s cut g)
 
 module _ (sc : Schema) (levels n : ℕ) (s : List ℕ) where
   -- After i octets, `written` is the shortest form of the fields passed.
   pub record Passed (i : ℕ) (written : List ℕ) : Type 0 where
-    pub left : Left sc levels n s i
-    pub whole : short sc (suc levels) n s ≡ written ++ shortest (tree sc n (left .rest))
+    pub remaining : Remaining sc levels n s i
+    pub whole : shortestWithin sc (suc levels) n s ≡ written ++ shortest (tree sc n (remaining .rest))
 
   pub nothing-passed : Accepts sc (suc levels) n s → Passed 0 []
   nothing-passed a =
       let g = accepts-good sc (suc levels) n s a in
-      record { left = all-left sc levels n s (g .0) (g .1); whole = short-is sc (suc levels) n s (g .0) (g .1) }
+      record { remaining = all-remaining sc levels n s (g .0) (g .1); whole = shortest-is sc (suc levels) n s (g .0) (g .1) }
 
   pub all-passed : (i : ℕ) (written : List ℕ) → Passed i written → (h : Head) → headAt i (drop i s) ≡ h → Fieldless h
-      → short sc (suc levels) n s ≡ written
+      → shortestWithin sc (suc levels) n s ≡ written
   unfolding tree shortest
   all-passed i written p h e q =
-      p .whole ∙ ap (λ (c : Cut). written ++ shortest (tree sc n c)) (none-left sc levels n s i (p .left) h e q) ∙ append-nil written
+      p .whole ∙ ap (λ (c : Cut). written ++ shortest (tree sc n c)) (none-remaining sc levels n s i (p .remaining) h e q) ∙ append-nil written
 
   module _ (i : ℕ) (written : List ℕ) (p : Passed i written) (tag start stop : ℕ) (found : headAt i (drop i s) ≡ Field tag start stop) where
     -- The field's contents.
     abbrev pub part : List ℕ
-    part = fields.part sc levels n s i (p .left) tag start stop found
+    part = fields.part sc levels n s i (p .remaining) tag start stop found
 
     -- Its tag has at most two octets.
     pub tag-small : Octets s → tag % 65536 ≡ tag
     tag-small o =
-        let x = here sc levels n s i (p .left) tag start stop found in
+        let x = here sc levels n s i (p .remaining) tag start stop found in
         mod-eq-of-lt
         (part-bounds (take (x .size) (drop i s)) tag (x .len) (octets-part (x .size) i s o)
         (part-of-control (drop i s) tag (x .len) (x .size) (x .control-part)) .0)
@@ -66,40 +66,40 @@ module _ (sc : Schema) (levels n : ℕ) (s : List ℕ) where
       pub leaf-passed : Plain k → Passed stop (written ++ field tag (leastContents (value k part)))
       unfolding shortest
       leaf-passed q =
-          let x = leaf-next sc levels n s i (p .left) tag start stop found k means q in
+          let x = leaf-next sc levels n s i (p .remaining) tag start stop found k means q in
           record {
-            left = x .left;
+            remaining = x .remaining;
             whole =
                 p .whole ∙ ap (λ (y : Tree). written ++ shortest y) (x .tree-is)
-                ∙ sym (append-assoc written (field tag (leastContents (value k part))) (shortest (tree sc n (x .left .rest))));
+                ∙ sym (append-assoc written (field tag (leastContents (value k part))) (shortest (tree sc n (x .remaining .rest))));
           }
 
       pub leaf-contents : Plain k → Contents k part
-      leaf-contents q = leaf-next sc levels n s i (p .left) tag start stop found k means q .contents
+      leaf-contents q = leaf-next sc levels n s i (p .remaining) tag start stop found k means q .contents
 
       -- A field that is a message of the number m: it is accepted, and its shortest form with a control part is the next part.
       pub record NestedPassed (m : ℕ) : Type 0 where
         pub accepts : Accepts sc levels m part
-        pub passed : Passed stop (written ++ field tag (short sc levels m part))
+        pub passed : Passed stop (written ++ field tag (shortestWithin sc levels m part))
         pub positive : 1 ≤ levels
 
       pub nested-passed : (m : ℕ) → k ≡ Message m → NestedPassed m
       unfolding shortest
       nested-passed m q =
-          let x = nested-next sc levels n s i (p .left) tag start stop found k means m q in
-          let e = short-is sc levels m part (x .inner) (x .good-inner) in
+          let x = nested-next sc levels n s i (p .remaining) tag start stop found k means m q in
+          let e = shortest-is sc levels m part (x .inner) (x .good-inner) in
           record {
             accepts = good-accepts sc levels m part (x .inner) (x .good-inner);
             passed =
                 record {
-                  left = x .left;
+                  remaining = x .remaining;
                   whole =
                       p .whole ∙ ap (λ (y : Tree). written ++ shortest y) (x .tree-is)
-                      ∙ rw (← e) (sym (append-assoc written (field tag (short sc levels m part)) (shortest (tree sc n (x .left .rest)))));
+                      ∙ rw (← e) (sym (append-assoc written (field tag (shortestWithin sc levels m part)) (shortest (tree sc n (x .remaining .rest)))));
                 };
             positive = x .positive;
           }
 
   -- What has been passed is no longer than the whole.
-  pub passed-length : (i : ℕ) (written : List ℕ) → Passed i written → length written ≤ length (short sc (suc levels) n s)
+  pub passed-length : (i : ℕ) (written : List ℕ) → Passed i written → length written ≤ length (shortestWithin sc (suc levels) n s)
   passed-length i written p = rw (p .whole) (simp length-append (omega arith))

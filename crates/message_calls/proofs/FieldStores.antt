@@ -22,7 +22,7 @@ use Rattle.hproto_store.proofs.Stores.{stored-fits, stored-after}
 use Rattle.hproto_message.specs.Shortest.{field}
 use Rattle.hproto_message.proofs.Fields.{field-length}
 use Rattle.message_calls.specs.internal.Stores.{Put}
-use Rattle.message_calls.proofs.Behind.{moved-nowhere}
+use Rattle.message_calls.proofs.ControlBefore.{moved-nowhere}
 
 -- A control part takes at least one octet.
 pub control-some : (tag n : ℕ) → 1 ≤ length (leastControl tag n)

@@ -18,15 +18,15 @@ use Rattle.hproto_field.specs.internal.Heads.{headAt}
 use Rattle.hproto_field.specs.declared.Head.{Head}
 use Rattle.hproto_field.specs.declared.Head.the-variants.{Field}
 use Rattle.hproto_field.proofs.Heads.{Fieldless}
-use Rattle.hproto_field.proofs.Passing.{Ends, ends}
+use Rattle.hproto_field.proofs.FieldsByHead.{Ends, ends}
 use Rattle.hproto_store.specs.Store.{stored}
 use Rattle.hproto_store.specs.internal.Moved.{moved}
 use Rattle.hproto_store.proofs.Stores.{stored-nothing, stored-after, length-stored}
-use Rattle.message_calls.specs.internal.Stores.{short, Put}
-use Rattle.message_calls.proofs.Passing.{Passed, nothing-passed, all-passed, passed-length, part, tag-small, leaf-contents, leaf-passed, nested-passed}
+use Rattle.message_calls.specs.internal.Stores.{shortestWithin, Put}
+use Rattle.message_calls.proofs.ShortestPrefix.{Passed, nothing-passed, all-passed, passed-length, part, tag-small, leaf-contents, leaf-passed, nested-passed}
 use Rattle.hproto_message.proofs.Fields.{field-length}
-use Rattle.message_calls.proofs.Puts.{control-some}
-use Rattle.message_calls.proofs.Behind.{stored-behind}
+use Rattle.message_calls.proofs.FieldStores.{control-some}
+use Rattle.message_calls.proofs.ControlBefore.{stored-behind}
 
 module _ (sc : Schema) (levels n : ℕ) (s before : List ℕ) (to : ℕ) where
   -- After i octets the buffer holds what has been passed, from `to` up to `end`.
@@ -40,7 +40,7 @@ module _ (sc : Schema) (levels n : ℕ) (s before : List ℕ) (to : ℕ) where
   begun a = record { written = []; passed = nothing-passed sc levels n s a; place = omega arith; buffer = sym (stored-nothing before to) }
 
   pub ended : (i end : ℕ) (out : List ℕ) → Progress i end out → (h : Head) → headAt i (drop i s) ≡ h → Fieldless h
-      → Put before to (short sc (suc levels) n s) end out
+      → Put before to (shortestWithin sc (suc levels) n s) end out
   ended i end out p h f q =
       let e = all-passed sc levels n s i (p .written) (p .passed) h f q in
       record { place = rw e (p .place); buffer = rw e (p .buffer) }
@@ -48,7 +48,7 @@ module _ (sc : Schema) (levels n : ℕ) (s before : List ℕ) (to : ℕ) where
   pub same-length : (i end : ℕ) (out : List ℕ) → Progress i end out → length out ≡ length before
   same-length i end out p = ap length (p .buffer) ∙ length-stored before to (p .written)
 
-  module _ (fits : to + length (short sc (suc levels) n s) ≤ length before) (i end : ℕ) (out : List ℕ) (p : Progress i end out) where
+  module _ (fits : to + length (shortestWithin sc (suc levels) n s) ≤ length before) (i end : ℕ) (out : List ℕ) (p : Progress i end out) where
     -- One more part, stored where the buffer's part ends.
     stored-next : (j r : ℕ) (xs after : List ℕ) → Passed sc levels n s j (p .written ++ xs) → Put out end xs r after → Progress j r after
     stored-next j r xs after q put =
@@ -80,8 +80,8 @@ module _ (sc : Schema) (levels n : ℕ) (s before : List ℕ) (to : ℕ) where
       small : tag % 65536 ≡ tag
       small = tag-small sc levels n s i (p .written) (p .passed) tag start stop found o
 
-      pub next-ends : Ends sc levels n s i (p .passed .left) tag start stop found
-      next-ends = ends sc levels n s i (p .passed .left) tag start stop found
+      pub next-ends : Ends sc levels n s i (p .passed .remaining) tag start stop found
+      next-ends = ends sc levels n s i (p .passed .remaining) tag start stop found
 
       pub next-contents : Plain k → Contents k contents
       next-contents q = leaf-contents sc levels n s i (p .written) (p .passed) tag start stop found k means q
@@ -102,17 +102,17 @@ module _ (sc : Schema) (levels n : ℕ) (s before : List ℕ) (to : ℕ) where
             let h = nested-passed sc levels n s i (p .written) (p .passed) tag start stop found k means m q in
             (h .positive, h .accepts)
 
-        whole-fits : end + (length (leastControl tag (length (short sc levels m contents))) + length (short sc levels m contents)) ≤ length out
+        whole-fits : end + (length (leastControl tag (length (shortestWithin sc levels m contents))) + length (shortestWithin sc levels m contents)) ≤ length out
         whole-fits =
             let h = nested-passed sc levels n s i (p .written) (p .passed) tag start stop found k means m q in
-            subst (λ (l : ℕ). end + l ≤ length out) (field-length tag (short sc levels m contents))
-            (next-fits stop (field tag (short sc levels m contents)) (h .passed))
+            subst (λ (l : ℕ). end + l ≤ length out) (field-length tag (shortestWithin sc levels m contents))
+            (next-fits stop (field tag (shortestWithin sc levels m contents)) (h .passed))
 
-        pub nested-fits : end + 1 + length (short sc levels m contents) ≤ length out
-        nested-fits = let h = whole-fits in let o = control-some tag (length (short sc levels m contents)) in omega arith
+        pub nested-fits : end + 1 + length (shortestWithin sc levels m contents) ≤ length out
+        nested-fits = let h = whole-fits in let o = control-some tag (length (shortestWithin sc levels m contents)) in omega arith
 
-        module _ (x : ℕ) (between : List ℕ) (put : Put out (end + 1) (short sc levels m contents) x between) where
-          inner-length : x - (end + 1) ≡ length (short sc levels m contents)
+        module _ (x : ℕ) (between : List ℕ) (put : Put out (end + 1) (shortestWithin sc levels m contents) x between) where
+          inner-length : x - (end + 1) ≡ length (shortestWithin sc levels m contents)
           inner-length = let h = put .place in omega arith
 
           pub inner-after : end + 1 ≤ x
@@ -121,7 +121,7 @@ module _ (sc : Schema) (levels n : ℕ) (s before : List ℕ) (to : ℕ) where
           pub wrap-fits : end + length (leastControl (tag % 65536) (x - (end + 1))) + (x - (end + 1)) ≤ length between
           wrap-fits =
               let h = whole-fits in
-              let l = ap length (put .buffer) ∙ length-stored out (end + 1) (short sc levels m contents) in
+              let l = ap length (put .buffer) ∙ length-stored out (end + 1) (shortestWithin sc levels m contents) in
               rw (small, inner-length) (omega arith)
 
           pub nested-written : (r : ℕ) (after : List ℕ) → r ≡ end + length (leastControl (tag % 65536) (x - (end + 1))) + (x - (end + 1))
@@ -131,7 +131,7 @@ module _ (sc : Schema) (levels n : ℕ) (s before : List ℕ) (to : ℕ) where
           unfolding field
           nested-written r after a b =
               let h = nested-passed sc levels n s i (p .written) (p .passed) tag start stop found k means m q in
-              let xs = short sc levels m contents in
+              let xs = shortestWithin sc levels m contents in
               let k = whole-fits in
               let fl = field-length tag xs in
               let o = control-some tag (length xs) in

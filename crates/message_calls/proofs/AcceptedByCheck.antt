@@ -25,7 +25,7 @@ under-passed sc n s e = long (ltb messageLimit (length s)) refl e
   where
     read : (r : Reading Cut) → reading sc n s ≡ r → treeCounts sc n r .refusal ≡ 0 → (cut : Cut) × (reading sc n s ≡ accepted cut)
     read (accepted cut) f e = (cut, f)
-    read (refused number place) f e = let h = refusal-positive sc 8 n 0 0 s number place f in absurd (omega arith)
+    read (refused reason place) f e = let h = refusal-positive sc 8 n 0 0 s reason place f in absurd (omega arith)
 
     bad : (b : Bool) → length s ≤ 65536 → cond b (refusal 2 0) (treeCounts sc n (reading sc n s)) .refusal ≡ 0
         → (length s ≤ 65536) × ((cut : Cut) × (reading sc n s ≡ accepted cut))

@@ -13,7 +13,7 @@ use Rattle.hproto_table.specs.declared.Meaning.the-variants.{Message}
 use Rattle.hproto_message.specs.Cut.{Cut, end, Contents, Good}
 use Rattle.hproto_message.specs.Tree.{Tree, value, tree}
 use Rattle.hproto_message.proofs.Accepted.{depth-positive}
-use Rattle.hproto_message.proofs.Next.{Plain, next-leaf, next-nested, fronted, nothing-left}
+use Rattle.hproto_message.proofs.Next.{Plain, next-leaf, next-nested, fronted, nothing-remaining}
 use Rattle.hproto_field.specs.internal.Heads.{headAt}
 use Rattle.hproto_field.specs.declared.Head.{Head}
 use Rattle.hproto_field.specs.declared.Head.the-variants.{Field}
@@ -25,21 +25,21 @@ good-deeper sc levels more n s cut h g = let k = g .shallow in record { divides 
 
 module _ (sc : Schema) (levels n : ℕ) (s : List ℕ) where
   -- After i octets, the fields that are left.
-  pub record Left (i : ℕ) : Type 0 where
+  pub record Remaining (i : ℕ) : Type 0 where
     pub rest : Cut
     pub good : Good sc (suc levels) n (drop i s) rest
     pub inside : i ≤ length s
 
-  abbrev pub all-left : (cut : Cut) → Good sc (suc levels) n s cut → Left 0
-  all-left cut g = record { rest = cut; good = g; inside = omega arith }
+  abbrev pub all-remaining : (cut : Cut) → Good sc (suc levels) n s cut → Remaining 0
+  all-remaining cut g = record { rest = cut; good = g; inside = omega arith }
 
   -- Where no field stands, none is left.
-  pub none-left : (i : ℕ) (p : Left i) (h : Head) → headAt i (drop i s) ≡ h → Fieldless h → p .rest ≡ end
+  pub none-remaining : (i : ℕ) (p : Remaining i) (h : Head) → headAt i (drop i s) ≡ h → Fieldless h → p .rest ≡ end
   unfolding Fieldless
-  none-left i p h e q = go (length (drop i s)) refl
+  none-remaining i p h e q = go (length (drop i s)) refl
     where
       go : (l : ℕ) → length (drop i s) ≡ l → p .rest ≡ end
-      go zero k = nothing-left sc (suc levels) n (drop i s) (p .rest) (p .good) k
+      go zero k = nothing-remaining sc (suc levels) n (drop i s) (p .rest) (p .good) k
       go (suc l) k =
           let w = fronted sc (suc levels) n (drop i s) (p .rest) (p .good) (omega arith) in
           let b = w .inside in
@@ -47,7 +47,7 @@ module _ (sc : Schema) (levels n : ℕ) (s : List ℕ) where
           sym (head-field i (drop i s) (w .tag) (w .len) (w .size) (w .control-part) (omega arith) ∙ e) in
           absurd (subst Fieldless f q)
 
-  module _ (i : ℕ) (p : Left i) (tag start stop : ℕ) (found : headAt i (drop i s) ≡ Field tag start stop) where
+  module _ (i : ℕ) (p : Remaining i) (tag start stop : ℕ) (found : headAt i (drop i s) ≡ Field tag start stop) where
     pub here : Extent i (drop i s) tag start stop
     here = extent i (drop i s) tag start stop found
 
@@ -86,17 +86,17 @@ module _ (sc : Schema) (levels n : ℕ) (s : List ℕ) where
     module _ (k : Meaning) (means : k ≡ sc .means n tag) where
       -- A field that is no message, and the fields after it.
       pub record LeafNext : Type 0 where
-        pub left : Left stop
+        pub remaining : Remaining stop
         pub contents : Contents k part
-        pub cut-is : p .rest ≡ Cut.leaf tag before-contents part (left .rest)
-        pub tree-is : tree sc n (p .rest) ≡ Tree.leaf tag (value k part) (tree sc n (left .rest))
+        pub cut-is : p .rest ≡ Cut.leaf tag before-contents part (remaining .rest)
+        pub tree-is : tree sc n (p .rest) ≡ Tree.leaf tag (value k part) (tree sc n (remaining .rest))
 
       pub leaf-next : Plain k → LeafNext
       unfolding tree
       leaf-next q =
           let x = next-leaf sc levels n tag (here .len) (here .size) (drop i s) (p .rest) (p .good) (here .control-part) (subst Plain means q) in
           record {
-            left = record { rest = x .rest; good = subst (λ (r : List ℕ). Good sc (suc levels) n r (x .rest)) rest-is (x .good); inside = ends .inside };
+            remaining = record { rest = x .rest; good = subst (λ (r : List ℕ). Good sc (suc levels) n r (x .rest)) rest-is (x .good); inside = ends .inside };
             contents = rw (means, ← part-is) (x .contents);
             cut-is = x .cut-is ∙ rw part-is;
             tree-is = ap (tree sc n) (x .cut-is) ∙ rw (part-is, ← means);
@@ -104,12 +104,12 @@ module _ (sc : Schema) (levels n : ℕ) (s : List ℕ) where
 
       -- A field that is a message of the number m, and the fields after it.
       pub record NestedNext (m : ℕ) : Type 0 where
-        pub left : Left stop
+        pub remaining : Remaining stop
         pub inner : Cut
         pub good-inner : Good sc levels m part inner
         pub positive : 1 ≤ levels
-        pub cut-is : p .rest ≡ Cut.nested tag before-contents inner (left .rest)
-        pub tree-is : tree sc n (p .rest) ≡ Tree.nested tag (tree sc m inner) (tree sc n (left .rest))
+        pub cut-is : p .rest ≡ Cut.nested tag before-contents inner (remaining .rest)
+        pub tree-is : tree sc n (p .rest) ≡ Tree.nested tag (tree sc m inner) (tree sc n (remaining .rest))
 
       pub nested-next : (m : ℕ) → k ≡ Message m → NestedNext m
       unfolding tree innerOf
@@ -119,7 +119,7 @@ module _ (sc : Schema) (levels n : ℕ) (s : List ℕ) where
           let y = g .shallow in
           let z = depth-positive (x .inner) in
           record {
-            left = record { rest = x .rest; good = subst (λ (r : List ℕ). Good sc (suc levels) n r (x .rest)) rest-is (x .good); inside = ends .inside };
+            remaining = record { rest = x .rest; good = subst (λ (r : List ℕ). Good sc (suc levels) n r (x .rest)) rest-is (x .good); inside = ends .inside };
             inner = x .inner;
             good-inner = g;
             positive = omega arith;
