@@ -98,7 +98,7 @@ pub extern "C" fn crudvim_lookup(
     let found = message_calls::lookup(table, number, message, tag, k);
     *place = found.place;
     *kind = found.kind;
-    *value = found.number;
+    *value = found.value;
     let signed = found.signed;
     *signed_value = signed;
     *start = found.start;
@@ -124,7 +124,7 @@ pub extern "C" fn crudvim_lookup_last(
     let last = message_calls::lookup_last(table, number, message, tag);
     *place = last.place;
     *kind = last.kind;
-    *value = last.number;
+    *value = last.value;
     let signed = last.signed;
     *signed_value = signed;
     *start = last.start;

@@ -1,5 +1,5 @@
--- Passing over the fields of an accepted message by their heads. A message may be a span of other octets: s is then what they are up to
--- its end, and the offset i goes from its start to its end.
+-- Reading the fields of an accepted message one after the other by their heads. A message may be a span of other octets: s is then the
+-- octets up to its end, and the offset i goes from its start to its end.
 use Prim.Native.Nat.{ℕ, zero, suc, _+_, _-_, _≤_, _<_}
 use native.Mathlib.Omega.{arith}
 use mathlib.Core.Path.{_≡_, refl, sym, ap, _∙_, subst}
@@ -13,18 +13,18 @@ use Rattle.hproto_table.specs.declared.Meaning.the-variants.{Message}
 use Rattle.hproto_message.specs.Cut.{Cut, end, Contents, Good}
 use Rattle.hproto_message.specs.Tree.{Tree, value, tree}
 use Rattle.hproto_message.proofs.Accepted.{depth-positive}
-use Rattle.hproto_message.proofs.Next.{Plain, next-leaf, next-nested, fronted, nothing-remaining}
+use Rattle.hproto_message.proofs.Next.{Plain, next-leaf, next-nested, first-field, nothing-remaining}
 use Rattle.hproto_field.specs.internal.Heads.{headAt}
 use Rattle.hproto_field.specs.declared.Head.{Head}
 use Rattle.hproto_field.specs.declared.Head.the-variants.{Field}
-use Rattle.hproto_field.proofs.Heads.{Extent, extent, head-field, Fieldless}
+use Rattle.hproto_field.proofs.Heads.{HeadSpan, head-span, head-field, Fieldless}
 
 -- A cut that is good with fewer levels is good with more.
 pub good-deeper : (sc : Schema) (levels more n : ℕ) (s : List ℕ) (cut : Cut) → levels ≤ more → Good sc levels n s cut → Good sc more n s cut
 good-deeper sc levels more n s cut h g = let k = g .shallow in record { divides = g .divides; allowed = g .allowed; shallow = omega arith }
 
 module _ (sc : Schema) (levels n : ℕ) (s : List ℕ) where
-  -- After i octets, the fields that are left.
+  -- The fields that remain after i octets.
   pub record Remaining (i : ℕ) : Type 0 where
     pub rest : Cut
     pub good : Good sc (suc levels) n (drop i s) rest
@@ -33,7 +33,7 @@ module _ (sc : Schema) (levels n : ℕ) (s : List ℕ) where
   abbrev pub all-remaining : (cut : Cut) → Good sc (suc levels) n s cut → Remaining 0
   all-remaining cut g = record { rest = cut; good = g; inside = omega arith }
 
-  -- Where no field stands, none is left.
+  -- If there is no head at i, no field remains.
   pub none-remaining : (i : ℕ) (p : Remaining i) (h : Head) → headAt i (drop i s) ≡ h → Fieldless h → p .rest ≡ end
   unfolding Fieldless
   none-remaining i p h e q = go (length (drop i s)) refl
@@ -41,15 +41,15 @@ module _ (sc : Schema) (levels n : ℕ) (s : List ℕ) where
       go : (l : ℕ) → length (drop i s) ≡ l → p .rest ≡ end
       go zero k = nothing-remaining sc (suc levels) n (drop i s) (p .rest) (p .good) k
       go (suc l) k =
-          let w = fronted sc (suc levels) n (drop i s) (p .rest) (p .good) (omega arith) in
+          let w = first-field sc (suc levels) n (drop i s) (p .rest) (p .good) (omega arith) in
           let b = w .inside in
           let f : h ≡ Field (w .tag) (i + w .size) (i + w .size + w .len) =
           sym (head-field i (drop i s) (w .tag) (w .len) (w .size) (w .control-part) (omega arith) ∙ e) in
           absurd (subst Fieldless f q)
 
   module _ (i : ℕ) (p : Remaining i) (tag start stop : ℕ) (found : headAt i (drop i s) ≡ Field tag start stop) where
-    pub here : Extent i (drop i s) tag start stop
-    here = extent i (drop i s) tag start stop found
+    pub here : HeadSpan i (drop i s) tag start stop
+    here = head-span i (drop i s) tag start stop found
 
     -- The field ends within the message.
     pub record Ends : Type 0 where
@@ -65,11 +65,11 @@ module _ (sc : Schema) (levels n : ℕ) (s : List ℕ) where
         record { onward = omega arith; ordered = omega arith; inside = omega arith }
 
     -- The field's contents.
-    abbrev pub part : List ℕ
-    part = take (stop - start) (drop start s)
+    abbrev pub field-contents : List ℕ
+    field-contents = take (stop - start) (drop start s)
 
-    part-is : take (here .len) (drop (here .size) (drop i s)) ≡ part
-    part-is =
+    contents-are : take (here .len) (drop (here .size) (drop i s)) ≡ field-contents
+    contents-are =
         let x = here in
         let q : here .len ≡ stop - start = omega arith in
         rw (drop-drop (here .size) i s, ← here .start-is, q)
@@ -87,9 +87,9 @@ module _ (sc : Schema) (levels n : ℕ) (s : List ℕ) where
       -- A field that is no message, and the fields after it.
       pub record LeafNext : Type 0 where
         pub remaining : Remaining stop
-        pub contents : Contents k part
-        pub cut-is : p .rest ≡ Cut.leaf tag before-contents part (remaining .rest)
-        pub tree-is : tree sc n (p .rest) ≡ Tree.leaf tag (value k part) (tree sc n (remaining .rest))
+        pub contents : Contents k field-contents
+        pub cut-is : p .rest ≡ Cut.leaf tag before-contents field-contents (remaining .rest)
+        pub tree-is : tree sc n (p .rest) ≡ Tree.leaf tag (value k field-contents) (tree sc n (remaining .rest))
 
       pub leaf-next : Plain k → LeafNext
       unfolding tree
@@ -97,16 +97,16 @@ module _ (sc : Schema) (levels n : ℕ) (s : List ℕ) where
           let x = next-leaf sc levels n tag (here .len) (here .size) (drop i s) (p .rest) (p .good) (here .control-part) (subst Plain means q) in
           record {
             remaining = record { rest = x .rest; good = subst (λ (r : List ℕ). Good sc (suc levels) n r (x .rest)) rest-is (x .good); inside = ends .inside };
-            contents = rw (means, ← part-is) (x .contents);
-            cut-is = x .cut-is ∙ rw part-is;
-            tree-is = ap (tree sc n) (x .cut-is) ∙ rw (part-is, ← means);
+            contents = rw (means, ← contents-are) (x .contents);
+            cut-is = x .cut-is ∙ rw contents-are;
+            tree-is = ap (tree sc n) (x .cut-is) ∙ rw (contents-are, ← means);
           }
 
       -- A field that is a message of the number m, and the fields after it.
       pub record NestedNext (m : ℕ) : Type 0 where
         pub remaining : Remaining stop
         pub inner : Cut
-        pub good-inner : Good sc levels m part inner
+        pub good-inner : Good sc levels m field-contents inner
         pub positive : 1 ≤ levels
         pub cut-is : p .rest ≡ Cut.nested tag before-contents inner (remaining .rest)
         pub tree-is : tree sc n (p .rest) ≡ Tree.nested tag (tree sc m inner) (tree sc n (remaining .rest))
@@ -115,7 +115,7 @@ module _ (sc : Schema) (levels n : ℕ) (s : List ℕ) where
       unfolding tree innerOf
       nested-next m q =
           let x = next-nested sc levels n tag (here .len) (here .size) (drop i s) (p .rest) (p .good) (here .control-part) m (sym means ∙ q) in
-          let g = subst (λ (r : List ℕ). Good sc levels m r (x .inner)) part-is (x .good-inner) in
+          let g = subst (λ (r : List ℕ). Good sc levels m r (x .inner)) contents-are (x .good-inner) in
           let y = g .shallow in
           let z = depth-positive (x .inner) in
           record {

@@ -69,8 +69,8 @@ module _ (i : ℕ) (s : List ℕ) where
 
 -- ---- the control part by the head
 
--- The field at the front of the octets s, which stand at the offset i.
-pub record Extent (i : ℕ) (s : List ℕ) (tag start end : ℕ) : Type 0 where
+-- The control part behind a head: s has the octets from the offset i on, and the head has a tag and a span.
+pub record HeadSpan (i : ℕ) (s : List ℕ) (tag start end : ℕ) : Type 0 where
   pub len : ℕ
   pub size : ℕ
   pub control-part : control s ≡ Whole tag len size
@@ -80,9 +80,9 @@ pub record Extent (i : ℕ) (s : List ℕ) (tag start end : ℕ) : Type 0 where
   pub inside : size + len ≤ length s
 
 module _ (i : ℕ) (s : List ℕ) (tag start end : ℕ) where
-  whole-extent : (t len size : ℕ) → control s ≡ Whole t len size → (b : Bool) → leb len (length s - size) ≡ b
-      → cond b (Field t (i + size) (i + size + len)) (Fault 4) ≡ Field tag start end → Extent i s tag start end
-  whole-extent t len size c true h f =
+  whole-head-span : (t len size : ℕ) → control s ≡ Whole t len size → (b : Bool) → leb len (length s - size) ≡ b
+      → cond b (Field t (i + size) (i + size + len)) (Fault 4) ≡ Field tag start end → HeadSpan i s tag start end
+  whole-head-span t len size c true h f =
       let p = control-size s t len size c in
       let a = p .0 in
       let b = p .1 in
@@ -91,16 +91,16 @@ module _ (i : ℕ) (s : List ℕ) (tag start end : ℕ) where
       let y : i + size ≡ start = cc in
       let z : i + size + len ≡ end = cc in
       record { len = len; size = size; control-part = rw (← x) c; start-is = sym y; end-is = omega arith; positive = a; inside = omega arith }
-  whole-extent t len size c false h f = let z : _≡_ {A = ℕ} 0 1 = cc in absurd (omega arith)
+  whole-head-span t len size c false h f = let z : _≡_ {A = ℕ} 0 1 = cc in absurd (omega arith)
 
-  pub extent : headAt i s ≡ Field tag start end → Extent i s tag start end
+  pub head-span : headAt i s ≡ Field tag start end → HeadSpan i s tag start end
   unfolding headAt headFrom
-  extent e = go (control s) refl e
+  head-span e = go (control s) refl e
     where
-      go : (c : Control) → control s ≡ c → headFrom i s c ≡ Field tag start end → Extent i s tag start end
+      go : (c : Control) → control s ≡ c → headFrom i s c ≡ Field tag start end → HeadSpan i s tag start end
       go Absent c f = let z : _≡_ {A = ℕ} 0 1 = cc in absurd (omega arith)
       go Partial c f = let z : _≡_ {A = ℕ} 0 1 = cc in absurd (omega arith)
-      go (Whole t len size) c f = whole-extent t len size c (leb len (length s - size)) refl f
+      go (Whole t len size) c f = whole-head-span t len size c (leb len (length s - size)) refl f
 
 -- ---- no field
 

@@ -113,7 +113,7 @@ form-no-shorter size x t o f =
       same = λ e. let q = p .same (omega arith) refl in ap₂ (λ (y : ℕ) (r : List ℕ). y ∷ r) (q .0) (q .1);
     }
 
--- What stands before the message in accepted octets is no shorter than the shortest prefix of its size.
+-- The prefix in accepted octets is no shorter than the shortest prefix of its size.
 pub prefix-no-shorter : (s : List ℕ) (from to : ℕ) → Octets s → frameRead s ≡ readAccepted from to → NoShorter (shortestPrefix (to - from)) (take from s)
 unfolding Octets
 prefix-no-shorter s from to o e =

@@ -17,7 +17,7 @@ use Rattle.hproto_frame.proofs.Prefixes.{prefix-form}
 use Rattle.hproto_frame.proofs.Accepted.{read-form}
 use Rattle.hproto_frame.specs.ReadBack.{ReadBack}
 
--- A frame is read whatever stands after it.
+-- A frame is read whichever octets follow it.
 pub framed-read : (m r : List ℕ) → length m ≤ messageLimit → length (framed m ++ r) ≤ bufferLimit
     → frameRead (framed m ++ r) ≡ readAccepted (length (shortestPrefix (length m))) (length (framed m))
 unfolding framed shortestPrefix

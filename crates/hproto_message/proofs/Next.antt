@@ -117,7 +117,7 @@ module _ (sc : Schema) (levels n : ℕ) where
           subst (λ (x : List ℕ). NextNested sc levels n m x cut tag len size) (g .divides)
           (nested-of m cut (g .allowed) (g .shallow) q (ap control (g .divides) ∙ e))
 
--- Octets with a good cut are at their end, or a whole field stands at their front.
+-- Octets with a good cut are at their end, or begin with a whole field.
 pub record Fronted (s : List ℕ) : Type 0 where
   pub tag : ℕ
   pub len : ℕ
@@ -145,8 +145,8 @@ fronted-of sc n (Cut.nested tag c inner rest) a h =
       inside = simp length-append (omega arith);
     }
 
-pub fronted : (sc : Schema) (levels n : ℕ) (s : List ℕ) (cut : Cut) → Good sc levels n s cut → 1 ≤ length s → Fronted s
-fronted sc levels n s cut g h =
+pub first-field : (sc : Schema) (levels n : ℕ) (s : List ℕ) (cut : Cut) → Good sc levels n s cut → 1 ≤ length s → Fronted s
+first-field sc levels n s cut g h =
     subst Fronted (g .divides) (fronted-of sc n cut (g .allowed) (subst (λ (x : List ℕ). 1 ≤ length x) (sym (g .divides)) h))
 
 -- The only good cut of no octets has no fields.

@@ -1,4 +1,4 @@
--- A refusal's number is never 0, which stands for acceptance.
+-- A refusal's number is never 0, because 0 means accepted.
 use Prim.Native.Nat.{ℕ, zero, suc, _+_, _-_, _<_}
 use native.Mathlib.Omega.{arith}
 use mathlib.Core.Path.{_≡_, subst}

@@ -40,7 +40,7 @@ use Rattle.hproto_message.proofs.Steps.{StepMeans, step-means, step-of-
 use Rattle.hproto_message.proofs.Accepted.{accepted-good, good-accepted, depth-positive}
 use Rattle.hproto_message.proofs.WrongFields.{wrongAt, step-blames, Refused, early-refused, past-refused, wide-refused, text-refused}
 
--- What it comes to: no fault, and a cut; or a fault.
+-- The result: a cut, or a fault.
 pub data Search : Type 0 where
   whole : Cut → Search
   faulty : Fault → Search
@@ -54,7 +54,7 @@ thenNested tag c after (faulty f) later = faulty (inside tag c f after)
 thenNested tag c after (whole i) (whole cut) = whole (nested tag c i cut)
 thenNested tag c after (whole i) (faulty f) = faulty (past tag c i f)
 
--- What a field that is a message comes to: its number, its tag, its control part, its contents, the octets after it and what these come to.
+-- The result for a field that is a message, by its number, its tag, its control part, its contents, the octets after it and their result.
 abbrev pub Nested : Type 0
 Nested = ℕ → ℕ → List ℕ → List ℕ → List ℕ → Search → Search
 
@@ -77,7 +77,7 @@ searchNested sc (suc levels) m tag c b after later = thenNested tag c after (sea
 unfoldable pub search : Schema → ℕ → ℕ → List ℕ → Search
 search sc levels n s = searchFields sc (searchNested sc levels) n (suc (length s)) s
 
--- ---- the search comes to what the reading comes to, and the fault that it finds is the first one
+-- ---- the search has the same result as the reading, and the fault that it finds is the first one
 
 -- A reading of octets at a place, and a search through them.
 unfoldable pub Agree : Schema → ℕ → ℕ → ℕ → List ℕ → Reading Cut → Search → Type 0

@@ -29,7 +29,7 @@ split-in-three k l s =
     append-assoc (take k s) (take l (drop k s)) (drop (k + l) s)
     ∙ rw (← drop-drop l k s, take-append-drop l (drop k s)) (take-append-drop k s)
 
--- What each answer of a step says of the octets.
+-- What each step means for the octets.
 unfoldable pub StepMeans : Schema → ℕ → List ℕ → Step → Type 0
 StepMeans sc n s Done = s ≡ []
 StepMeans sc n s (Fault reason) = Unit {0}

@@ -26,7 +26,7 @@ use Rattle.text_window.specs.Window.{Printed}
 use Rattle.hproto_print.specs.Text.{kindName, valueText, line, lines}
 use Rattle.hproto_print.specs.internal.OfTree.{linesOf, directOf}
 use Rattle.text_window.proofs.Windows.{then, printed-nothing, printed-length, same-place}
-use Rattle.hproto_field.proofs.FieldsByHead.{Remaining, all-remaining, none-remaining, part, Ends, ends, leaf-next, nested-next, good-deeper}
+use Rattle.hproto_field.proofs.FieldsByHead.{Remaining, all-remaining, none-remaining, field-contents, Ends, ends, leaf-next, nested-next, good-deeper}
 use Rattle.hproto_print.proofs.CountLoop.{tree-is, direct-is}
 
 message-not : OneOf (0 ∷ 1 ∷ 2 ∷ 3 ∷ 4 ∷ []) 5 → ⊥
@@ -87,7 +87,7 @@ module _ (sc : Schema) (levels n : ℕ) (s before : List ℕ) (from at : ℕ) wh
 
   module _ (i end : ℕ) (out : List ℕ) (p : Progress i end out) (tag start stop : ℕ) (found : headAt i (drop i s) ≡ Field tag start stop) (k : Meaning) (means : k ≡ sc .means n tag) where
     abbrev pub contents : List ℕ
-    contents = part sc (levels - 1) n s i (p .remaining) tag start stop found
+    contents = field-contents sc (levels - 1) n s i (p .remaining) tag start stop found
 
     pub next-ends : Ends sc (levels - 1) n s i (p .remaining) tag start stop found
     next-ends = ends sc (levels - 1) n s i (p .remaining) tag start stop found

@@ -1,4 +1,4 @@
--- A message that the check does not refuse is short enough, and its reading is a cut.
+-- A message that the check accepts is within the length limit, and its reading is a cut.
 use Prim.Native.Nat.{ℕ, _≤_}
 use native.Mathlib.Omega.{arith}
 use mathlib.Core.Path.{_≡_, refl}

@@ -1,4 +1,4 @@
--- A call by the octets of a table, case by case.
+-- The answers of the calls that take the octets of a table, case by case.
 use Prim.Native.Nat.{ℕ, _*_, _≤_, _<_}
 use native.Mathlib.Omega.{arith}
 use mathlib.Core.Path.{_≡_, refl, sym, ap, _∙_}

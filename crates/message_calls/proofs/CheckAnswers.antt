@@ -1,4 +1,4 @@
--- The counts of a verdict are those of the tree.
+-- The answer of the check, case by case; the counts of a verdict are those of the tree.
 use Prim.Native.Nat.{ℕ, _≤_, _<_}
 use mathlib.Core.Path.{_≡_, refl, sym, ap, _∙_}
 use mathlib.Core.Bool.{true, false}
@@ -27,7 +27,7 @@ tree-fields sc Cut.end n = refl
 tree-fields sc (Cut.leaf tag c b rest) n = rw (tree-fields sc rest n)
 tree-fields sc (Cut.nested tag c inside rest) n = rw (tree-fields sc inside (innerOf (sc .means n tag)), tree-fields sc rest n)
 
--- The answer by the verdict through a message is that by its tree.
+-- The answer by the verdict is the answer by the tree.
 verdict-counts : (sc : Schema) (n : ℕ) (r : Reading Cut) → checkedBy (verdict r) ≡ treeCounts sc n r
 unfolding verdictOf checkedBy treeCounts counts
 verdict-counts sc n (accepted cut) = rw (tree-fields sc cut n, tree-depth sc cut n)
@@ -42,7 +42,7 @@ module _ (t : Table) (n : ℕ) (s : List ℕ) where
   unfolding check
   bad-table h v = rw (le-ltb messageLimit (length s) h, v)
 
-  -- Under the schema of a table that the loader can give, the check answers as under the table.
+  -- Under the schema of a table that the loader can return, the check has the same answer as under the table.
   pub under-valid : length s ≤ 65536 → valid t ≡ true → (sc : Schema) → sc ≡ schema t → checkUnder sc n s ≡ check t n s
   unfolding check
   under-valid h v sc e = rw (e, le-ltb messageLimit (length s) h, v)

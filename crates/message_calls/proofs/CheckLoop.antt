@@ -62,7 +62,7 @@ module _ (sc : Schema) (inner : Inner) (n at : ℕ) (s : List ℕ) where
         let h = came-from i (step sc n (drop i s)) (Fault k) e in
         traversal.at-fault fields depth (fieldsFrom sc inner n) at 0 s i f d now k (at + i) (rw h)
 
-    -- A field that holds no message, by its end.
+    -- A field that is no message, by its end.
     module _ (e : ℕ) (h : here ≡ Over e) where
       found-leaf : OverFrom i e (step sc n (drop i s))
       unfolding NextFrom
@@ -89,7 +89,7 @@ module _ (sc : Schema) (inner : Inner) (n at : ℕ) (s : List ℕ) where
           (at + i + w .size + w .len) (omega arith) (leaf (tagAt (drop i s)) (take (w .size) (drop i s)) (take (w .len) (drop (w .size) (drop i s))))
           (λ x. refl) (λ x. refl) (rw (w .is))
 
-    -- A field that holds a message, by its number and where its contents start and end.
+    -- A field that is a message, by its number and the span of its contents.
     module _ (m a e : ℕ) (h : here ≡ Into m a e) where
       found-nested : IntoFrom i m a e (step sc n (drop i s))
       unfolding NextFrom
@@ -107,12 +107,12 @@ module _ (sc : Schema) (inner : Inner) (n at : ℕ) (s : List ℕ) where
           let x = traversal.forward fields depth (fieldsFrom sc inner n) at 0 s i f d now (w .size + w .len) e (omega arith) (nested-inside .1) (omega arith) in
           (omega arith, omega arith, x .1)
 
-      -- The answer of the code for the contents.
+      -- The verdict that the code returns for the contents.
       module _ (r : Verdict) (v : r ≡ verdict (inner m (at + i) (at + a) (take (e - a) (drop a s)))) where
-        abbrev message-held : Reading Cut
-        message-held = inner m (at + i) (at + i + found-nested .size) (take (found-nested .len) (drop (found-nested .size) (drop i s)))
+        abbrev nested-reading : Reading Cut
+        nested-reading = inner m (at + i) (at + i + found-nested .size) (take (found-nested .len) (drop (found-nested .size) (drop i s)))
 
-        nested-octets : r ≡ verdict message-held
+        nested-octets : r ≡ verdict nested-reading
         nested-octets =
             let w = found-nested in
             let b = w .start-is in
@@ -129,14 +129,14 @@ module _ (sc : Schema) (inner : Inner) (n at : ℕ) (s : List ℕ) where
             let y = w .start-is in
             let q = w .end-is in
             traversal.into fields depth (fieldsFrom sc inner n) at 0 s i f d now (w .size + w .len) e (omega arith) (nested-inside .1) (omega arith)
-            (at + i + w .size + w .len) (omega arith) (nested (tagAt (drop i s)) (take (w .size) (drop i s))) (λ x y. refl) (λ x y. refl) message-held r g x c
+            (at + i + w .size + w .len) (omega arith) (nested (tagAt (drop i s)) (take (w .size) (drop i s))) (λ x y. refl) (λ x y. refl) nested-reading r g x c
             (rw (w .is)) nested-octets u (omega arith) k
 
         pub nested-refusal : (reason place : ℕ) → r ≡ Refused reason place → Refused reason place ≡ whole
         unfolding fieldsFrom afterStep
         nested-refusal reason place u =
             let w = found-nested in
-            traversal.at-nested-fault fields depth (fieldsFrom sc inner n) at 0 s i f d now (nested (tagAt (drop i s)) (take (w .size) (drop i s))) message-held
+            traversal.at-nested-fault fields depth (fieldsFrom sc inner n) at 0 s i f d now (nested (tagAt (drop i s)) (take (w .size) (drop i s))) nested-reading
             (fieldsFrom sc inner n (now .fuel - 1) (at + i + w .size + w .len) (drop (w .size + w .len) (drop i s))) r reason place (rw (w .is)) nested-octets u
 
 -- A message has no more fields than octets.

@@ -1,4 +1,4 @@
--- Octets that are stored behind room for one octet, and a control part that is stored before them then.
+-- A control part that is stored before contents which were written first, with room for one octet before them.
 use Prim.Native.Nat.{ℕ, suc, _+_, _-_, _≤_, _<_}
 use native.Mathlib.Numerals.{add-one}
 use native.Mathlib.Nat.{add-zero}

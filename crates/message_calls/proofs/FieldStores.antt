@@ -34,7 +34,7 @@ pub control-direct : (tag n : ℕ) → tag < 14 → n < 12 → leastControl tag 
 unfolding leastControl leastCode
 control-direct tag n h k = rw (lt-ltb tag 14 h, lt-ltb n 12 k)
 
--- A control part whose length stands in its first octet and whose tag takes one octet more, or two.
+-- A control part whose first octet has the length and whose tag takes one octet more, or two.
 pub control-one : (tag n : ℕ) → 14 ≤ tag → tag < 256 → n < 12 → leastControl tag n ≡ (224 + n) ∷ tag ∷ []
 unfolding leastControl leastCode firstFit octetsOf
 control-one tag n a b h =
@@ -64,7 +64,7 @@ module _ (d : List ℕ) (to tag n : ℕ) (t : tag < 14) (l : n < 12) where
       let i = direct-inside h in
       record { place = rw direct-size; buffer = rw (control-direct tag n t l) (one-stored d to (tag * 16 + n) i) }
 
-  -- Octets that stand behind room for one octet stay where they are.
+  -- Contents with room for one octet before them stay where they are.
   pub direct-wrapped : to + length (leastControl tag n) + n ≤ length d
       → (to + 1 + n ≡ to + length (leastControl tag n) + n)
       × (set d to (tag * 16 + n) ≡ stored (moved d (to + 1) n (length (leastControl tag n) - 1)) to (leastControl tag n))
@@ -118,10 +118,10 @@ pub number-length : (tag w v : ℕ) → length (field tag (octetsOf w v)) ≡ le
 number-length tag w v = field-length tag (octetsOf w v) ∙ rw (length-octetsOf w v)
 
 -- The octets of the least form of a number that was read from octets.
-pub uint-held : (s : List ℕ) (v : ℕ) (r : Least) → v ≡ unsigned s → length s ≤ 8 → r ≡ uintWidthBits v
+pub uint-contents : (s : List ℕ) (v : ℕ) (r : Least) → v ≡ unsigned s → length s ≤ 8 → r ≡ uintWidthBits v
     → octetsOf (r .width) (r .bits) ≡ leastUint (bigEndian s)
-uint-held s v r e h f = uint-octets r v f ∙ ap leastUint (e ∙ unsigned-is s h)
+uint-contents s v r e h f = uint-octets r v f ∙ ap leastUint (e ∙ unsigned-is s h)
 
-pub int-held : (s : List ℕ) (z : ℤ) (r : Least) → z ≡ signed s → length s ≤ 8 → r ≡ intWidthBits z
+pub int-contents : (s : List ℕ) (z : ℤ) (r : Least) → z ≡ signed s → length s ≤ 8 → r ≡ intWidthBits z
     → octetsOf (r .width) (r .bits) ≡ leastInt (integer s)
-int-held s z r e h f = int-octets r z f ∙ ap leastInt (e ∙ signed-is s h)
+int-contents s z r e h f = int-octets r z f ∙ ap leastInt (e ∙ signed-is s h)

@@ -32,12 +32,12 @@ use Rattle.message_calls.specs.declared.outermost.Occurrence.the-variant
 use Rattle.message_calls.specs.declared.outermost.OptionalSpan.{OptionalSpan}
 use Rattle.message_calls.specs.declared.outermost.OptionalSpan.the-variants.{Absent, At}
 use Rattle.message_calls.proofs.ChosenElements.{Of, chosen-map, chosen-each, withTag-each}
-use Rattle.message_calls.proofs.OutermostSpans.{itemOf, Held, each-held, spanOf, spans-are}
+use Rattle.message_calls.proofs.OutermostSpans.{itemOf, InMessage, each-in-message, spanOf, spans-are}
 use Rattle.message_calls.specs.InTree.{Shows}
 use Rattle.message_calls.proofs.AcceptedByCheck.{under-passed}
 use Rattle.message_calls.proofs.CheckAnswers.{under-valid}
 
--- Contents that are allowed for a kind are answered with the kind's number and their value.
+-- The answer for contents that their kind allows has the kind's number and their value.
 read-leaf : (k : Meaning) (t start : ℕ) (b : List ℕ) → Contents k b
     → read (kindNumber k) start b ≡ found (some (record { item = Item.leaf t (value k b); start = start; length = length b }))
 unfolding read kindNumber uintIn intIn unsigned signed found itemKind kindOf uintOf intOf value Contents
@@ -54,11 +54,11 @@ unfolding Shows itemTag read kindNumber uintIn intIn found itemKind uintOf intOf
 read-item sc levels n (Item.leaf t v) start b h = rw (h .0) (read-leaf (sc .means n t) t start b (h .1))
 read-item sc levels n (Item.nested t inside) start b h = rw (h .2)
 
--- What was found is read from the octets at its place.
-read-outer : (sc : Schema) (levels n : ℕ) (s : List ℕ) (o : ItemSpan) (t : ℕ) → Held sc levels n s o → itemTag (o .item) ≡ t
+-- The answer for an outermost field is read from the octets in its span.
+read-span : (sc : Schema) (levels n : ℕ) (s : List ℕ) (o : ItemSpan) (t : ℕ) → InMessage sc levels n s o → itemTag (o .item) ≡ t
     → read (kindNumber (sc .means n t)) (o .start) (take (o .length) (drop (o .start) s)) ≡ found (some o)
 unfolding found
-read-outer sc levels n s o t h e =
+read-span sc levels n s o t h e =
     let k = h .inside in
     let l = length-take-le (o .length) (drop (o .start) s) (simp length-drop (omega arith)) in
     let r = read-item sc levels n (o .item) (o .start) (take (o .length) (drop (o .start) s)) (h .shows) in
@@ -69,7 +69,7 @@ unfolding chosenSpan nthSpan lastSpan chosen
 chosen-span t (Nth k) s = refl
 chosen-span t Last s = refl
 
--- Under the schema of a table that the loader can give, a lookup answers as under the table.
+-- Under the schema of a table that the loader can return, a lookup has the same answer as under the table.
 module _ (t : Table) (sc : Schema) (same : sc ≡ schema t) (n : ℕ) (s : List ℕ) (h : length s ≤ 65536) (v : valid t ≡ true) (tag : ℕ) where
   pub answer-under : (which : Occurrence) → lookUnder sc n s tag which ≡ answer t n s tag which
   unfolding lookUnder answer
@@ -94,20 +94,20 @@ module _ (sc : Schema) (n : ℕ) (s : List ℕ) (tag : ℕ) (which : Occurrence)
   unfoldable pub wanted : Cut → Option ItemSpan
   wanted cut = chosen which (withTag itemOf tag (outermost sc n 0 cut))
 
-  pub answered-under : checkUnder sc n s .refusal ≡ 0 → (cut : Cut) → reading sc n s ≡ accepted cut → lookUnder sc n s tag which ≡ found (wanted cut)
+  pub under-found : checkUnder sc n s .refusal ≡ 0 → (cut : Cut) → reading sc n s ≡ accepted cut → lookUnder sc n s tag which ≡ found (wanted cut)
   unfolding lookUnder foundIn wanted
-  answered-under e cut f = rw (eq-eqb (checkUnder sc n s .refusal) 0 e, f)
+  under-found e cut f = rw (eq-eqb (checkUnder sc n s .refusal) 0 e, f)
 
-  -- It stands in the message.
-  pub wanted-held : (cut : Cut) → Good sc 8 n s cut
-      → Of (λ (o : ItemSpan). Held sc 7 n s o × (itemTag (o .item) ≡ tag)) (wanted cut)
+  -- Its contents lie in the message.
+  pub wanted-in-message : (cut : Cut) → Good sc 8 n s cut
+      → Of (λ (o : ItemSpan). InMessage sc 7 n s o × (itemTag (o .item) ≡ tag)) (wanted cut)
   unfolding wanted
-  wanted-held cut g =
-      chosen-each (λ (o : ItemSpan). Held sc 7 n s o × (itemTag (o .item) ≡ tag)) which (withTag itemOf tag (outermost sc n 0 cut))
-      (withTag-each (Held sc 7 n s) itemOf tag (outermost sc n 0 cut)
-      (each-held sc 7 n s cut 0 (sym (g .divides)) (g .allowed) (g .shallow)))
+  wanted-in-message cut g =
+      chosen-each (λ (o : ItemSpan). InMessage sc 7 n s o × (itemTag (o .item) ≡ tag)) which (withTag itemOf tag (outermost sc n 0 cut))
+      (withTag-each (InMessage sc 7 n s) itemOf tag (outermost sc n 0 cut)
+      (each-in-message sc 7 n s cut 0 (sym (g .divides)) (g .allowed) (g .shallow)))
 
-  -- The verdict finds its place.
+  -- The spans by heads have its span.
   span-is : (cut : Cut) → Good sc 8 n s cut → chosenSpan tag which s ≡ optionalSpan (Option·map spanOf (wanted cut))
   unfolding wanted
   span-is cut g =
@@ -122,19 +122,19 @@ module _ (sc : Schema) (n : ℕ) (s : List ℕ) (tag : ℕ) (which : Occurrence)
     unfolding reading cut
     is-good = accepted-good sc 8 n 0 0 s (under-passed sc n s e .1 .0) (under-passed sc n s e .1 .1)
 
-    is-answered : lookUnder sc n s tag which ≡ found (wanted cut)
+    answer-is : lookUnder sc n s tag which ≡ found (wanted cut)
     unfolding cut
-    is-answered = answered-under e (under-passed sc n s e .1 .0) (under-passed sc n s e .1 .1)
+    answer-is = under-found e (under-passed sc n s e .1 .0) (under-passed sc n s e .1 .1)
 
     pub absent : (p : OptionalSpan) → p ≡ chosenSpan tag which s → p ≡ Absent → refusal 18 0 ≡ lookUnder sc n s tag which
     unfolding optionalSpan found
-    absent p f a = sym (is-answered ∙ go (wanted cut) (sym (span-is cut is-good) ∙ sym f ∙ a))
+    absent p f a = sym (answer-is ∙ go (wanted cut) (sym (span-is cut is-good) ∙ sym f ∙ a))
       where
         go : (o : Option ItemSpan) → optionalSpan (Option·map spanOf o) ≡ Absent → found o ≡ refusal 18 0
         go none h = refl
         go (some o) h = let z : _≡_ {A = ℕ} 0 1 = cc in absurd (omega arith)
 
-    -- The place of the field that is wanted, and what is read there.
+    -- The span of the wanted field, and the answer that is read there.
     pub record Present (start end : ℕ) : Type 0 where
       pub ordered : start ≤ end
       pub inside : end ≤ length s
@@ -142,9 +142,9 @@ module _ (sc : Schema) (n : ℕ) (s : List ℕ) (tag : ℕ) (which : Occurrence)
 
     pub present : (start end : ℕ) (p : OptionalSpan) → p ≡ chosenSpan tag which s → p ≡ At start end → Present start end
     unfolding optionalSpan Of
-    present start end p f a = go (wanted cut) refl (wanted-held cut is-good) (sym (span-is cut is-good) ∙ sym f ∙ a)
+    present start end p f a = go (wanted cut) refl (wanted-in-message cut is-good) (sym (span-is cut is-good) ∙ sym f ∙ a)
       where
-        go : (o : Option ItemSpan) → wanted cut ≡ o → Of (λ (o : ItemSpan). Held sc 7 n s o × (itemTag (o .item) ≡ tag)) o
+        go : (o : Option ItemSpan) → wanted cut ≡ o → Of (λ (o : ItemSpan). InMessage sc 7 n s o × (itemTag (o .item) ≡ tag)) o
             → optionalSpan (Option·map spanOf o) ≡ At start end → Present start end
         go none w h d = let z : _≡_ {A = ℕ} 0 1 = cc in absurd (omega arith)
         go (some o) w h d =
@@ -152,11 +152,11 @@ module _ (sc : Schema) (n : ℕ) (s : List ℕ) (tag : ℕ) (which : Occurrence)
             let y : o .start + o .length ≡ end = cc in
             let k = h .0 .inside in
             let l : end - start ≡ o .length = omega arith in
-            let r = read-outer sc 7 n s o tag (h .0) (h .1) in
+            let r = read-span sc 7 n s o tag (h .0) (h .1) in
             record {
               ordered = omega arith;
               inside = omega arith;
-              answers = rw (l, ← x) (r ∙ sym (is-answered ∙ ap found w));
+              answers = rw (l, ← x) (r ∙ sym (answer-is ∙ ap found w));
             }
 
 module _ (t : Table) (n : ℕ) (s : List ℕ) (tag : ℕ) (which : Occurrence) where
@@ -166,7 +166,7 @@ module _ (t : Table) (n : ℕ) (s : List ℕ) (tag : ℕ) (which : Occurrence) w
       let f : eqb (check t n s .refusal) 0 ≡ false = ap (λ (x : Checked). eqb (x .refusal) 0) (sym e) ∙ ne-eqb (c .refusal) 0 ne in
       rw (f, ← e)
 
-  pub answered : check t n s .refusal ≡ 0 → (cut : Cut) → reading (schema t) n s ≡ accepted cut
+  pub answer-found : check t n s .refusal ≡ 0 → (cut : Cut) → reading (schema t) n s ≡ accepted cut
       → answer t n s tag which ≡ found (wanted (schema t) n s tag which cut)
   unfolding answer foundIn wanted
-  answered e cut f = rw (eq-eqb (check t n s .refusal) 0 e, f)
+  answer-found e cut f = rw (eq-eqb (check t n s .refusal) 0 e, f)

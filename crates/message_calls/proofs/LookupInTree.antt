@@ -1,4 +1,4 @@
--- What a lookup answers is the k-th, or the last, of the tree's outermost fields with the tag.
+-- A lookup returns the k-th, or the last, of the tree's outermost fields with the tag.
 use Prim.Native.Nat.{ℕ, _<_, _^_}
 use native.Mathlib.Omega.{arith}
 use mathlib.Core.Path.{_≡_, refl, sym, ap, _∙_, subst}
@@ -18,8 +18,8 @@ use Rattle.message_calls.specs.Lookup.{ItemSpan, outermost, chosen, refu
 use Rattle.message_calls.specs.declared.outermost.Occurrence.{Occurrence}
 use Rattle.message_calls.specs.declared.Found.{Found}
 use Rattle.message_calls.proofs.ChosenElements.{Of, chosen-map, chosen-none, withTag-map, withTag-none}
-use Rattle.message_calls.proofs.OutermostSpans.{itemOf, items-are, Held, small-tags}
-use Rattle.message_calls.proofs.LookupAnswers.{refused-first, wanted, answered, wanted-held}
+use Rattle.message_calls.proofs.OutermostSpans.{itemOf, items-are, InMessage, small-tags}
+use Rattle.message_calls.proofs.LookupAnswers.{refused-first, wanted, answer-found, wanted-in-message}
 use Rattle.message_calls.specs.InTree.{Answers}
 
 module _ (t : Table) (n : ℕ) (s : List ℕ) (tag : ℕ) (which : Occurrence) where
@@ -37,15 +37,15 @@ module _ (t : Table) (n : ℕ) (s : List ℕ) (tag : ℕ) (which : Occurrence) w
 
     is-found : answer t n s tag which ≡ found (wanted (schema t) n s tag which cut)
     unfolding reading
-    is-found = answered t n s tag which e cut (good-accepted (schema t) 8 n 0 0 s cut g)
+    is-found = answer-found t n s tag which e cut (good-accepted (schema t) 8 n 0 0 s cut g)
 
     -- The answer is the wanted one of the tree's outermost fields with the tag.
     pub answers-tree : Answers (schema t) n s tag (occurrence (tree (schema t) n cut) tag which) (answer t n s tag which)
     unfolding Answers Of found
     answers-tree =
-        rw (← wanted-item, is-found) (go (wanted (schema t) n s tag which cut) (wanted-held (schema t) n s tag which cut g))
+        rw (← wanted-item, is-found) (go (wanted (schema t) n s tag which cut) (wanted-in-message (schema t) n s tag which cut g))
       where
-        go : (o : Option ItemSpan) → Of (λ (o : ItemSpan). Held (schema t) 7 n s o × (itemTag (o .item) ≡ tag)) o
+        go : (o : Option ItemSpan) → Of (λ (o : ItemSpan). InMessage (schema t) 7 n s o × (itemTag (o .item) ≡ tag)) o
             → Answers (schema t) n s tag (Option·map itemOf o) (found o)
         go none h = refl
         go (some o) h =
@@ -54,13 +54,13 @@ module _ (t : Table) (n : ℕ) (s : List ℕ) (tag : ℕ) (which : Occurrence) w
               nowhere = refl;
               tagged = h .1;
               kind = refl;
-              number = refl;
+              value = refl;
               signed = refl;
               inside = h .0 .inside;
               contents = h .0 .shows;
             }
 
-    -- 18 is answered exactly where the tree has no such field.
+    -- The lookup refuses the field as absent exactly where the tree has no such field.
     pub absent-exactly : (answer t n s tag which .refusal ≡ 18) ↔ (occurrence (tree (schema t) n cut) tag which ≡ none)
     unfolding Answers refusal
     absent-exactly = go (occurrence (tree (schema t) n cut) tag which) answers-tree

@@ -1,4 +1,4 @@
--- Passing over the fields of octets one by one: what is still ahead, and what each field that is passed adds.
+-- The loop invariants of the two lookups: the spans still to come, and the k-th or the last span so far.
 use Prim.Native.Nat.{ℕ, zero, suc, _+_, _-_, _≤_, _<_}
 use native.Mathlib.Omega.{arith}
 use mathlib.Core.Path.{_≡_, refl, ap, _∙_}
@@ -9,7 +9,7 @@ use borrow.Author.Tests.{eq-eqb, ne-eqb}
 use Rattle.hproto_field.specs.internal.Heads.{headAt}
 use Rattle.hproto_field.specs.declared.Head.{Head}
 use Rattle.hproto_field.specs.declared.Head.the-variants.{End, Fault, Field}
-use Rattle.hproto_field.proofs.Heads.{extent, Fieldless}
+use Rattle.hproto_field.proofs.Heads.{head-span, Fieldless}
 use Rattle.message_calls.specs.Lookup.{lastOr}
 use Rattle.message_calls.specs.internal.Spans.{Span, afterHead, spansFrom, spans, optionalSpan, nthSpan, lastSpan}
 use Rattle.message_calls.specs.declared.outermost.OptionalSpan.{OptionalSpan}
@@ -41,7 +41,7 @@ module _ (tag : ℕ) (s : List ℕ) where
   unfolding spans rest at-start
   all-ahead = refl
 
-  -- No field stands at i.
+  -- There is no field at i.
   none-ahead : (i : ℕ) (a : Ahead i) (h : Head) → headAt i (drop i s) ≡ h → Fieldless h → rest i a ≡ []
   unfolding rest spansFrom afterHead Fieldless
   none-ahead i a h e q = go (a .fuel)
@@ -71,7 +71,7 @@ module _ (tag : ℕ) (s : List ℕ) where
         go : (fuel : ℕ) → length s < i + fuel → a .fuel ≡ fuel → Onward
         go zero h f = let k = a .inside in absurd (omega arith)
         go (suc fuel) h f =
-            let x = extent i (drop i s) t start end e in
+            let x = head-span i (drop i s) t start end e in
             let d = length-drop i s in
             let k = a .inside in
             record {
@@ -117,16 +117,16 @@ module _ (tag : ℕ) (s : List ℕ) where
               ∙ later-is (record { start = start; end = end }) (rest end (next .ahead)) remaining z;
         }
 
-  -- `best` is the last place before i, if there is one.
+  -- `best` is the last span before i, if there is one.
   pub record Latest (i : ℕ) (best : OptionalSpan) : Type 0 where
     pub ahead : Ahead i
-    pub held : Option Span
-    pub best-is : best ≡ optionalSpan held
-    pub same : lastOr none (spans tag s) ≡ lastOr held (rest i ahead)
+    pub latest : Option Span
+    pub best-is : best ≡ optionalSpan latest
+    pub same : lastOr none (spans tag s) ≡ lastOr latest (rest i ahead)
 
-  pub nothing-held : Latest 0 optional.Absent
+  pub none-yet : Latest 0 optional.Absent
   unfolding optionalSpan
-  nothing-held = record { ahead = at-start; held = none; best-is = refl; same = ap (lastOr none) all-ahead }
+  none-yet = record { ahead = at-start; latest = none; best-is = refl; same = ap (lastOr none) all-ahead }
 
   pub settled : (i : ℕ) (best : OptionalSpan) → Latest i best → (h : Head) → headAt i (drop i s) ≡ h → Fieldless h → best ≡ lastSpan tag s
   unfolding lastSpan lastOr
@@ -137,14 +137,14 @@ module _ (tag : ℕ) (s : List ℕ) where
     after = onward i (q .ahead) t start end e
 
     pub kept : (t ≡ tag → ⊥) → Latest end best
-    kept m = record { ahead = after .ahead; held = q .held; best-is = q .best-is; same = q .same ∙ ap (lastOr (q .held)) (after .other m) }
+    kept m = record { ahead = after .ahead; latest = q .latest; best-is = q .best-is; same = q .same ∙ ap (lastOr (q .latest)) (after .other m) }
 
-    pub taken : t ≡ tag → Latest end (optional.At start end)
+    pub replaced : t ≡ tag → Latest end (optional.At start end)
     unfolding lastOr optionalSpan
-    taken m =
+    replaced m =
         record {
           ahead = after .ahead;
-          held = some (record { start = start; end = end });
+          latest = some (record { start = start; end = end });
           best-is = refl;
           same = q .same ∙ rw (after .matched m);
         }

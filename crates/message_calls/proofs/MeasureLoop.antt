@@ -1,4 +1,4 @@
--- Counting the octets of the shortest form of a message field by field.
+-- The loop invariant of `measure`: the count of octets of the shortest form of the fields so far.
 use Prim.Native.Nat.{ℕ, suc, _+_, _*_, _%_, _≤_, _<_}
 use native.Mathlib.Omega.{arith}
 use mathlib.Core.Path.{_≡_, refl, sym, ap, _∙_, subst}
@@ -28,7 +28,7 @@ use Rattle.hproto_field.proofs.Heads.{Fieldless}
 use Rattle.hproto_field.proofs.FieldsByHead.{Ends, ends}
 use Rattle.hproto_put.proofs.Least.{leastControl-size, leastControl-widths}
 use Rattle.message_calls.specs.internal.Stores.{shortestWithin}
-use Rattle.message_calls.proofs.ShortestPrefix.{Passed, nothing-passed, all-passed, passed-length, part, tag-small, leaf-contents, leaf-passed, nested-passed, shortest-is}
+use Rattle.message_calls.proofs.ShortestPrefix.{Passed, nothing-passed, all-passed, passed-length, field-contents, tag-small, leaf-contents, leaf-passed, nested-passed, shortest-is}
 use Rattle.hproto_message.proofs.Fields.{field-length}
 
 signedWidth-bound : (z : ℤ) → signedWidth z ≤ 8
@@ -78,7 +78,7 @@ module _ (sc : Schema) (levels n : ℕ) (s : List ℕ) where
 
   module _ (i size : ℕ) (p : Counted i size) (o : Octets s) (tag start stop : ℕ) (found : headAt i (drop i s) ≡ Field tag start stop) (k : Meaning) (means : k ≡ sc .means n tag) where
     abbrev contents : List ℕ
-    contents = part sc levels n s i (p .written) (p .passed) tag start stop found
+    contents = field-contents sc levels n s i (p .written) (p .passed) tag start stop found
 
     small : tag % 65536 ≡ tag
     small = tag-small sc levels n s i (p .written) (p .passed) tag start stop found o

@@ -1,5 +1,4 @@
--- The outermost fields of a message with a good cut: where their contents stand, what these say, and that the verdict by control parts
--- finds them.
+-- The outermost fields of a message with a good cut: the spans by heads are the spans of their contents, and the contents show the fields.
 use Prim.Native.Nat.{ℕ, zero, suc, _+_, _-_, _^_, _≤_, _<_}
 use native.Mathlib.Omega.{arith}
 use mathlib.Core.Path.{_≡_, refl, sym, ap, _∙_, subst}
@@ -42,8 +41,8 @@ items-are sc n at (Cut.nested tag c inside rest) =
     ap (λ (l : List Item). Item.nested tag (tree sc (innerOf (sc .means n tag)) inside) ∷ l)
     (items-are sc n (at + length c + length (joined inside)) rest)
 
--- The contents of an outermost field stand within the message, at its place.
-pub record Held (sc : Schema) (levels n : ℕ) (s : List ℕ) (o : ItemSpan) : Type 0 where
+-- The span of an outermost field lies within the message, and the octets there are the field's contents.
+pub record InMessage (sc : Schema) (levels n : ℕ) (s : List ℕ) (o : ItemSpan) : Type 0 where
   pub inside : o .start + o .length ≤ length s
   pub shows : Shows sc levels n (take (o .length) (drop (o .start) s)) (o .item)
 
@@ -70,7 +69,7 @@ module _ (c b r : List ℕ) (t : ℕ) (w : WholeField t c b) where
         rest = rw (← h, ← drop-drop (length c + length b) at s, e) (p .third);
       }
 
-  -- The verdict finds the field.
+  -- The head of the field.
   head-is : (at : ℕ) → headAt at (c ++ b ++ r) ≡ Field t (at + length c) (at + length c + length b)
   head-is at =
       let l : length (c ++ b ++ r) ≡ length c + length b + length r = simp length-append (omega arith) in
@@ -85,23 +84,23 @@ module _ (c b r : List ℕ) (t : ℕ) (w : WholeField t c b) where
   spans-step s at e tag fuel = rw (e, head-is at)
 
 module _ (sc : Schema) (levels n : ℕ) (s : List ℕ) where
-  pub each-held : (cut : Cut) (at : ℕ) → drop at s ≡ joined cut → Allowed sc n cut → cuts.depth cut ≤ suc levels
-      → Each (Held sc levels n s) (outermost sc n at cut)
+  pub each-in-message : (cut : Cut) (at : ℕ) → drop at s ≡ joined cut → Allowed sc n cut → cuts.depth cut ≤ suc levels
+      → Each (InMessage sc levels n s) (outermost sc n at cut)
   unfolding Each outermost joined Allowed cuts.depth Shows innerOf
-  each-held Cut.end at e a d = tt
-  each-held (Cut.leaf tag c b rest) at e a d =
+  each-in-message Cut.end at e a d = tt
+  each-in-message (Cut.leaf tag c b rest) at e a d =
       let f = a .0 in
       let p = parts c b (joined rest) tag (f .whole) s at e in (
         record { inside = p .inside; shows = rw (p .contents) (refl, f .allowed) },
-        each-held rest (at + length c + length b) (p .rest) (a .1) d,
+        each-in-message rest (at + length c + length b) (p .rest) (a .1) d,
       )
-  each-held (Cut.nested tag c inner rest) at e a d =
+  each-in-message (Cut.nested tag c inner rest) at e a d =
       let f = a .0 .1 in
       let m = a .0 .0 in
       let p = parts c (joined inner) (joined rest) tag (f .whole) s at e in
       let g : Good sc levels m (joined inner) inner = record { divides = refl; allowed = a .0 .2; shallow = omega arith } in (
         record { inside = p .inside; shows = rw (p .contents, f .allowed) (m, inner, refl, g, refl) },
-        each-held rest (at + length c + length (joined inner)) (p .rest) (a .1) (omega arith),
+        each-in-message rest (at + length c + length (joined inner)) (p .rest) (a .1) (omega arith),
       )
 
 -- Where the contents of an outermost field start and end.
@@ -109,7 +108,7 @@ abbrev pub spanOf : ItemSpan → Span
 spanOf o = record { start = o .start; end = o .start + o .length }
 
 module _ (sc : Schema) (n t : ℕ) (s : List ℕ) where
-  -- The places of the outermost fields with a tag are those that the verdict finds.
+  -- The spans of the outermost fields with a tag are the spans by heads.
   found-at : (cut : Cut) (fuel at : ℕ) → drop at s ≡ joined cut → Allowed sc n cut → length (joined cut) < fuel
       → spansFrom t s fuel at ≡ map spanOf (withTag itemOf t (outermost sc n at cut))
   unfolding spansFrom afterHead headAt headFrom outermost withTag joined Allowed itemTag

@@ -37,7 +37,7 @@ pub shortestByTable-is : (t : Table) (n : ℕ) (s : List ℕ) → shortestByTabl
 unfolding shortestByTable
 shortestByTable-is t n s = shortestUnder-is (schema t) n s
 
--- What is promised of the answer r and of the buffer afterwards, by the check's answer c, the shortest octets and the buffer before.
+-- The contract's statement of the answer r and of the buffer afterwards, by the check's answer c, the shortest octets xs and the buffer before.
 pub record Meets (c : Checked) (xs out : List ℕ) (r : Shortened) (after : List ℕ) : Type 0 where
   pub result-is : r ≡ shortenResult c xs out
   pub buffer-is : after ≡ resultBuffer c xs out
@@ -73,7 +73,7 @@ module _ (c : Checked) (xs out : List ℕ) where
         let a : shortenResult c xs out ≡ record { refusal = 0; place = 0; length = end } = rw (passed, le-leb (length xs) (length out) h, q) in
         record { result-is = sym a; buffer-is = b ∙ stored-fits out 0 xs (omega arith) ∙ rw a }
 
--- Under the schema of a table that the loader can give, the shortener answers as under the table.
+-- Under the schema of a table that the loader can return, the shortener has the same answer as under the table.
 module _ (t : Table) (sc : Schema) (same : sc ≡ schema t) (n : ℕ) (s out : List ℕ) (h : length s ≤ 65536) (v : valid t ≡ true) where
   pub answer-under : shortenUnder sc n s out ≡ answer t n s out
   unfolding shortenUnder answer shortestByTable

@@ -1,4 +1,4 @@
--- Passing over the fields of an accepted message: what has been passed is the front of the shortest form.
+-- Shared by the loops of `write` and `measure`: the shortest form of the fields so far is a prefix of the whole shortest form.
 use Prim.Native.Nat.{ℕ, suc, _+_, _%_, _≤_}
 use native.Mathlib.Nat.{mod-eq-of-lt}
 use native.Mathlib.Omega.{arith}
@@ -32,7 +32,7 @@ unfolding shortestWithin shortestOfReading
 shortest-is sc levels n s cut g = rw (good-accepted sc levels n 0 0 s cut g)
 
 module _ (sc : Schema) (levels n : ℕ) (s : List ℕ) where
-  -- After i octets, `written` is the shortest form of the fields passed.
+  -- After i octets, `written` is the shortest form of the fields so far.
   pub record Passed (i : ℕ) (written : List ℕ) : Type 0 where
     pub remaining : Remaining sc levels n s i
     pub whole : shortestWithin sc (suc levels) n s ≡ written ++ shortest (tree sc n (remaining .rest))
@@ -50,8 +50,8 @@ module _ (sc : Schema) (levels n : ℕ) (s : List ℕ) where
 
   module _ (i : ℕ) (written : List ℕ) (p : Passed i written) (tag start stop : ℕ) (found : headAt i (drop i s) ≡ Field tag start stop) where
     -- The field's contents.
-    abbrev pub part : List ℕ
-    part = fields.part sc levels n s i (p .remaining) tag start stop found
+    abbrev pub field-contents : List ℕ
+    field-contents = fields.field-contents sc levels n s i (p .remaining) tag start stop found
 
     -- Its tag has at most two octets.
     pub tag-small : Octets s → tag % 65536 ≡ tag
@@ -63,7 +63,7 @@ module _ (sc : Schema) (levels n : ℕ) (s : List ℕ) where
 
     module _ (k : Meaning) (means : k ≡ sc .means n tag) where
       -- A field that is no message: its least form is the next part of the shortest form.
-      pub leaf-passed : Plain k → Passed stop (written ++ field tag (leastContents (value k part)))
+      pub leaf-passed : Plain k → Passed stop (written ++ field tag (leastContents (value k field-contents)))
       unfolding shortest
       leaf-passed q =
           let x = leaf-next sc levels n s i (p .remaining) tag start stop found k means q in
@@ -71,31 +71,31 @@ module _ (sc : Schema) (levels n : ℕ) (s : List ℕ) where
             remaining = x .remaining;
             whole =
                 p .whole ∙ ap (λ (y : Tree). written ++ shortest y) (x .tree-is)
-                ∙ sym (append-assoc written (field tag (leastContents (value k part))) (shortest (tree sc n (x .remaining .rest))));
+                ∙ sym (append-assoc written (field tag (leastContents (value k field-contents))) (shortest (tree sc n (x .remaining .rest))));
           }
 
-      pub leaf-contents : Plain k → Contents k part
+      pub leaf-contents : Plain k → Contents k field-contents
       leaf-contents q = leaf-next sc levels n s i (p .remaining) tag start stop found k means q .contents
 
       -- A field that is a message of the number m: it is accepted, and its shortest form with a control part is the next part.
       pub record NestedPassed (m : ℕ) : Type 0 where
-        pub accepts : Accepts sc levels m part
-        pub passed : Passed stop (written ++ field tag (shortestWithin sc levels m part))
+        pub accepts : Accepts sc levels m field-contents
+        pub passed : Passed stop (written ++ field tag (shortestWithin sc levels m field-contents))
         pub positive : 1 ≤ levels
 
       pub nested-passed : (m : ℕ) → k ≡ Message m → NestedPassed m
       unfolding shortest
       nested-passed m q =
           let x = nested-next sc levels n s i (p .remaining) tag start stop found k means m q in
-          let e = shortest-is sc levels m part (x .inner) (x .good-inner) in
+          let e = shortest-is sc levels m field-contents (x .inner) (x .good-inner) in
           record {
-            accepts = good-accepts sc levels m part (x .inner) (x .good-inner);
+            accepts = good-accepts sc levels m field-contents (x .inner) (x .good-inner);
             passed =
                 record {
                   remaining = x .remaining;
                   whole =
                       p .whole ∙ ap (λ (y : Tree). written ++ shortest y) (x .tree-is)
-                      ∙ rw (← e) (sym (append-assoc written (field tag (shortestWithin sc levels m part)) (shortest (tree sc n (x .remaining .rest)))));
+                      ∙ rw (← e) (sym (append-assoc written (field tag (shortestWithin sc levels m field-contents)) (shortest (tree sc n (x .remaining .rest)))));
                 };
             positive = x .positive;
           }

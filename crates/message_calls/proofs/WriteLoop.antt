@@ -1,4 +1,4 @@
--- Writing the shortest form of a message field by field: the buffer holds the part that has been passed.
+-- The loop invariant of `write`: the buffer has the shortest form of the fields so far.
 use Prim.Native.Nat.{ℕ, suc, _+_, _-_, _%_, _≤_, _<_}
 use native.Mathlib.Omega.{arith}
 use mathlib.Core.Path.{_≡_, sym, ap, _∙_, subst}
@@ -23,13 +23,13 @@ use Rattle.hproto_store.specs.Store.{stored}
 use Rattle.hproto_store.specs.internal.Moved.{moved}
 use Rattle.hproto_store.proofs.Stores.{stored-nothing, stored-after, length-stored}
 use Rattle.message_calls.specs.internal.Stores.{shortestWithin, Put}
-use Rattle.message_calls.proofs.ShortestPrefix.{Passed, nothing-passed, all-passed, passed-length, part, tag-small, leaf-contents, leaf-passed, nested-passed}
+use Rattle.message_calls.proofs.ShortestPrefix.{Passed, nothing-passed, all-passed, passed-length, field-contents, tag-small, leaf-contents, leaf-passed, nested-passed}
 use Rattle.hproto_message.proofs.Fields.{field-length}
 use Rattle.message_calls.proofs.FieldStores.{control-some}
 use Rattle.message_calls.proofs.ControlBefore.{stored-behind}
 
 module _ (sc : Schema) (levels n : ℕ) (s before : List ℕ) (to : ℕ) where
-  -- After i octets the buffer holds what has been passed, from `to` up to `end`.
+  -- After i octets the buffer has the shortest form of the fields so far, from `to` up to `end`.
   pub record Progress (i end : ℕ) (out : List ℕ) : Type 0 where
     pub written : List ℕ
     pub passed : Passed sc levels n s i written
@@ -75,7 +75,7 @@ module _ (sc : Schema) (levels n : ℕ) (s before : List ℕ) (to : ℕ) where
 
     module _ (o : Octets s) (tag start stop : ℕ) (found : headAt i (drop i s) ≡ Field tag start stop) (k : Meaning) (means : k ≡ sc .means n tag) where
       abbrev pub contents : List ℕ
-      contents = part sc levels n s i (p .written) (p .passed) tag start stop found
+      contents = field-contents sc levels n s i (p .written) (p .passed) tag start stop found
 
       small : tag % 65536 ≡ tag
       small = tag-small sc levels n s i (p .written) (p .passed) tag start stop found o

@@ -27,7 +27,7 @@ pub record Gives (sc : Schema) (n : ℕ) (s : List ℕ) (tag : ℕ) (i : Item) (
   pub nowhere : r .place ≡ 0
   pub tagged : itemTag i ≡ tag
   pub kind : r .kind ≡ itemKind i
-  pub number : r .number ≡ uintOf i
+  pub value : r .value ≡ uintOf i
   pub signed : r .signed ≡ intOf i
   pub inside : r .start + r .length ≤ length s
   pub contents : Shows sc 7 n (take (r .length) (drop (r .start) s)) i

@@ -50,7 +50,7 @@ chosen Last l = lastOr none l
 
 unfoldable pub refusal : ℕ → ℕ → Found
 refusal reason place =
-    record { refusal = reason; place = place; kind = 0; number = 0; signed = pos 0; start = 0; length = 0 }
+    record { refusal = reason; place = place; kind = 0; value = 0; signed = pos 0; start = 0; length = 0 }
 
 -- The answer for a field that was found; without one the field is absent.
 unfoldable pub found : Option ItemSpan → Found
@@ -60,7 +60,7 @@ found (some o) =
       refusal = 0;
       place = 0;
       kind = itemKind (o .item);
-      number = uintOf (o .item);
+      value = uintOf (o .item);
       signed = intOf (o .item);
       start = o .start;
       length = o .length;

@@ -29,7 +29,7 @@ pub struct Found {
     pub refusal: u64,
     pub place: u64,
     pub kind: u64,
-    pub number: u64,
+    pub value: u64,
     pub signed: i64,
     pub start: u64,
     pub length: u64,

@@ -29,7 +29,7 @@ pub(crate) fn refused(reason: u64, place: u64) -> Found
         refusal: reason,
         place,
         kind: 0,
-        number: 0,
+        value: 0,
         signed: 0,
         start: 0,
         length: 0,
@@ -119,13 +119,13 @@ fn signed(kind: u64, s: &[u8]) -> i64
 fn contents(kind: u64, start: u64, s: &[u8]) -> Found
     ensures { λ r. ⌜ r ≡ read kind start (now (s .entry)) ⌝ }
 {
-    let number = unsigned(kind, s);
+    let value = unsigned(kind, s);
     let signed = signed(kind, s);
     Found {
         refusal: 0,
         place: 0,
         kind,
-        number,
+        value,
         signed,
         start,
         length: s.len() as u64,

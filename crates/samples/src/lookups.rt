@@ -13,7 +13,7 @@ fn found(m: &[u8], f: Found) {
     sample_lines::text(b"kind ");
     sample_lines::number(f.kind);
     sample_lines::text(b" number ");
-    sample_lines::number(f.number);
+    sample_lines::number(f.value);
     sample_lines::text(b" signed ");
     sample_lines::signed(f.signed);
     sample_lines::text(b" start ");

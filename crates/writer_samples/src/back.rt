@@ -36,7 +36,7 @@ pub fn field(f: Found, m: &[u8]) {
         return;
     }
     if f.kind == 1 {
-        print::named(b"uint ", f.number);
+        print::named(b"uint ", f.value);
         return;
     }
     if f.kind == 2 {

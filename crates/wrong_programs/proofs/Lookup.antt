@@ -18,8 +18,8 @@ use Rattle.wrong_programs.proofs.Witnesses.{uints, ints, asked}
 
 -- What is found of a field whose contents are one octet.
 abbrev found : ℕ → ℕ → ℤ → ℕ → Found
-found kind number signed start =
-    record { refusal = 0; place = 0; kind = kind; number = number; signed = signed; start = start; length = 1 }
+found kind value signed start =
+    record { refusal = 0; place = 0; kind = kind; value = value; signed = signed; start = start; length = 1 }
 
 abbrev looked : CheckInput → ℕ → ℕ → LookupInput
 looked within tag k = record { within = within; tag = tag; k = k }
@@ -112,8 +112,8 @@ refusal f = f .refusal
 abbrev kind : Found → ℕ
 kind f = f .kind
 
-abbrev number : Found → ℕ
-number f = f .number
+abbrev uint-value : Found → ℕ
+uint-value f = f .value
 
 abbrev start : Found → ℕ
 start f = f .start
@@ -215,13 +215,13 @@ pub last-number-ignored : RuledOut (SeesOnly all-but-the-number kind last-accept
 unfolding last last-under-number-1
 last-number-ignored = sees-only all-but-the-number kind last-accepts-it last last-under-number-1 refl refl refl (eqb-false 1 0 refl)
 
--- It gives the same number or the same place each time, or one made from the length of the message.
+-- It gives the same value or the same place each time, or one made from the length of the message.
 abbrev all-but-the-octets : LookupCall → List ℕ × ℕ × ℕ × ℕ × ℕ
 all-but-the-octets x = (x .value .within .table, x .value .within .number, length (x .value .within .message), x .value .tag, x .value .k)
 
-pub number-by-length : RuledOut (SeesOnly all-but-the-octets number accepts-it) lookup
+pub number-by-length : RuledOut (SeesOnly all-but-the-octets uint-value accepts-it) lookup
 unfolding first behind-tag-2
-number-by-length = sees-only all-but-the-octets number accepts-it first behind-tag-2 refl refl refl (eqb-false 42 7 refl)
+number-by-length = sees-only all-but-the-octets uint-value accepts-it first behind-tag-2 refl refl refl (eqb-false 42 7 refl)
 
 pub signed-by-length : RuledOut (SeesOnly all-but-the-octets (λ (f : Found). f .signed) accepts-it) lookup
 unfolding first-int int-behind-tag-2
@@ -231,6 +231,6 @@ pub start-by-length : RuledOut (SeesOnly all-but-the-octets start accepts-it) lo
 unfolding first behind-tag-2
 start-by-length = sees-only all-but-the-octets start accepts-it first behind-tag-2 refl refl refl (eqb-false 1 3 refl)
 
-pub last-number-by-length : RuledOut (SeesOnly all-but-the-octets number last-accepts-it) lookupLast
+pub last-number-by-length : RuledOut (SeesOnly all-but-the-octets uint-value last-accepts-it) lookupLast
 unfolding last last-before-tag-2
-last-number-by-length = sees-only all-but-the-octets number last-accepts-it last last-before-tag-2 refl refl refl (eqb-false 7 42 refl)
+last-number-by-length = sees-only all-but-the-octets uint-value last-accepts-it last last-before-tag-2 refl refl refl (eqb-false 7 42 refl)

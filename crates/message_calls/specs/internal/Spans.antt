@@ -62,4 +62,4 @@ intIn kind s = cond (eqb kind 2) (signed s) (pos 0)
 -- The answer for a field that was found.
 unfoldable pub read : ℕ → ℕ → List ℕ → Found
 read kind start s =
-    record { refusal = 0; place = 0; kind = kind; number = uintIn kind s; signed = intIn kind s; start = start; length = length s }
+    record { refusal = 0; place = 0; kind = kind; value = uintIn kind s; signed = intIn kind s; start = start; length = length s }

@@ -9,7 +9,7 @@ use lib.Seq.{take-length}
 use Rattle.hproto_field.specs.internal.Heads.{headAt}
 use Rattle.hproto_field.specs.declared.Head.the-variants.{Field}
 use Rattle.hproto_field.proofs.Heads.{fieldless}
-use Rattle.message_calls.proofs.LookupLoop.{Onward, onward, Latest, nothing-held, settled, kept, taken}
+use Rattle.message_calls.proofs.LookupLoop.{Onward, onward, Latest, none-yet, settled, kept, replaced}
 use Rattle.message_calls.proofs.outermost.last.Statement.{statement}
 use Rattle.message_calls.proofs.outermost.last.Tie as tie
 
@@ -54,7 +54,7 @@ module _ (c : tie.After-known-told Inv-loop μ-loop) where
   state = c .before .before .before .before .loop .inv
 
 loop-holds : tie.Need-loop-holds Inv-loop μ-loop
-loop-holds c = nothing-held (c .before .args .tag) (now (c .before .args .s))
+loop-holds c = none-yet (c .before .args .tag) (now (c .before .args .s))
 
 head-at-requires : tie.Need-head-at-requires Inv-loop μ-loop
 head-at-requires c κs = search needs
@@ -68,7 +68,7 @@ loop-less c = let h = passed (c .before) in omega arith
 loop-again : tie.Need-loop-again Inv-loop μ-loop
 loop-again c =
     let f = c .before in
-    taken (tag f) (s f) (i f) (f .before .before .before .before .loop .best) (state f) (t f) (start f) (end f) (is f) (c .if1 .taken)
+    replaced (tag f) (s f) (i f) (f .before .before .before .before .loop .best) (state f) (t f) (start f) (end f) (is f) (c .if1 .taken)
 
 loop-less-2 : tie.Need-loop-less-2 Inv-loop μ-loop
 loop-less-2 c = let h = passed (c .before) in omega arith

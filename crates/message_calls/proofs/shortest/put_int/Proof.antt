@@ -5,7 +5,7 @@ use denote.Ref.{now}
 use mir.Syntax.{w64}
 use mir.ValLaws.{toZ-ofZ}
 use Rattle.octets.specs.internal.Least.{intWidthBits}
-use Rattle.message_calls.proofs.FieldStores.{int-held}
+use Rattle.message_calls.proofs.FieldStores.{int-contents}
 use borrow.Author.Needs.{needs}
 use Rattle.message_calls.proofs.shortest.put_int.Statement.{statement}
 use Rattle.message_calls.proofs.shortest.put_int.Tie as tie
@@ -29,7 +29,7 @@ put-least-requires c κs =
     let x = y .before in
     let a = x .before .before .before .before in
     let z = toZ-ofZ w64 (x .int .result) (record { sfits = x .int .ok }) in
-    let o = int-held (now (a .args .s)) (x .int .result) (y .int-least .result) (x .int .ensures) (a .pre .0) (y .int-least .ensures ∙ ap intWidthBits z) in
+    let o = int-contents (now (a .args .s)) (x .int .result) (y .int-least .result) (x .int .ensures) (a .pre .0) (y .int-least .ensures ∙ ap intWidthBits z) in
     rw o (a .pre .1)
 
 same-length : tie.Need-same-length
@@ -41,7 +41,7 @@ returns-2 c =
     let x = y .before in
     let a = x .before .before .before .before in
     let z = toZ-ofZ w64 (x .int .result) (record { sfits = x .int .ok }) in
-    let o = int-held (now (a .args .s)) (x .int .result) (y .int-least .result) (x .int .ensures) (a .pre .0) (y .int-least .ensures ∙ ap intWidthBits z) in
+    let o = int-contents (now (a .args .s)) (x .int .result) (y .int-least .result) (x .int .ensures) (a .pre .0) (y .int-least .ensures ∙ ap intWidthBits z) in
     rw (← o) (c .before .before .put-least .ensures)
 
 pub put-int-spec : {M : Type 1} → statement M

@@ -7,7 +7,7 @@ use mir.Syntax.{w64}
 use mir.ValLaws.{toZ-ofZ}
 use Rattle.octets.specs.internal.Least.{intWidthBits}
 use Rattle.octets.proofs.Number.{length-octetsOf}
-use Rattle.message_calls.proofs.FieldStores.{int-held}
+use Rattle.message_calls.proofs.FieldStores.{int-contents}
 use borrow.Author.Needs.{needs}
 use Rattle.message_calls.proofs.sizes.int_size.Statement.{statement}
 use Rattle.message_calls.proofs.sizes.int_size.Tie as tie
@@ -31,7 +31,7 @@ returns-2 c =
     let x = c .before in
     let a = x .before .before .before in
     let z = toZ-ofZ w64 (x .int .result) (record { sfits = x .int .ok }) in
-    let o = int-held (now (a .args .s)) (x .int .result) (y .int-least .result) (x .int .ensures) (a .pre) (y .int-least .ensures ∙ ap intWidthBits z) in
+    let o = int-contents (now (a .args .s)) (x .int .result) (y .int-least .result) (x .int .ensures) (a .pre) (y .int-least .ensures ∙ ap intWidthBits z) in
     sym (length-octetsOf (y .int-least .result .width) (y .int-least .result .bits)) ∙ ap length o
 
 pub int-size-spec : {M : Type 1} → statement M

@@ -4,7 +4,7 @@ use mathlib.Core.Path.{sym, ap, _∙_}
 use denote.Ref.{now}
 use lib.ListN.{length}
 use Rattle.octets.proofs.Number.{length-octetsOf}
-use Rattle.message_calls.proofs.FieldStores.{uint-held}
+use Rattle.message_calls.proofs.FieldStores.{uint-contents}
 use borrow.Author.Needs.{needs}
 use Rattle.message_calls.proofs.sizes.uint_size.Statement.{statement}
 use Rattle.message_calls.proofs.sizes.uint_size.Tie as tie
@@ -27,7 +27,7 @@ returns-2 c =
     let y = c in
     let x = c .before in
     let a = x .before .before .before in
-    let o = uint-held (now (a .args .s)) (x .uint .result) (y .uint-least .result) (x .uint .ensures) (a .pre) (y .uint-least .ensures) in
+    let o = uint-contents (now (a .args .s)) (x .uint .result) (y .uint-least .result) (x .uint .ensures) (a .pre) (y .uint-least .ensures) in
     sym (length-octetsOf (y .uint-least .result .width) (y .uint-least .result .bits)) ∙ ap length o
 
 pub uint-size-spec : {M : Type 1} → statement M
