@@ -23,6 +23,9 @@ pub struct FrameWritten {
     pub length: u64,
 }
 
+// The longest prefix and the longest message.
+const BUFFER_LIMIT: usize = 65545;
+
 // The answers for a rejected call.
 fn read_refused(reason: u64) -> FrameRead
     ensures { λ r. ⌜ r ≡ readRefused reason ⌝ }
@@ -81,7 +84,7 @@ fn size(x: u8, s: &[u8]) -> u64
 pub fn frame_read(buffer: &[u8]) -> FrameRead
     ensures { λ r. ⌜ r ≡ frameRead (now (buffer .entry)) ⌝ }
 {
-    if 65545 < buffer.len() {
+    if BUFFER_LIMIT < buffer.len() {
         return read_refused(reading::TOO_LONG);
     }
     if buffer.len() == 0 {

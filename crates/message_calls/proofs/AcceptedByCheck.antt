@@ -7,11 +7,12 @@ use mathlib.Core.List.{List}
 use lib.ListN.{length}
 use lib.Dec.{ltb}
 use borrow.Author.Tests.{ltb-false}
+use Rattle.reading.specs.Refusals as refusals
 use Rattle.hproto_table.specs.Schema.{Schema, schema}
 use Rattle.hproto_table.specs.Valid.{valid}
 use Rattle.hproto_table.specs.declared.Table.{Table}
 use Rattle.hproto_message.specs.Cut.{Cut}
-use Rattle.reading.specs.Reading.{Reading, accepted, refused, messageLimit}
+use Rattle.reading.specs.Reading.{Reading, accepted, refused, messageLimit, lastNumber}
 use Rattle.reading.specs.Checks.{refusal, counts}
 use Rattle.reading.specs.declared.Checked.{Checked}
 use Rattle.hproto_message.specs.Reading.{reading}
@@ -19,7 +20,7 @@ use Rattle.hproto_message.proofs.Refusals.{refusal-positive}
 use Rattle.message_calls.specs.Check.{treeCounts, check, checkUnder}
 
 pub under-passed : (sc : Schema) (n : ℕ) (s : List ℕ) → checkUnder sc n s .refusal ≡ 0
-    → (length s ≤ 65536) × ((cut : Cut) × (reading sc n s ≡ accepted cut))
+    → (length s ≤ messageLimit) × ((cut : Cut) × (reading sc n s ≡ accepted cut))
 unfolding checkUnder refusal treeCounts counts reading
 under-passed sc n s e = long (ltb messageLimit (length s)) refl e
   where
@@ -27,31 +28,31 @@ under-passed sc n s e = long (ltb messageLimit (length s)) refl e
     read (accepted cut) f e = (cut, f)
     read (refused reason place) f e = let h = refusal-positive sc 8 n 0 0 s reason place f in absurd (omega arith)
 
-    bad : (b : Bool) → length s ≤ 65536 → cond b (refusal 2 0) (treeCounts sc n (reading sc n s)) .refusal ≡ 0
-        → (length s ≤ 65536) × ((cut : Cut) × (reading sc n s ≡ accepted cut))
+    bad : (b : Bool) → length s ≤ messageLimit → cond b (refusal refusals.table 0) (treeCounts sc n (reading sc n s)) .refusal ≡ 0
+        → (length s ≤ messageLimit) × ((cut : Cut) × (reading sc n s ≡ accepted cut))
     bad true h e = absurd (omega arith)
     bad false h e = (h, read (reading sc n s) refl e)
 
     long : (b : Bool) → ltb messageLimit (length s) ≡ b
-        → cond b (refusal 1 0) (cond (ltb 15 n) (refusal 2 0) (treeCounts sc n (reading sc n s))) .refusal ≡ 0
-        → (length s ≤ 65536) × ((cut : Cut) × (reading sc n s ≡ accepted cut))
+        → cond b (refusal refusals.tooLong 0) (cond (ltb lastNumber n) (refusal refusals.table 0) (treeCounts sc n (reading sc n s))) .refusal ≡ 0
+        → (length s ≤ messageLimit) × ((cut : Cut) × (reading sc n s ≡ accepted cut))
     long true f e = absurd (omega arith)
-    long false f e = bad (ltb 15 n) (ltb-false messageLimit (length s) f) e
+    long false f e = bad (ltb lastNumber n) (ltb-false messageLimit (length s) f) e
 
 -- Where the check under a table accepts, so does that under its schema.
 passed-under : (t : Table) (n : ℕ) (s : List ℕ) → check t n s .refusal ≡ 0 → checkUnder (schema t) n s .refusal ≡ 0
 unfolding check refusal
 passed-under t n s e = long (ltb messageLimit (length s)) e
   where
-    good : (v : Bool) → cond v (checkUnder (schema t) n s) (refusal 2 0) .refusal ≡ 0 → checkUnder (schema t) n s .refusal ≡ 0
+    good : (v : Bool) → cond v (checkUnder (schema t) n s) (refusal refusals.table 0) .refusal ≡ 0 → checkUnder (schema t) n s .refusal ≡ 0
     good true e = e
     good false e = absurd (omega arith)
 
-    long : (b : Bool) → cond b (refusal 1 0) (cond (valid t) (checkUnder (schema t) n s) (refusal 2 0)) .refusal ≡ 0
+    long : (b : Bool) → cond b (refusal refusals.tooLong 0) (cond (valid t) (checkUnder (schema t) n s) (refusal refusals.table 0)) .refusal ≡ 0
         → checkUnder (schema t) n s .refusal ≡ 0
     long true e = absurd (omega arith)
     long false e = good (valid t) e
 
 pub check-passed : (t : Table) (n : ℕ) (s : List ℕ) → check t n s .refusal ≡ 0
-    → (length s ≤ 65536) × ((cut : Cut) × (reading (schema t) n s ≡ accepted cut))
+    → (length s ≤ messageLimit) × ((cut : Cut) × (reading (schema t) n s ≡ accepted cut))
 check-passed t n s e = under-passed (schema t) n s (passed-under t n s e)

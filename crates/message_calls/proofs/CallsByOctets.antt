@@ -6,6 +6,7 @@ use mathlib.Core.Bool.{true}
 use mathlib.Core.List.{List}
 use lib.ListN.{length, replicate}
 use borrow.Author.Tests.{le-ltb, lt-ltb, eq-eqb, ne-eqb}
+use Rattle.reading.specs.Refusals as refusals
 use Rattle.octets.specs.Number.{Octets}
 use Rattle.hproto_table.specs.Schema.{schema}
 use Rattle.hproto_table.specs.Load.{recordAt, wordAt, wellFormed, accepted, refused, load}
@@ -29,11 +30,11 @@ use Rattle.message_calls.specs.internal.LookupUnder.{lookupUnder, lookup
 use Rattle.message_calls.proofs.LookupAnswers.{lookup-under, last-under}
 
 module _ {A : Type 0} (octets s : List ℕ) (under : Table → A) (refuse : ℕ → ℕ → A) where
-  pub message-too-long : 65536 < length s → refuse 1 0 ≡ withTable octets s under refuse
+  pub message-too-long : messageLimit < length s → refuse refusals.tooLong 0 ≡ withTable octets s under refuse
   unfolding withTable
   message-too-long h = rw (lt-ltb messageLimit (length s) h)
 
-  module _ (h : length s ≤ 65536) (l : Loaded) (e : l ≡ load octets) where
+  module _ (h : length s ≤ messageLimit) (l : Loaded) (e : l ≡ load octets) where
     pub table-refused : (l .refusal ≡ 0 → ⊥) → refuse (l .refusal) (l .place) ≡ withTable octets s under refuse
     unfolding withTable
     table-refused ne = rw (le-ltb messageLimit (length s) h, ← e, ne-eqb (l .refusal) 0 ne)
@@ -43,7 +44,7 @@ module _ {A : Type 0} (octets s : List ℕ) (under : Table → A) (refuse : ℕ 
     table-loaded z = rw (le-ltb messageLimit (length s) h, ← e, eq-eqb (l .refusal) 0 z)
 
 -- An index of a table's octets, made in cells that were cleared.
-module _ (octets s : List ℕ) (h : length s ≤ 65536) (n : ℕ)
+module _ (octets s : List ℕ) (h : length s ≤ messageLimit) (n : ℕ)
     (counted : n ≡ prefixEnd (λ i. wellFormed (recordAt octets i)) (wordAt octets) (replicate 128 0) 0 64) where
   -- It has not all records: the loader refuses the one after them.
   pub index-refused : {A : Type 0} (under : Table → A) (refuse : ℕ → ℕ → A) → n * 8 < length octets → refuse 2 (n * 8) ≡ withTable octets s under refuse
@@ -100,7 +101,7 @@ module _ (octets s : List ℕ) (h : length s ≤ 65536) (n : ℕ)
 
 -- Where a table loads and a message is within the limit, the calls that take the table's octets answer as those that take the table: what
 -- demand 3 says of check and shortener holds of them.
-module _ (octets s : List ℕ) (z : load octets .refusal ≡ 0) (h : length s ≤ 65536) (n : ℕ) where
+module _ (octets s : List ℕ) (z : load octets .refusal ≡ 0) (h : length s ≤ messageLimit) (n : ℕ) where
   pub check-as-loaded : checkOctets octets n s ≡ check (load octets .table) n s
   unfolding checkOctets
   check-as-loaded = sym (table-loaded octets s (λ (t : Table). check t n s) answers.refusal h (load octets) refl z)

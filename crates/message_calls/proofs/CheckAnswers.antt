@@ -5,6 +5,7 @@ use mathlib.Core.Bool.{true, false}
 use mathlib.Core.List.{List}
 use lib.ListN.{length}
 use borrow.Author.Tests.{le-ltb, lt-ltb}
+use Rattle.reading.specs.Refusals as refusals
 use Rattle.hproto_table.specs.Entry.{innerOf}
 use Rattle.hproto_table.specs.Schema.{Schema, schema}
 use Rattle.hproto_table.specs.Valid.{valid}
@@ -12,7 +13,7 @@ use Rattle.hproto_table.specs.declared.Table.{Table}
 use Rattle.hproto_message.specs.Cut.{Cut}
 use Rattle.hproto_message.specs.Tree as trees
 use Rattle.hproto_message.specs.Tree.{tree}
-use Rattle.reading.specs.Reading.{Reading, accepted, refused, messageLimit}
+use Rattle.reading.specs.Reading.{Reading, accepted, refused, messageLimit, lastNumber}
 use Rattle.reading.specs.Checks.{refusal, counts}
 use Rattle.reading.specs.internal.Verdicts.{verdictOf, checkedBy}
 use Rattle.reading.specs.declared.Verdict.{Verdict}
@@ -34,37 +35,37 @@ verdict-counts sc n (accepted cut) = rw (tree-fields sc cut n, tree-depth sc cut
 verdict-counts sc n (refused reason place) = refl
 
 module _ (t : Table) (n : ℕ) (s : List ℕ) where
-  pub too-long : 65536 < length s → refusal 1 0 ≡ check t n s
+  pub too-long : messageLimit < length s → refusal refusals.tooLong 0 ≡ check t n s
   unfolding check
   too-long h = rw (lt-ltb messageLimit (length s) h)
 
-  pub bad-table : length s ≤ 65536 → valid t ≡ false → refusal 2 0 ≡ check t n s
+  pub bad-table : length s ≤ messageLimit → valid t ≡ false → refusal refusals.table 0 ≡ check t n s
   unfolding check
   bad-table h v = rw (le-ltb messageLimit (length s) h, v)
 
   -- Under the schema of a table that the loader can return, the check has the same answer as under the table.
-  pub under-valid : length s ≤ 65536 → valid t ≡ true → (sc : Schema) → sc ≡ schema t → checkUnder sc n s ≡ check t n s
+  pub under-valid : length s ≤ messageLimit → valid t ≡ true → (sc : Schema) → sc ≡ schema t → checkUnder sc n s ≡ check t n s
   unfolding check
   under-valid h v sc e = rw (e, le-ltb messageLimit (length s) h, v)
 
 module _ (sc : Schema) (n : ℕ) (s : List ℕ) where
-  pub too-long-under : 65536 < length s → refusal 1 0 ≡ checkUnder sc n s
+  pub too-long-under : messageLimit < length s → refusal refusals.tooLong 0 ≡ checkUnder sc n s
   unfolding checkUnder
   too-long-under h = rw (lt-ltb messageLimit (length s) h)
 
-  pub bad-number : length s ≤ 65536 → 15 < n → refusal 2 0 ≡ checkUnder sc n s
+  pub bad-number : length s ≤ messageLimit → lastNumber < n → refusal refusals.table 0 ≡ checkUnder sc n s
   unfolding checkUnder
-  bad-number h k = rw (le-ltb messageLimit (length s) h, lt-ltb 15 n k)
+  bad-number h k = rw (le-ltb messageLimit (length s) h, lt-ltb lastNumber n k)
 
-  module _ (h : length s ≤ 65536) (k : n ≤ 15) where
+  module _ (h : length s ≤ messageLimit) (k : n ≤ lastNumber) where
     pub read-under : checkUnder sc n s ≡ treeCounts sc n (reading sc n s)
     unfolding checkUnder
-    read-under = rw (le-ltb messageLimit (length s) h, le-ltb 15 n k)
+    read-under = rw (le-ltb messageLimit (length s) h, le-ltb lastNumber n k)
 
     pub by-verdict : (w : Verdict) → w ≡ verdict (messageFrom sc 8 n 0 0 s) → checkedBy w ≡ checkUnder sc n s
     unfolding reading
     by-verdict w e = ap checkedBy e ∙ verdict-counts sc n (messageFrom sc 8 n 0 0 s) ∙ sym read-under
 
-module _ (t : Table) (n : ℕ) (s : List ℕ) (h : length s ≤ 65536) (v : valid t ≡ true) (k : n ≤ 15) where
+module _ (t : Table) (n : ℕ) (s : List ℕ) (h : length s ≤ messageLimit) (v : valid t ≡ true) (k : n ≤ lastNumber) where
   pub read-through : check t n s ≡ treeCounts (schema t) n (reading (schema t) n s)
   read-through = sym (under-valid t n s h v (schema t) refl) ∙ read-under (schema t) n s h k

@@ -5,6 +5,8 @@ use mathlib.Core.Path.{_≡_, refl, sym, ap, _∙_, subst}
 use mathlib.Core.Bool.{Bool, true, false}
 use mathlib.Core.List.{List}
 use lib.ListN.{length}
+use Rattle.reading.specs.Reading.{messageLimit, lastNumber}
+use Rattle.reading.specs.Refusals as refusals
 use Rattle.octets.specs.Number.{Octets}
 use Rattle.hproto_table.specs.Load.{load}
 use Rattle.hproto_table.specs.Schema.{schema}
@@ -21,7 +23,7 @@ use Rattle.message_calls.specs.Demand1.{Demand1, Demand1Holds}
 use Rattle.message_calls.proofs.CallsByOctets.{message-too-long, table-refused, check-as-loaded}
 
 -- Demand 1 of the check that takes a table value, where the loader can give it.
-pub demand-1-under : (t : Table) (n : ℕ) (s : List ℕ) → valid t ≡ true → n ≤ 15 → Octets s → length s ≤ 65536
+pub demand-1-under : (t : Table) (n : ℕ) (s : List ℕ) → valid t ≡ true → n ≤ lastNumber → Octets s → length s ≤ messageLimit
     → Demand1 (schema t) n s (check t n s)
 unfolding treeCounts counts
 demand-1-under t n s v k o h =
@@ -37,10 +39,10 @@ demand-1-under t n s v k o h =
     }
 
 -- A number over 15 is refused with 2, as a table that the loader cannot give is.
-number-refused : (t : Table) (n : ℕ) (s : List ℕ) → length s ≤ 65536 → 15 < n → check t n s ≡ refusal 2 0
+number-refused : (t : Table) (n : ℕ) (s : List ℕ) → length s ≤ messageLimit → lastNumber < n → check t n s ≡ refusal refusals.table 0
 number-refused t n s h k = go (valid t) refl
   where
-    go : (v : Bool) → valid t ≡ v → check t n s ≡ refusal 2 0
+    go : (v : Bool) → valid t ≡ v → check t n s ≡ refusal refusals.table 0
     go true v = sym (checks.bad-number (schema t) n s h k ∙ checks.under-valid t n s h v (schema t) refl)
     go false v = sym (checks.bad-table t n s h v)
 

@@ -13,7 +13,7 @@ use Rattle.hproto_table.specs.Valid.{valid}
 use Rattle.hproto_table.specs.declared.Table.{Table}
 use Rattle.hproto_table.specs.declared.Loaded.{Loaded}
 use Rattle.hproto_table.proofs.LoadResults.{loaded-valid}
-use Rattle.reading.specs.Reading.{messageLimit}
+use Rattle.reading.specs.Reading.{messageLimit, lastNumber}
 use Rattle.reading.specs.Checks as answers
 use Rattle.reading.specs.declared.Checked.{Checked}
 use Rattle.message_calls.specs.Check.{check}
@@ -47,7 +47,7 @@ refused-alike table n s out =
     either-alike (ltb messageLimit (length s)) _ _ _ _ _ _ out (refusal-alike 1 0 out)
     (either-alike (eqb (l .refusal) 0) _ _ _ _ _ _ out (λ ne. refused-alike-under t n s ne out) (refusal-alike (l .refusal) (l .place) out))
 
-within-limits : (table : List ℕ) → Octets table → load table .refusal ≡ 0 → (n : ℕ) → n ≤ 15 → (s : List ℕ) → Octets s → length s ≤ messageLimit
+within-limits : (table : List ℕ) → Octets table → load table .refusal ≡ 0 → (n : ℕ) → n ≤ lastNumber → (s : List ℕ) → Octets s → length s ≤ messageLimit
     → Demand3 (schema (load table .table)) (checkOctets table) (shortenOctets table) (shortenBuffer table) n s
 within-limits table to loaded n k s o h =
     let t = load table .table in

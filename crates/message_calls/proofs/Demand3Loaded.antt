@@ -5,7 +5,8 @@ use mathlib.Core.Path.{_≡_, refl, sym, ap, _∙_, subst}
 use mathlib.Core.Bool.{true}
 use mathlib.Core.List.{List, _++_}
 use lib.ListN.{length, drop}
-use Rattle.reading.specs.Reading.{depthLimit}
+use Rattle.reading.specs.Refusals as refusals
+use Rattle.reading.specs.Reading.{depthLimit, messageLimit, lastNumber}
 use Rattle.reading.specs.internal.Verdicts.{IsAccepted}
 use Rattle.hproto_message.specs.internal.Accepts.{Accepts}
 use Rattle.hproto_message.proofs.Accepted.{accepts-good, accepted-exactly, good-cut-unique}
@@ -39,8 +40,8 @@ refused-alike-under t n s ne out =
     let r = refused-first (check t n s) (shortestByTable t n s) out (check t n s) refl ne in
     (sym (r .result-is), sym (r .buffer-is))
 
-module _ (t : Table) (n : ℕ) (v : valid t ≡ true) (k : n ≤ 15) where
-  cut-accepted : (s : List ℕ) → length s ≤ 65536 → HasCut (schema t) n s → check t n s .refusal ≡ 0
+module _ (t : Table) (n : ℕ) (v : valid t ≡ true) (k : n ≤ lastNumber) where
+  cut-accepted : (s : List ℕ) → length s ≤ messageLimit → HasCut (schema t) n s → check t n s .refusal ≡ 0
   unfolding treeCounts counts
   cut-accepted s h c =
       let e = accepted-exactly (schema t) n s (c .0) .1 (c .1) in
@@ -54,7 +55,7 @@ module _ (t : Table) (n : ℕ) (v : valid t ≡ true) (k : n ≤ 15) where
   short-of : (s : List ℕ) (cut : Cut) → Good (schema t) depthLimit n s cut → shortestByTable t n s ≡ shortest (tree (schema t) n cut)
   short-of s cut g = shortestByTable-is t n s ∙ shortest-is (schema t) depthLimit n s cut g
 
-  module _ (s : List ℕ) (o : Octets s) (h : length s ≤ 65536) (c : HasCut (schema t) n s) where
+  module _ (s : List ℕ) (o : Octets s) (h : length s ≤ messageLimit) (c : HasCut (schema t) n s) where
     passes : check t n s .refusal ≡ 0
     passes = cut-accepted s h c
 
@@ -79,14 +80,14 @@ module _ (t : Table) (n : ℕ) (v : valid t ≡ true) (k : n ≤ 15) where
         (sym (r .result-is), sym (r .buffer-is) ∙ stored-parts out 0 xs (omega arith) ∙ rw z refl)
 
     unwritten : (out : List ℕ) → length out < length (shortestByTable t n s)
-        → (answer t n s out ≡ record { refusal = 9; place = 0; length = 0 }) × (buffer t n s out ≡ out)
+        → (answer t n s out ≡ record { refusal = refusals.noRoom; place = 0; length = 0 }) × (buffer t n s out ≡ out)
     unfolding answer buffer
     unwritten out room =
         let r = no-room (check t n s) (shortestByTable t n s) out passes room in
         (sym (r .result-is), sym (r .buffer-is))
 
   -- Demand 3 of the calls that take a table value, where the loader can give it.
-  pub demand-3-under : (s : List ℕ) → Octets s → length s ≤ 65536 → Demand3 (schema t) (check t) (answer t) (buffer t) n s
+  pub demand-3-under : (s : List ℕ) → Octets s → length s ≤ messageLimit → Demand3 (schema t) (check t) (answer t) (buffer t) n s
   demand-3-under s o h =
       record {
         accepted-exactly-cut = (accepted-cut s, cut-accepted s h);
@@ -98,7 +99,7 @@ module _ (t : Table) (n : ℕ) (v : valid t ≡ true) (k : n ≤ 15) where
       }
 
   -- The short form of a short form is itself.
-  pub shorten-again : (s : List ℕ) → Octets s → length s ≤ 65536 → HasCut (schema t) n s → shortestByTable t n (shortestByTable t n s) ≡ shortestByTable t n s
+  pub shorten-again : (s : List ℕ) → Octets s → length s ≤ messageLimit → HasCut (schema t) n s → shortestByTable t n (shortestByTable t n s) ≡ shortestByTable t n s
   shorten-again s o h c =
       let r = is-short s o h c .reads-the-same in
       short-of (shortestByTable t n s) (r .second) (r .second-good) ∙ ap shortest (r .same-tree) ∙ sym (short-of s (r .first) (r .first-good))

@@ -9,6 +9,7 @@ use lib.ListN.{length, take, drop, length-drop}
 use lib.Seq.{length-take-le}
 use lib.Dec.{eqb}
 use borrow.Author.Tests.{le-leb, eq-eqb, ne-eqb}
+use Rattle.reading.specs.Refusals as refusals
 use Rattle.octets.specs.internal.Bounded.{unsigned, signed}
 use Rattle.hproto_table.specs.Entry.{kindNumber}
 use Rattle.hproto_table.specs.Schema.{Schema, schema}
@@ -19,7 +20,7 @@ use Rattle.hproto_table.specs.declared.Table.{Table}
 use Rattle.hproto_message.specs.Cut.{Cut, Contents, Good}
 use Rattle.hproto_message.specs.Tree.{value}
 use Rattle.hproto_message.specs.Items.{Item, itemTag, withTag, kindOf, itemKind, uintOf, intOf}
-use Rattle.reading.specs.Reading.{accepted}
+use Rattle.reading.specs.Reading.{accepted, messageLimit}
 use Rattle.hproto_message.specs.Reading.{reading}
 use Rattle.hproto_message.proofs.Accepted.{accepted-good}
 use Rattle.message_calls.specs.Check.{check, checkUnder}
@@ -70,7 +71,7 @@ chosen-span t (Nth k) s = refl
 chosen-span t Last s = refl
 
 -- Under the schema of a table that the loader can return, a lookup has the same answer as under the table.
-module _ (t : Table) (sc : Schema) (same : sc ≡ schema t) (n : ℕ) (s : List ℕ) (h : length s ≤ 65536) (v : valid t ≡ true) (tag : ℕ) where
+module _ (t : Table) (sc : Schema) (same : sc ≡ schema t) (n : ℕ) (s : List ℕ) (h : length s ≤ messageLimit) (v : valid t ≡ true) (tag : ℕ) where
   pub answer-under : (which : Occurrence) → lookUnder sc n s tag which ≡ answer t n s tag which
   unfolding lookUnder answer
   answer-under which = rw (under-valid t n s h v sc same, same) refl
@@ -126,11 +127,11 @@ module _ (sc : Schema) (n : ℕ) (s : List ℕ) (tag : ℕ) (which : Occurrence)
     unfolding cut
     answer-is = under-found e (under-passed sc n s e .1 .0) (under-passed sc n s e .1 .1)
 
-    pub absent : (p : OptionalSpan) → p ≡ chosenSpan tag which s → p ≡ Absent → refusal 18 0 ≡ lookUnder sc n s tag which
+    pub absent : (p : OptionalSpan) → p ≡ chosenSpan tag which s → p ≡ Absent → refusal refusals.absent 0 ≡ lookUnder sc n s tag which
     unfolding optionalSpan found
     absent p f a = sym (answer-is ∙ go (wanted cut) (sym (span-is cut is-good) ∙ sym f ∙ a))
       where
-        go : (o : Option ItemSpan) → optionalSpan (Option·map spanOf o) ≡ Absent → found o ≡ refusal 18 0
+        go : (o : Option ItemSpan) → optionalSpan (Option·map spanOf o) ≡ Absent → found o ≡ refusal refusals.absent 0
         go none h = refl
         go (some o) h = let z : _≡_ {A = ℕ} 0 1 = cc in absurd (omega arith)
 

@@ -5,6 +5,7 @@ use mathlib.Core.Path.{_≡_, refl, sym, ap, _∙_, subst}
 use mathlib.Core.List.{List}
 use mathlib.Core.Logic.{_↔_}
 use mathlib.Core.Option.{Option, none, some, Option·map}
+use Rattle.reading.specs.Refusals as refusals
 use Rattle.octets.specs.Number.{Octets}
 use Rattle.hproto_table.specs.Schema.{schema}
 use Rattle.hproto_table.specs.declared.Table.{Table}
@@ -70,7 +71,7 @@ module _ (t : Table) (n : ℕ) (s : List ℕ) (tag : ℕ) (which : Occurrence) w
         go (some i) h = (λ x. let a = h .accepted in absurd (omega arith), λ x. let z : _≡_ {A = ℕ} 0 1 = cc in absurd (omega arith))
 
     -- A tag over 65,535 is in no message of octets.
-    pub large-tag : Octets s → 65535 < tag → answer t n s tag which ≡ refusal 18 0
+    pub large-tag : Octets s → 65535 < tag → answer t n s tag which ≡ refusal refusals.absent 0
     unfolding wanted found
     large-tag o h =
         let k = small-tags (schema t) n cut 0 (g .allowed) (subst Octets (sym (g .divides)) o) in

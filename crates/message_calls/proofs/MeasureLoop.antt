@@ -5,6 +5,7 @@ use mathlib.Core.Path.{_≡_, refl, sym, ap, _∙_, subst}
 use mathlib.Core.List.{List, [], _++_}
 use lib.ListN.{length, drop, length-append}
 use lib.IntN.{ℤ, pos, negsuc}
+use Rattle.reading.specs.Reading.{messageLimit}
 use Rattle.hproto_message.specs.internal.Accepts.{Accepts}
 use Rattle.hproto_message.proofs.Accepted.{accepts-good}
 use Rattle.octets.specs.Number.{Octets, bigEndian}
@@ -37,7 +38,7 @@ signedWidth-bound (pos v) = width-bound (2 * v)
 signedWidth-bound (negsuc k) = width-bound (2 * k + 1)
 
 -- Least contents are few octets where the contents are.
-pub least-few : (k : Meaning) (s : List ℕ) → length s ≤ 65536 → length (leastContents (value k s)) ≤ 65536
+pub least-few : (k : Meaning) (s : List ℕ) → length s ≤ messageLimit → length (leastContents (value k s)) ≤ 65536
 unfolding leastContents value
 least-few Raw s h = h
 least-few Uint s h = let e = length-leastUint (bigEndian s) in let b = width-bound (bigEndian s) in omega arith

@@ -7,6 +7,8 @@ use mathlib.Core.List.{List}
 use lib.ListN.{length}
 use lib.Dec.{eqb}
 use borrow.Author.Tests.{le-leb, lt-leb, eq-eqb, ne-eqb}
+use Rattle.reading.specs.Reading.{messageLimit}
+use Rattle.reading.specs.Refusals as refusals
 use Rattle.hproto_message.specs.internal.Accepts.{Accepts}
 use Rattle.hproto_table.specs.Schema.{Schema, schema}
 use Rattle.hproto_table.specs.Valid.{valid}
@@ -25,7 +27,7 @@ use Rattle.message_calls.specs.declared.Shortened.{Shortened}
 use Rattle.message_calls.proofs.AcceptedByCheck.{under-passed}
 
 -- A message that the check does not refuse is short enough and accepted.
-pub passed-accepts : (sc : Schema) (n : ℕ) (s : List ℕ) → checkUnder sc n s .refusal ≡ 0 → (length s ≤ 65536) × Accepts sc 8 n s
+pub passed-accepts : (sc : Schema) (n : ℕ) (s : List ℕ) → checkUnder sc n s .refusal ≡ 0 → (length s ≤ messageLimit) × Accepts sc 8 n s
 unfolding Accepts IsAccepted reading
 passed-accepts sc n s e = under-passed sc n s e
 
@@ -59,11 +61,11 @@ module _ (c : Checked) (xs out : List ℕ) where
     passed : eqb (c .refusal) 0 ≡ true
     passed = eq-eqb (c .refusal) 0 e
 
-    pub no-room : length out < length xs → Meets c xs out (record { refusal = 9; place = 0; length = 0 }) out
+    pub no-room : length out < length xs → Meets c xs out (record { refusal = refusals.noRoom; place = 0; length = 0 }) out
     unfolding shortenResult refusal roomy
     no-room h =
-        let a : shortenResult c xs out ≡ record { refusal = 9; place = 0; length = 0 } = rw (passed, lt-leb (length xs) (length out) h) in
-        kept (record { refusal = 9; place = 0; length = 0 }) a (λ z. omega arith)
+        let a : shortenResult c xs out ≡ record { refusal = refusals.noRoom; place = 0; length = 0 } = rw (passed, lt-leb (length xs) (length out) h) in
+        kept (record { refusal = refusals.noRoom; place = 0; length = 0 }) a (λ z. omega arith)
 
     pub shortened : (end : ℕ) (after : List ℕ) → length xs ≤ length out → end ≡ 0 + length xs
         → after ≡ stored out 0 xs → Meets c xs out (record { refusal = 0; place = 0; length = end }) after
@@ -74,7 +76,7 @@ module _ (c : Checked) (xs out : List ℕ) where
         record { result-is = sym a; buffer-is = b ∙ stored-fits out 0 xs (omega arith) ∙ rw a }
 
 -- Under the schema of a table that the loader can return, the shortener has the same answer as under the table.
-module _ (t : Table) (sc : Schema) (same : sc ≡ schema t) (n : ℕ) (s out : List ℕ) (h : length s ≤ 65536) (v : valid t ≡ true) where
+module _ (t : Table) (sc : Schema) (same : sc ≡ schema t) (n : ℕ) (s out : List ℕ) (h : length s ≤ messageLimit) (v : valid t ≡ true) where
   pub answer-under : shortenUnder sc n s out ≡ answer t n s out
   unfolding shortenUnder answer shortestByTable
   answer-under = rw (under-valid t n s h v sc same, same) refl

@@ -3,7 +3,7 @@ use hproto_field::Head;
 ghost use mathlib.Core.Path.{_≡_};
 ghost use Prim.Native.Nat.{_≤_};
 ghost use lib.ListN.{length};
-ghost use Rattle.reading.specs.Reading.{messageLimit};
+ghost use Rattle.reading.specs.Reading.{messageLimit, depthLimit};
 ghost use Rattle.octets.specs.Number.{Octets, bigEndian as number-of, leastUint};
 ghost use Rattle.octets.specs.Signed.{integer, leastInt};
 ghost use Rattle.table_index.specs.internal.Cells.{meaningOf, indexed};
@@ -96,8 +96,8 @@ fn measure(cells: &[u32; 128], number: u64, levels: u64, s: &[u8]) -> usize
 pub(crate) fn has_room(cells: &[u32; 128], number: u64, message: &[u8], len: usize) -> bool
     requires { ⌜ length (now message) ≤ messageLimit ⌝ }
     requires { ⌜ Octets (now message) ⌝ }
-    requires { ⌜ Accepts (indexed (now cells)) 8 number (now message) ⌝ }
-    ensures { λ r. ⌜ r ≡ leb (length (shortestWithin (indexed (now (cells .entry))) 8 number (now (message .entry)))) len ⌝ }
+    requires { ⌜ Accepts (indexed (now cells)) depthLimit number (now message) ⌝ }
+    ensures { λ r. ⌜ r ≡ leb (length (shortestWithin (indexed (now (cells .entry))) depthLimit number (now (message .entry)))) len ⌝ }
 {
     if message.len() <= len {
         return true;

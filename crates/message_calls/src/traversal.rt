@@ -5,7 +5,7 @@ use reading::Verdict;
 ghost use mathlib.Core.Path.{_≡_};
 ghost use Prim.Native.Nat.{_+_, _≤_};
 ghost use lib.ListN.{length};
-ghost use Rattle.reading.specs.Reading.{messageLimit};
+ghost use Rattle.reading.specs.Reading.{messageLimit, depthLimit};
 ghost use Rattle.table_index.specs.internal.Cells.{indexed};
 ghost use Rattle.hproto_message.specs.Reading.{messageFrom};
 ghost use Rattle.message_calls.specs.Check.{checkUnder};
@@ -15,7 +15,7 @@ ghost use Rattle.message_calls.specs.internal.Verdicts.{verdict as verdi
 // count of its fields and its depth. `levels` is how many messages deep it may be, itself counted; a nested message has one less.
 fn traverse(cells: &[u32; 128], n: u64, levels: u64, from: u64, at: u64, s: &[u8]) -> Verdict
     requires { ⌜ at + length (now s) ≤ messageLimit ⌝ }
-    requires { ⌜ levels ≤ 8 ⌝ }
+    requires { ⌜ levels ≤ depthLimit ⌝ }
     ensures { λ r. ⌜ r ≡ verdict-of (messageFrom (indexed (now (cells .entry))) levels n from at (now (s .entry))) ⌝ }
 {
     if levels == 0 {

@@ -1,11 +1,11 @@
 -- The refusals of document 01 by number. Definitions cite them by these names.
 use Prim.Native.Nat.{ℕ}
 
--- A message or a buffer over the length limit, or announced by a frame.
+-- A message or a buffer over the length limit, or a frame that announces such a message.
 abbrev pub tooLong : ℕ
 tooLong = 1
 
--- A faulty field table, or a message number over 15.
+-- A faulty field table, or a message number over the last.
 abbrev pub table : ℕ
 table = 2
 
@@ -13,11 +13,11 @@ table = 2
 abbrev pub cut : ℕ
 cut = 3
 
--- Contents past the end of the message around them.
+-- Contents that would end after the message around them.
 abbrev pub pastTheEnd : ℕ
 pastTheEnd = 4
 
--- A ninth message, one inside the other.
+-- Messages nested nine deep.
 abbrev pub tooDeep : ℕ
 tooDeep = 5
 
@@ -29,7 +29,7 @@ numberTooWide = 6
 abbrev pub text : ℕ
 text = 7
 
--- A tag that the table does not have there, or of another kind.
+-- A field to write whose tag the table does not have in that message, or has with another kind.
 abbrev pub tagOrKind : ℕ
 tagOrKind = 8
 

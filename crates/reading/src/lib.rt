@@ -11,21 +11,21 @@ pub const DEPTH_LIMIT: u64 = 8;
 pub const LAST_NUMBER: u64 = 15;
 
 // The refusals of document 01.
-// A message or a buffer over the length limit, or announced by a frame.
+// A message or a buffer over the length limit, or a frame that announces such a message.
 pub const TOO_LONG: u64 = 1;
-// A faulty field table, or a message number over 15.
+// A faulty field table, or a message number over the last.
 pub const TABLE: u64 = 2;
 // Octets that end inside a control part, header, name, size or hint.
 pub const CUT: u64 = 3;
-// Contents past the end of the message around them.
+// Contents that would end after the message around them.
 pub const PAST_THE_END: u64 = 4;
-// A ninth message, one inside the other.
+// Messages nested nine deep.
 pub const TOO_DEEP: u64 = 5;
 // A number of more than eight octets.
 pub const NUMBER_TOO_WIDE: u64 = 6;
 // Contents that are not text.
 pub const TEXT: u64 = 7;
-// A tag that the table does not have there, or of another kind.
+// A field to write whose tag the table does not have in that message, or has with another kind.
 pub const TAG_OR_KIND: u64 = 8;
 // More octets to write than are free.
 pub const NO_ROOM: u64 = 9;
