@@ -93,7 +93,7 @@ pub extern "C" fn crudvim_lookup(
     start: &mut u64,
     len: &mut u64,
 ) -> u64
-    ensures { λ r. ⌜ lookupOctets (now (table .entry)) number (now (message .entry)) tag k ≡ record { refusal = r; place = now (place .exit); kind = now (kind .exit); number = now (value .exit); signed = now («signed_value» .exit); start = now (start .exit); length = now (len .exit) } ⌝ }
+    ensures { λ r. ⌜ lookupOctets (now (table .entry)) number (now (message .entry)) tag k ≡ record { refusal = r; place = now (place .exit); kind = now (kind .exit); value = now (value .exit); signed = now («signed_value» .exit); start = now (start .exit); length = now (len .exit) } ⌝ }
 {
     let found = message_calls::lookup(table, number, message, tag, k);
     *place = found.place;
@@ -119,7 +119,7 @@ pub extern "C" fn crudvim_lookup_last(
     start: &mut u64,
     len: &mut u64,
 ) -> u64
-    ensures { λ r. ⌜ lookupLastOctets (now (table .entry)) number (now (message .entry)) tag ≡ record { refusal = r; place = now (place .exit); kind = now (kind .exit); number = now (value .exit); signed = now («signed_value» .exit); start = now (start .exit); length = now (len .exit) } ⌝ }
+    ensures { λ r. ⌜ lookupLastOctets (now (table .entry)) number (now (message .entry)) tag ≡ record { refusal = r; place = now (place .exit); kind = now (kind .exit); value = now (value .exit); signed = now («signed_value» .exit); start = now (start .exit); length = now (len .exit) } ⌝ }
 {
     let last = message_calls::lookup_last(table, number, message, tag);
     *place = last.place;
