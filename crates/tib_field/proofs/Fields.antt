@@ -62,8 +62,8 @@ module _ {A : Type 0} (octets : A → List ℕ) where
   none-remaining (f ∷ fs) (suc k) at h = none-remaining fs k (at + length (octets f)) (omega arith)
 
   -- Past a field that is not looked for.
-  pub kth-next : (left i : ℕ) (f : A) (gs : List A) → (left ≡ 0 → ⊥)
-      → getElem? (placed octets i (f ∷ gs)) left ≡ getElem? (placed octets (i + length (octets f)) gs) (left - 1)
+  pub kth-next : (remaining i : ℕ) (f : A) (gs : List A) → (remaining ≡ 0 → ⊥)
+      → getElem? (placed octets i (f ∷ gs)) remaining ≡ getElem? (placed octets (i + length (octets f)) gs) (remaining - 1)
   unfolding placed
   kth-next zero i f gs h = absurd (h refl)
-  kth-next (suc left) i f gs h = let k : suc left - 1 ≡ left = omega arith in rw k
+  kth-next (suc remaining) i f gs h = let k : suc remaining - 1 ≡ remaining = omega arith in rw k

@@ -5,6 +5,7 @@ use mathlib.Core.Bool.{Bool, true, false, cond}
 use mathlib.Core.List.{List, [], _∷_, _++_}
 use lib.ListN.{length, take, drop}
 use lib.Dec.{eqb, ltb}
+use Rattle.reading.specs.Refusals as refusals
 use Rattle.tib_field.specs.declared.Front.{Front}
 use Rattle.tib_field.specs.declared.Front.the-variants.{End, Fault, Name as Sized}
 
@@ -31,7 +32,7 @@ named (x ∷ s) = closes (x ∷ s)
 -- The size of a name and the name at the front of octets: a missing octet is refused before a bad one.
 unfoldable pub nameFront : List ℕ → Front
 nameFront [] = End
-nameFront (n ∷ s) = cond (ltb (length s) n) (Fault 3) (cond (named (take n s)) (Sized n) (Fault 15))
+nameFront (n ∷ s) = cond (ltb (length s) n) (Fault refusals.cut) (cond (named (take n s)) (Sized n) (Fault refusals.name))
 
 -- What stands at the front of octets, where `after` says what follows a name of this many octets.
 unfoldable pub afterName : {A : Type 0} → A → (ℕ → A) → (ℕ → List ℕ → A) → List ℕ → Front → A

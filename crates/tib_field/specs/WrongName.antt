@@ -2,11 +2,12 @@
 use Prim.Native.Nat.{ℕ, _<_}
 use mathlib.Core.List.{List, _∷_, _++_}
 use lib.ListN.{length}
+use Rattle.reading.specs.Refusals as refusals
 use Rattle.tib_field.specs.Name.{Name}
 
 -- The number of the refusal, and the octets from the size of the name on to the end of the message: the name ends too early; it is no name; or
 -- what follows it is wrong.
 pub data WrongNamed (After : ℕ → List ℕ → Type 0) : ℕ → List ℕ → Type 0 where
-  nameCut : (n : ℕ) (s : List ℕ) → length s < n → WrongNamed After 3 (n ∷ s)
-  nameBad : (name s : List ℕ) → (Name name → ⊥) → WrongNamed After 15 (length name ∷ (name ++ s))
+  nameCut : (n : ℕ) (s : List ℕ) → length s < n → WrongNamed After refusals.cut (n ∷ s)
+  nameBad : (name s : List ℕ) → (Name name → ⊥) → WrongNamed After refusals.name (length name ∷ (name ++ s))
   named : (k : ℕ) (name s : List ℕ) → Name name → After k s → WrongNamed After k (length name ∷ (name ++ s))

@@ -201,13 +201,13 @@ pub fn name_fault(s: &[u8]) -> u64
     }
     let n = numbers::wide(s[0]) as usize;
     if s.len() - 1 < n {
-        return 3;
+        return reading::CUT;
     }
     if s[n] != 0 {
-        return 15;
+        return reading::NAME;
     }
     if zero_inside(&s[0..], s[0]) {
-        return 15;
+        return reading::NAME;
     }
     0
 }

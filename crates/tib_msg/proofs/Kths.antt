@@ -30,9 +30,9 @@ use Rattle.tib_msg_field.proofs.Accepted.{accepted-tested}
 abbrev wanted : List ℕ → ℕ → Option (ℕ × Parts)
 wanted s k = kthOf places k (reading s)
 
--- The fields that are left begin at i, and the `left`-th of them is the one that is looked for.
+-- The fields that remain begin at i, and the `remaining`-th of them is the one that the caller looks for.
 abbrev pub Going : List ℕ → ℕ → ℕ → ℕ → Type 0
-Going s k i left = Passing octets Allowed s (wanted s k) i left
+Going s k i remaining = Passing octets Allowed s (wanted s k) i remaining
 
 pub start : (s : List ℕ) (k : ℕ) → IsAccepted (reading s) → Going s k 9 k
 unfolding IsAccepted kthOf places
@@ -44,16 +44,16 @@ pub measured : (f : Parts) → (1 ≤ total (sizes f)) × (length (octets f) ≡
 unfolding total
 measured f = (omega arith, length-octets f)
 
-module _ (s : List ℕ) (k i left : ℕ) (now : Going s k i left) where
+module _ (s : List ℕ) (k i remaining : ℕ) (now : Going s k i remaining) where
   -- A step that finds no field.
   pub ended : (q : Step) → nextField (drop i s) ≡ q → ((z : Sizes) → q ≡ Over z → ⊥) → Absent ≡ foundAt (wanted s k)
   ended q e other =
-      none-here octets Allowed sizes total At Absent measured s (wanted s k) i left now
+      none-here octets Allowed sizes total At Absent measured s (wanted s k) i remaining now
       (λ f rest a d. other (sizes f) (sym e ∙ ap nextField d ∙ step-of-field f rest a))
 
-  pub one-more : (z : Sizes) → nextField (drop i s) ≡ Over z → OneMore octets Allowed sizes total At Absent measured s (wanted s k) i left now z
+  pub one-more : (z : Sizes) → nextField (drop i s) ≡ Over z → OneMore octets Allowed sizes total At Absent measured s (wanted s k) i remaining now z
   one-more z e =
-      one-here octets Allowed sizes total At Absent measured s (wanted s k) i left now z
+      one-here octets Allowed sizes total At Absent measured s (wanted s k) i remaining now z
       (λ d. let n = ap nextField d ∙ step-of-end in let y : _≡_ {A = ℕ} 0 1 = cc in absurd (omega arith))
       (λ f rest a d. let n = ap nextField d ∙ step-of-field f rest a in cc)
 

@@ -47,28 +47,28 @@ fn traverse(s: &[u8]) -> Verdict
     }
 }
 
-fn refuse(number: u64) -> Verdict
-    ensures { λ r. ⌜ r ≡ Verdict.Refused number 0 ⌝ }
+fn refuse(refusal: u64) -> Verdict
+    ensures { λ r. ⌜ r ≡ Verdict.Refused refusal 0 ⌝ }
 {
-    Verdict::Refused(number, 0)
+    Verdict::Refused(refusal, 0)
 }
 
 fn read(message: &[u8]) -> Verdict
     ensures { λ r. ⌜ r ≡ verdictOf length depth (reading (now (message .entry))) ⌝ }
 {
     let n = message.len();
-    if 65536 < n {
-        return refuse(1);
+    if reading::MESSAGE_LIMIT < n {
+        return refuse(reading::TOO_LONG);
     }
     if n < 9 {
-        return refuse(3);
+        return refuse(reading::CUT);
     }
     if !tib_field::begins(message, b"\xce\x13\xaa\x1f\x01") {
-        return refuse(13);
+        return refuse(reading::MAGIC);
     }
     let size = tib_field::number(&message[5..9]);
     if size != (n - 9) as u64 {
-        return refuse(14);
+        return refuse(reading::SIZE);
     }
     traverse(message)
 }
@@ -86,17 +86,17 @@ fn find(s: &[u8], k: u64) -> Kth
     ensures { λ r. ⌜ r ≡ foundAt (kthOf places k (reading (now (s .entry)))) ⌝ }
 {
     let mut i: usize = 9;
-    let mut left = k;
+    let mut remaining = k;
     loop {
         match tib_msg_field::next_field(&s[i..]) {
             Step::Done => return Kth::Absent,
             Step::Fault(_) => return Kth::Absent,
             Step::Over(z) => {
-                if left == 0 {
+                if remaining == 0 {
                     return Kth::At { place: i, sizes: z };
                 }
                 i = past(i, z);
-                left -= 1;
+                remaining -= 1;
             }
         }
     }
@@ -169,10 +169,10 @@ pub fn field(message: &[u8], k: u64) -> Field
     ensures { λ r. ⌜ r ≡ field-of (now (message .entry)) k ⌝ }
 {
     match read(message) {
-        Verdict::Refused(number, place) => tib_field::refused_field(number, place),
+        Verdict::Refused(refusal, place) => tib_field::refused_field(refusal, place),
         Verdict::Accepted(_, _) => match find(message, k) {
             Kth::At { place, sizes } => shown(message, place, sizes),
-            Kth::Absent => tib_field::refused_field(18, 0),
+            Kth::Absent => tib_field::refused_field(reading::ABSENT, 0),
         },
     }
 }

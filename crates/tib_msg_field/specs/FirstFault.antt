@@ -8,6 +8,7 @@ use lib.ListN.{length}
 use lib.Dec.{T}
 use Rattle.octets.specs.Number.{bigEndian}
 use Rattle.reading.specs.Reading.{messageLimit}
+use Rattle.reading.specs.Refusals as refusals
 use Rattle.tib_field.specs.WrongName.{WrongNamed}
 use Rattle.tib_field.specs.Fields.{Each, joined}
 use Rattle.tib_msg_field.specs.Layout.{kind, hinted, sizeWidth, sizeAllowed, Hint, Parts, octets, Allowed, magic}
@@ -23,25 +24,25 @@ pub record TypeOctet (c : ℕ) : Type 0 where
 
 -- A hint after data of a size: its first two octets are not both there, no hint begins with them, or its value ends too early.
 pub data WrongHint (kind size : ℕ) : ℕ → List ℕ → Type 0 where
-  cut : (s : List ℕ) → length s < 2 → WrongHint kind size 3 s
-  bad : (t n : ℕ) (s : List ℕ) → ((more : List ℕ) → Hint kind size true (t ∷ n ∷ more) → ⊥) → WrongHint kind size 16 (t ∷ n ∷ s)
-  valueCut : (t n : ℕ) (s missing : List ℕ) → 1 ≤ length missing → Hint kind size true (t ∷ n ∷ (s ++ missing)) → WrongHint kind size 3 (t ∷ n ∷ s)
+  cut : (s : List ℕ) → length s < 2 → WrongHint kind size refusals.cut s
+  bad : (t n : ℕ) (s : List ℕ) → ((more : List ℕ) → Hint kind size true (t ∷ n ∷ more) → ⊥) → WrongHint kind size refusals.typeSizeOrHint (t ∷ n ∷ s)
+  valueCut : (t n : ℕ) (s missing : List ℕ) → 1 ≤ length missing → Hint kind size true (t ∷ n ∷ (s ++ missing)) → WrongHint kind size refusals.cut (t ∷ n ∷ s)
 
 -- The data, which are announced to be `size` octets: they end too early, or the hint after them is wrong.
 pub data WrongData (octet size : ℕ) : ℕ → List ℕ → Type 0 where
-  cut : (s : List ℕ) → length s < size → WrongData octet size 4 s
-  hint : (number : ℕ) (contents s : List ℕ) → length contents ≡ size → hinted octet ≡ true → WrongHint (kind octet) size number s
-      → WrongData octet size number (contents ++ s)
+  cut : (s : List ℕ) → length s < size → WrongData octet size refusals.pastTheEnd s
+  hint : (k : ℕ) (contents s : List ℕ) → length contents ≡ size → hinted octet ≡ true → WrongHint (kind octet) size k s
+      → WrongData octet size k (contents ++ s)
 
 pub data WrongSize (octet : ℕ) : ℕ → List ℕ → Type 0 where
-  cut : (s : List ℕ) → length s < sizeWidth octet → WrongSize octet 3 s
-  bad : (size s : List ℕ) → length size ≡ sizeWidth octet → (T (sizeAllowed (kind octet) (bigEndian size)) → ⊥) → WrongSize octet 16 (size ++ s)
+  cut : (s : List ℕ) → length s < sizeWidth octet → WrongSize octet refusals.cut s
+  bad : (size s : List ℕ) → length size ≡ sizeWidth octet → (T (sizeAllowed (kind octet) (bigEndian size)) → ⊥) → WrongSize octet refusals.typeSizeOrHint (size ++ s)
   later : (k : ℕ) (size s : List ℕ) → length size ≡ sizeWidth octet → T (sizeAllowed (kind octet) (bigEndian size))
       → WrongData octet (bigEndian size) k s → WrongSize octet k (size ++ s)
 
 pub data WrongType : ℕ → List ℕ → Type 0 where
-  missing : WrongType 3 []
-  bad : (octet : ℕ) (s : List ℕ) → (TypeOctet octet → ⊥) → WrongType 16 (octet ∷ s)
+  missing : WrongType refusals.cut []
+  bad : (octet : ℕ) (s : List ℕ) → (TypeOctet octet → ⊥) → WrongType refusals.typeSizeOrHint (octet ∷ s)
   later : (k octet : ℕ) (s : List ℕ) → TypeOctet octet → WrongSize octet k s → WrongType k (octet ∷ s)
 
 -- A field, which begins with the size of its name.
@@ -50,12 +51,12 @@ WrongField k s = WrongNamed WrongType k s
 
 -- The first fault of octets, by its number and its place: of the header, at 0; or of the field after fields that the layout allows.
 pub data FirstFault (s : List ℕ) : ℕ → ℕ → Type 0 where
-  tooLong : messageLimit < length s → FirstFault s 1 0
-  headerCut : length s < 9 → FirstFault s 3 0
+  tooLong : messageLimit < length s → FirstFault s refusals.tooLong 0
+  headerCut : length s < 9 → FirstFault s refusals.cut 0
   otherMark : length s ≤ messageLimit → (mark rest : List ℕ) → s ≡ mark ++ rest → length mark ≡ 5 → 4 ≤ length rest → (mark ≡ magic → ⊥)
-      → FirstFault s 13 0
+      → FirstFault s refusals.magic 0
   otherSize : length s ≤ messageLimit → (size rest : List ℕ) → s ≡ magic ++ (size ++ rest) → length size ≡ 4
-      → (bigEndian size ≡ length rest → ⊥) → FirstFault s 14 0
+      → (bigEndian size ≡ length rest → ⊥) → FirstFault s refusals.size 0
   field : length s ≤ messageLimit → (k : ℕ) (size : List ℕ) (fs : List Parts) (rest : List ℕ) → s ≡ magic ++ (size ++ (joined octets fs ++ rest))
       → length size ≡ 4 → bigEndian size ≡ length (joined octets fs ++ rest) → Each Allowed fs → WrongField k rest
       → FirstFault s k (9 + length (joined octets fs))

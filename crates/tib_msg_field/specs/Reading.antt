@@ -7,6 +7,7 @@ use lib.ListN.{length, take, drop}
 use lib.Dec.{eqb, leb, ltb}
 use Rattle.octets.specs.Number.{bigEndian}
 use Rattle.reading.specs.Reading.{Reading, accepted, refused, onAccepted, messageLimit}
+use Rattle.reading.specs.Refusals as refusals
 use Rattle.tib_field.specs.Mark.{begins}
 use Rattle.tib_field.specs.Name.{nameFront, afterName}
 use Rattle.tib_msg_field.specs.declared.Sizes.{Sizes}
@@ -22,20 +23,20 @@ typeAllowed c = eqb (c / 16 % 4) 0 && (leb (kind c) 10 && (hinted c || not (eqb 
 
 -- The hint of an array of this many octets, by its first two octets, the elements' type and size.
 unfoldable pub arrayHint : ℕ → ℕ → ℕ → HintPart
-arrayHint size t n = cond ((leb 4 t && leb t 7) && (isWidth n && eqb (size % n) 0)) (Size 2) (HintFault 16)
+arrayHint size t n = cond ((leb 4 t && leb t 7) && (isWidth n && eqb (size % n) 0)) (Size 2) (HintFault refusals.typeSizeOrHint)
 
 -- The hint of a partial, by its first octet.
 unfoldable pub partialHint : ℕ → HintPart
-partialHint t = cond (eqb t 6) (Size 2) (HintFault 16)
+partialHint t = cond (eqb t 6) (Size 2) (HintFault refusals.typeSizeOrHint)
 
 -- Any other hint, by its first two octets, its type and size, and how many octets follow these.
 unfoldable pub valueHint : ℕ → ℕ → ℕ → HintPart
-valueHint t n left = cond ((leb 5 t && leb t 6) && isWidth n) (cond (ltb left n) (HintFault 3) (Size (2 + n))) (HintFault 16)
+valueHint t n remaining = cond ((leb 5 t && leb t 6) && isWidth n) (cond (ltb remaining n) (HintFault refusals.cut) (Size (2 + n))) (HintFault refusals.typeSizeOrHint)
 
 -- The hint at the front of octets, by the field's type and the size of its data.
 unfoldable pub hintFront : ℕ → ℕ → List ℕ → HintPart
-hintFront kind size [] = HintFault 3
-hintFront kind size (t ∷ []) = HintFault 3
+hintFront kind size [] = HintFault refusals.cut
+hintFront kind size (t ∷ []) = HintFault refusals.cut
 hintFront kind size (t ∷ n ∷ s) =
     cond (eqb kind 8) (arrayHint size t n) (cond (eqb kind 9) (partialHint t) (valueHint t n (length s)))
 
@@ -50,18 +51,18 @@ withHint n c w l (Size h) = Over (record { name = n; octet = c; width = w; conte
 
 -- The field from its data on, which are announced to be l octets.
 unfoldable pub fromData : ℕ → ℕ → ℕ → ℕ → List ℕ → Step
-fromData n c w l s = cond (ltb (length s) l) (Fault 4) (withHint n c w l (hintAt c l (drop l s)))
+fromData n c w l s = cond (ltb (length s) l) (Fault refusals.pastTheEnd) (withHint n c w l (hintAt c l (drop l s)))
 
 -- The field from its size on, which takes w octets.
 unfoldable pub fromSize : ℕ → ℕ → ℕ → List ℕ → Step
 fromSize n c w s =
-    cond (ltb (length s) w) (Fault 3)
-    (cond (sizeAllowed (kind c) (bigEndian (take w s))) (fromData n c w (bigEndian (take w s)) (drop w s)) (Fault 16))
+    cond (ltb (length s) w) (Fault refusals.cut)
+    (cond (sizeAllowed (kind c) (bigEndian (take w s))) (fromData n c w (bigEndian (take w s)) (drop w s)) (Fault refusals.typeSizeOrHint))
 
 -- The field from its type on, after a name of n octets.
 unfoldable pub fromType : ℕ → List ℕ → Step
-fromType n [] = Fault 3
-fromType n (c ∷ s) = cond (typeAllowed c) (fromSize n c (sizeWidth c) s) (Fault 16)
+fromType n [] = Fault refusals.cut
+fromType n (c ∷ s) = cond (typeAllowed c) (fromSize n c (sizeWidth c) s) (Fault refusals.typeSizeOrHint)
 
 -- What stands at the front of octets: their end, a fault, or a field.
 unfoldable pub nextField : List ℕ → Step
@@ -88,19 +89,19 @@ partsAt s z =
 -- What a step at the front of octets, at a place, comes to, where `next` reads the fields that follow.
 unfoldable pub afterStep : (ℕ → List ℕ → Reading (List Parts)) → ℕ → List ℕ → Step → Reading (List Parts)
 afterStep next at s Done = accepted []
-afterStep next at s (Fault number) = refused number at
+afterStep next at s (Fault refusal) = refused refusal at
 afterStep next at s (Over z) = onAccepted (λ (fs : List Parts). partsAt s z ∷ fs) (next (at + total z) (drop (total z) s))
 
 -- The fields from a place on. `fuel` bounds the fields that are still looked at.
 unfoldable pub fieldsFrom : ℕ → ℕ → List ℕ → Reading (List Parts)
-fieldsFrom zero at s = refused 3 at
+fieldsFrom zero at s = refused refusals.cut at
 fieldsFrom (suc fuel) at s = afterStep (fieldsFrom fuel) at s (nextField s)
 
 -- The whole message. A field takes an octet or more, so one look more than there are octets is enough.
 unfoldable pub reading : List ℕ → Reading (List Parts)
 reading s =
-    cond (ltb messageLimit (length s)) (refused 1 0)
-    (cond (ltb (length s) 9) (refused 3 0)
-    (cond (not (begins magic s)) (refused 13 0)
-    (cond (not (eqb (bigEndian (take 4 (drop 5 s))) (length s - 9))) (refused 14 0)
+    cond (ltb messageLimit (length s)) (refused refusals.tooLong 0)
+    (cond (ltb (length s) 9) (refused refusals.cut 0)
+    (cond (not (begins magic s)) (refused refusals.magic 0)
+    (cond (not (eqb (bigEndian (take 4 (drop 5 s))) (length s - 9))) (refused refusals.size 0)
     (fieldsFrom (suc (length s)) 9 (drop 9 s)))))

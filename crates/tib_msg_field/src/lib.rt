@@ -109,16 +109,16 @@ fn array_hint(size: u64, t: u64, n: u64) -> HintPart
     ensures { λ r. ⌜ r ≡ arrayHint size t n ⌝ }
 {
     if t < 4 {
-        return HintPart::Fault(16);
+        return HintPart::Fault(reading::TYPE_SIZE_OR_HINT);
     }
     if 7 < t {
-        return HintPart::Fault(16);
+        return HintPart::Fault(reading::TYPE_SIZE_OR_HINT);
     }
     if !is_width(n) {
-        return HintPart::Fault(16);
+        return HintPart::Fault(reading::TYPE_SIZE_OR_HINT);
     }
     if size % n != 0 {
-        return HintPart::Fault(16);
+        return HintPart::Fault(reading::TYPE_SIZE_OR_HINT);
     }
     HintPart::Size(2)
 }
@@ -129,25 +129,25 @@ fn partial_hint(t: u64) -> HintPart
     if t == 6 {
         HintPart::Size(2)
     } else {
-        HintPart::Fault(16)
+        HintPart::Fault(reading::TYPE_SIZE_OR_HINT)
     }
 }
 
 // The octets of the value are counted only once the two before them are good.
-fn value_hint(t: u64, n: u64, left: usize) -> HintPart
-    ensures { λ r. ⌜ r ≡ valueHint t n left ⌝ }
+fn value_hint(t: u64, n: u64, remaining: usize) -> HintPart
+    ensures { λ r. ⌜ r ≡ valueHint t n remaining ⌝ }
 {
     if t < 5 {
-        return HintPart::Fault(16);
+        return HintPart::Fault(reading::TYPE_SIZE_OR_HINT);
     }
     if 6 < t {
-        return HintPart::Fault(16);
+        return HintPart::Fault(reading::TYPE_SIZE_OR_HINT);
     }
     if !is_width(n) {
-        return HintPart::Fault(16);
+        return HintPart::Fault(reading::TYPE_SIZE_OR_HINT);
     }
-    if (left as u64) < n {
-        return HintPart::Fault(3);
+    if (remaining as u64) < n {
+        return HintPart::Fault(reading::CUT);
     }
     HintPart::Size(2 + (n as usize))
 }
@@ -157,7 +157,7 @@ fn hint_front(k: u64, size: u64, s: &[u8]) -> HintPart
     ensures { λ r. ⌜ r ≡ hintFront k size (now (s .entry)) ⌝ }
 {
     if s.len() < 2 {
-        return HintPart::Fault(3);
+        return HintPart::Fault(reading::CUT);
     }
     let t = numbers::wide(s[0]);
     let n = numbers::wide(s[1]);
@@ -185,7 +185,7 @@ fn from_data(n: usize, c: u8, w: usize, l: u64, s: &[u8]) -> Step
     ensures { λ r. ⌜ r ≡ fromData n c w l (now (s .entry)) ⌝ }
 {
     if (s.len() as u64) < l {
-        return Step::Fault(4);
+        return Step::Fault(reading::PAST_THE_END);
     }
     let d = l as usize;
     match hint_at(c, l, &s[d..]) {
@@ -206,13 +206,13 @@ fn from_size(n: usize, c: u8, s: &[u8]) -> Step
 {
     let w = size_width(c);
     if s.len() < w {
-        return Step::Fault(3);
+        return Step::Fault(reading::CUT);
     }
     let l = tib_field::number(&s[0..w]);
     if size_allowed(kind(c), l) {
         from_data(n, c, w, l, &s[w..])
     } else {
-        Step::Fault(16)
+        Step::Fault(reading::TYPE_SIZE_OR_HINT)
     }
 }
 
@@ -221,13 +221,13 @@ fn from_type(n: usize, s: &[u8]) -> Step
     ensures { λ r. ⌜ r ≡ fromType n (now (s .entry)) ⌝ }
 {
     if s.len() == 0 {
-        return Step::Fault(3);
+        return Step::Fault(reading::CUT);
     }
     let c = s[0];
     if type_allowed(c) {
         from_size(n, c, &s[1..])
     } else {
-        Step::Fault(16)
+        Step::Fault(reading::TYPE_SIZE_OR_HINT)
     }
 }
 

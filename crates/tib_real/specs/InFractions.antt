@@ -3,6 +3,7 @@ use Prim.Native.Nat.{ℕ, _*_, _/_, _%_, _^_}
 use mathlib.Core.Bool.{Bool, cond, _&&_}
 use lib.Dec.{leb, ltb, eqb}
 use lib.IntN.{ℤ, pos, negℤ}
+use Rattle.reading.specs.Refusals as refusals
 use Rattle.tib_real.specs.declared.types.Real.{Real}
 use Rattle.tib_real.specs.declared.types.Fractions.{Fractions}
 use Rattle.tib_real.specs.Parts.{eight, negative, finite, units}
@@ -19,9 +20,9 @@ countable b h = finite eight b && eqb (scaled b h % 2 ^ 1074) 0 && ltb (scaled b
 unfoldable pub signed : Bool → ℕ → ℤ
 signed minus n = cond minus (negℤ (pos n)) (pos n)
 
--- Refusal 17 is at place 0, and its value is 0.
+-- A refusal has the place 0 and the value 0.
 unfoldable pub refused : Fractions
-refused = record { refusal = 17; place = 0; value = pos 0 }
+refused = record { refusal = refusals.notInFractions; place = 0; value = pos 0 }
 
 -- No refusal, and the whole number.
 unfoldable pub accepted : ℤ → Fractions

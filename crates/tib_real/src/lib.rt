@@ -63,7 +63,7 @@ fn refused() -> Fractions
     ensures { λ r. ⌜ r ≡ refused-answer ⌝ }
 {
     Fractions {
-        refusal: 17,
+        refusal: reading::NOT_IN_FRACTIONS,
         place: 0,
         value: 0,
     }

@@ -58,9 +58,9 @@ found-first g rest (holding name m n c) = rw (step-of-held name m rest n c)
 abbrev wanted : List ℕ → ℕ → Option (ℕ × Parts)
 wanted s k = kthOf places k (reading s)
 
--- The fields that are left begin at i, and the `left`-th of them is the one that is looked for.
+-- The fields that remain begin at i, and the `remaining`-th of them is the one that the caller looks for.
 abbrev pub Going : List ℕ → ℕ → ℕ → ℕ → Type 0
-Going s k i left = Passing octets Outermost s (wanted s k) i left
+Going s k i remaining = Passing octets Outermost s (wanted s k) i remaining
 
 pub start : (s : List ℕ) (k : ℕ) → IsAccepted (reading s) → Going s k 8 k
 unfolding IsAccepted kthOf places
@@ -77,16 +77,16 @@ start s k a =
 pub measured : (f : Parts) → (1 ≤ total (sizes f)) × (length (octets f) ≡ total (sizes f))
 measured f = let h = field-size f in let l = length-octets f in (omega arith, l)
 
-module _ (s : List ℕ) (k i left : ℕ) (now : Going s k i left) where
+module _ (s : List ℕ) (k i remaining : ℕ) (now : Going s k i remaining) where
   pub ended : next (drop i s) ≡ Nothing → Absent ≡ foundAt (wanted s k)
   ended e =
-      none-here octets Outermost sizes total At Absent measured s (wanted s k) i left now
+      none-here octets Outermost sizes total At Absent measured s (wanted s k) i remaining now
       (λ f rest o d. let n = ap next d ∙ found-first f rest o in let z : _≡_ {A = ℕ} 0 1 = cc in absurd (omega arith))
 
-  pub one-more : (z : Sizes) → next (drop i s) ≡ Field z → OneMore octets Outermost sizes total At Absent measured s (wanted s k) i left now z
+  pub one-more : (z : Sizes) → next (drop i s) ≡ Field z → OneMore octets Outermost sizes total At Absent measured s (wanted s k) i remaining now z
   unfolding outerOf
   one-more z e =
-      one-here octets Outermost sizes total At Absent measured s (wanted s k) i left now z
+      one-here octets Outermost sizes total At Absent measured s (wanted s k) i remaining now z
       (λ d. let n : next (drop i s) ≡ Nothing = ap next d ∙ rw step-of-end in let y : _≡_ {A = ℕ} 0 1 = cc in absurd (omega arith))
       (λ f rest o d. let n = ap next d ∙ found-first f rest o in cc)
 

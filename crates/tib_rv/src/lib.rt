@@ -9,7 +9,7 @@ ghost use Prim.Native.Nat.{_+_, _≤_, _<_, _^_};
 ghost use lib.ListN.{length};
 ghost use Rattle.tib_rv_field.specs.Reading.{nextField, lead as lead-of, total, headerFault, messageFrom, reading};
 ghost use Rattle.tib_rv_field.specs.Layout.{depth};
-ghost use Rattle.reading.specs.Reading.{messageLimit};
+ghost use Rattle.reading.specs.Reading.{messageLimit, depthLimit};
 ghost use Rattle.reading.specs.internal.Verdicts.{IsAccepted, verdictOf};
 ghost use Rattle.tib_field.specs.internal.KthOf.{kthOf};
 ghost use Rattle.tib_rv.specs.Answers.{count, check as check-of, places, field as field-of};
@@ -32,13 +32,13 @@ fn header_fault(s: &[u8]) -> u64
     ensures { λ r. ⌜ r ≡ headerFault (now (s .entry)) ⌝ }
 {
     if s.len() < 8 {
-        return 3;
+        return reading::CUT;
     }
     if !tib_field::begins(&s[4..], b"\x99\x55\xee\xaa") {
-        return 13;
+        return reading::MAGIC;
     }
     if tib_field::number(&s[0..4]) != s.len() as u64 {
-        return 14;
+        return reading::SIZE;
     }
     0
 }
@@ -58,21 +58,21 @@ fn past(at: usize, z: Sizes) -> usize
     data_at(at, z) + z.contents
 }
 
-fn refused(number: u64, place: u64) -> Verdict
-    ensures { λ r. ⌜ r ≡ Verdict.Refused number place ⌝ }
+fn refused(refusal: u64, place: u64) -> Verdict
+    ensures { λ r. ⌜ r ≡ Verdict.Refused refusal place ⌝ }
 {
-    Verdict::Refused(number, place)
+    Verdict::Refused(refusal, place)
 }
 
 // A message whose header starts at a place, in a field at another place. `levels` is how many messages deep it may be, itself counted; a
 // nested message has one less.
 fn message(s: &[u8], levels: u64, field: u64, at: u64) -> Verdict
     requires { ⌜ at + length (now s) ≤ messageLimit ⌝ }
-    requires { ⌜ levels ≤ 8 ⌝ }
+    requires { ⌜ levels ≤ depthLimit ⌝ }
     ensures { λ r. ⌜ r ≡ verdictOf count depth (messageFrom levels field at (now (s .entry))) ⌝ }
 {
     if levels == 0 {
-        return refused(5, field);
+        return refused(reading::TOO_DEEP, field);
     }
     let fault = header_fault(s);
     if fault != 0 {
@@ -93,7 +93,7 @@ fn message(s: &[u8], levels: u64, field: u64, at: u64) -> Verdict
                 let a = data_at(i, z);
                 let e = past(i, z);
                 match message(&s[a..e], levels - 1, at + (i as u64), at + (a as u64)) {
-                    Verdict::Refused(number, place) => return refused(number, place),
+                    Verdict::Refused(refusal, place) => return refused(refusal, place),
                     Verdict::Accepted(f, d) => {
                         i = e;
                         fields = fields + (1 + f);
@@ -108,10 +108,10 @@ fn message(s: &[u8], levels: u64, field: u64, at: u64) -> Verdict
 fn read(s: &[u8]) -> Verdict
     ensures { λ r. ⌜ r ≡ verdictOf count depth (reading (now (s .entry))) ⌝ }
 {
-    if 65536 < s.len() {
-        return refused(1, 0);
+    if reading::MESSAGE_LIMIT < s.len() {
+        return refused(reading::TOO_LONG, 0);
     }
-    message(s, 8, 0, 0)
+    message(s, reading::DEPTH_LIMIT, 0, 0)
 }
 
 // The check of a whole TibrvMsg: its refusal, or the count of its fields at all depths and the depth of its deepest message.
@@ -139,16 +139,16 @@ fn find(s: &[u8], k: u64) -> Kth
     ensures { λ r. ⌜ r ≡ foundAt (kthOf places k (reading (now (s .entry)))) ⌝ }
 {
     let mut i: usize = 8;
-    let mut left = k;
+    let mut remaining = k;
     loop {
         match next_outer(&s[i..]) {
             Outer::Nothing => return Kth::Absent,
             Outer::Field(z) => {
-                if left == 0 {
+                if remaining == 0 {
                     return Kth::At { place: i, sizes: z };
                 }
                 i = past(i, z);
-                left -= 1;
+                remaining -= 1;
             }
         }
     }
@@ -179,10 +179,10 @@ pub fn field(message: &[u8], k: u64) -> Field
     ensures { λ r. ⌜ r ≡ field-of (now (message .entry)) k ⌝ }
 {
     match read(message) {
-        Verdict::Refused(number, place) => tib_field::refused_field(number, place),
+        Verdict::Refused(refusal, place) => tib_field::refused_field(refusal, place),
         Verdict::Accepted(_, _) => match find(message, k) {
             Kth::At { place, sizes } => shown(place, sizes),
-            Kth::Absent => tib_field::refused_field(18, 0),
+            Kth::Absent => tib_field::refused_field(reading::ABSENT, 0),
         },
     }
 }

@@ -6,6 +6,7 @@ use mathlib.Core.List.{List, [], _∷_, _++_}
 use lib.ListN.{length}
 use Rattle.octets.specs.Number.{bigEndian}
 use Rattle.reading.specs.Reading.{messageLimit, depthLimit}
+use Rattle.reading.specs.Refusals as refusals
 use Rattle.tib_field.specs.Name.{Name}
 use Rattle.tib_field.specs.WrongName.{WrongNamed}
 use Rattle.tib_rv_field.specs.Layout.{Parts, octets, Size, Leaf, holder, magic, Fields, message, depth, Header, Allowed}
@@ -26,14 +27,14 @@ pub record Announces (octet : ℕ) (size : List ℕ) (n : ℕ) : Type 0 where
 -- A size and the data after it: the size ends too early; it begins with another marker; it counts less than itself, or type 1 does not use
 -- `7a`; or the data end too early.
 pub data WrongSize (octet : ℕ) : ℕ → List ℕ → Type 0 where
-  cut : (s missing : List ℕ) → 1 ≤ length missing → SizeOctets (s ++ missing) → WrongSize octet 3 s
-  marker : (m : ℕ) (s : List ℕ) → 0x7a < m → WrongSize octet 16 (m ∷ s)
-  bad : (size s : List ℕ) → SizeOctets size → ((n : ℕ) → Announces octet size n → ⊥) → WrongSize octet 16 (size ++ s)
-  dataCut : (n : ℕ) (size s : List ℕ) → Announces octet size n → length s < n → WrongSize octet 4 (size ++ s)
+  cut : (s missing : List ℕ) → 1 ≤ length missing → SizeOctets (s ++ missing) → WrongSize octet refusals.cut s
+  marker : (m : ℕ) (s : List ℕ) → 0x7a < m → WrongSize octet refusals.typeSizeOrHint (m ∷ s)
+  bad : (size s : List ℕ) → SizeOctets size → ((n : ℕ) → Announces octet size n → ⊥) → WrongSize octet refusals.typeSizeOrHint (size ++ s)
+  dataCut : (n : ℕ) (size s : List ℕ) → Announces octet size n → length s < n → WrongSize octet refusals.pastTheEnd (size ++ s)
 
 -- Every type octet is read.
 pub data WrongType : ℕ → List ℕ → Type 0 where
-  missing : WrongType 3 []
+  missing : WrongType refusals.cut []
   later : (k octet : ℕ) (s : List ℕ) → WrongSize octet k s → WrongType k (octet ∷ s)
 
 -- A field, which begins with the size of its name.
@@ -42,9 +43,9 @@ WrongField k s = WrongNamed WrongType k s
 
 -- The header of a message.
 pub data WrongHeader (s : List ℕ) : ℕ → Type 0 where
-  cut : length s < 8 → WrongHeader s 3
-  otherMark : (size mark rest : List ℕ) → s ≡ size ++ (mark ++ rest) → length size ≡ 4 → length mark ≡ 4 → (mark ≡ magic → ⊥) → WrongHeader s 13
-  otherSize : (size rest : List ℕ) → s ≡ size ++ (magic ++ rest) → length size ≡ 4 → (bigEndian size ≡ length s → ⊥) → WrongHeader s 14
+  cut : length s < 8 → WrongHeader s refusals.cut
+  otherMark : (size mark rest : List ℕ) → s ≡ size ++ (mark ++ rest) → length size ≡ 4 → length mark ≡ 4 → (mark ≡ magic → ⊥) → WrongHeader s refusals.magic
+  otherSize : (size rest : List ℕ) → s ≡ size ++ (magic ++ rest) → length size ≡ 4 → (bigEndian size ≡ length s → ⊥) → WrongHeader s refusals.size
 
 -- A header that is good, and the octets of the fields after it.
 pub record Opens (s fields : List ℕ) : Type 0 where
@@ -72,7 +73,7 @@ pub data FaultIn : ℕ → List ℕ → ℕ → ℕ → Type 0 where
   past : (levels k p : ℕ) (name size : List ℕ) (inside : Fields) (s : List ℕ) → Name name → Header size inside → Allowed inside
       → suc (depth inside) ≤ levels → FaultIn levels s k p
       → FaultIn levels (octets (holder name (message size inside)) ++ s) k (length (octets (holder name (message size inside))) + p)
-  tooDeep : (name held s : List ℕ) → Holds name held → FaultIn 1 (octets (holder name held) ++ s) 5 0
+  tooDeep : (name held s : List ℕ) → Holds name held → FaultIn 1 (octets (holder name held) ++ s) refusals.tooDeep 0
   header : (levels k : ℕ) (name held s : List ℕ) → 1 ≤ levels → Holds name held → WrongHeader held k
       → FaultIn (suc levels) (octets (holder name held) ++ s) k (3 + length name)
   inside : (levels k p : ℕ) (name held fields s : List ℕ) → 1 ≤ levels → Name name → Opens held fields → FaultIn levels fields k p
@@ -80,6 +81,6 @@ pub data FaultIn : ℕ → List ℕ → ℕ → ℕ → Type 0 where
 
 -- The first fault of octets, by its number and its place.
 pub data FirstFault (s : List ℕ) : ℕ → ℕ → Type 0 where
-  tooLong : messageLimit < length s → FirstFault s 1 0
+  tooLong : messageLimit < length s → FirstFault s refusals.tooLong 0
   header : (k : ℕ) → length s ≤ messageLimit → WrongHeader s k → FirstFault s k 0
   fields : (k p : ℕ) (rest : List ℕ) → length s ≤ messageLimit → Opens s rest → FaultIn depthLimit rest k p → FirstFault s k (8 + p)

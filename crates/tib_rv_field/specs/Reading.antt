@@ -7,6 +7,7 @@ use lib.ListN.{length, take, drop}
 use lib.Dec.{eqb, leb, ltb}
 use Rattle.octets.specs.Number.{bigEndian}
 use Rattle.reading.specs.Reading.{Reading, accepted, refused, onAccepted, inOrder, messageLimit, depthLimit}
+use Rattle.reading.specs.Refusals as refusals
 use Rattle.tib_field.specs.Mark.{begins}
 use Rattle.tib_field.specs.Name.{nameFront, afterName}
 use Rattle.tib_rv_field.specs.declared.Sizes.{Sizes}
@@ -37,21 +38,21 @@ found n c m k =
     cond (eqb c 1) (Into (record { name = n; octet = c; width = 1; contents = k }))
     (Over (record { name = n; octet = c; width = 1 + following m; contents = k - own m }))
 
--- The field from its data on, where there are `left` octets.
+-- The field from its data on, where there are `remaining` octets.
 unfoldable pub fromCount : ℕ → ℕ → ℕ → ℕ → ℕ → Step
-fromCount n c m k left = cond (countAllowed c m k) (cond (ltb left (k - own m)) (Fault 4) (found n c m k)) (Fault 16)
+fromCount n c m k remaining = cond (countAllowed c m k) (cond (ltb remaining (k - own m)) (Fault refusals.pastTheEnd) (found n c m k)) (Fault refusals.typeSizeOrHint)
 
 -- The field from its size on.
 unfoldable pub fromSize : ℕ → ℕ → List ℕ → Step
-fromSize n c [] = Fault 3
+fromSize n c [] = Fault refusals.cut
 fromSize n c (m ∷ s) =
-    cond (ltb 0x7a m) (Fault 16)
-    (cond (ltb (length s) (following m)) (Fault 3)
+    cond (ltb 0x7a m) (Fault refusals.typeSizeOrHint)
+    (cond (ltb (length s) (following m)) (Fault refusals.cut)
     (fromCount n c m (counted m s) (length s - following m)))
 
 -- The field from its type on, after a name of n octets. Every type octet is read.
 unfoldable pub fromType : ℕ → List ℕ → Step
-fromType n [] = Fault 3
+fromType n [] = Fault refusals.cut
 fromType n (c ∷ s) = fromSize n c s
 
 -- What stands at the front of octets: their end, a fault, a field, or a field that holds a message.
@@ -88,32 +89,32 @@ nestedOf f inside rest = nested (f .name) (take 4 (f .contents)) inside rest
 -- these.
 unfoldable pub afterStep : Inner → (ℕ → List ℕ → Reading Fields) → ℕ → List ℕ → Step → Reading Fields
 afterStep inner next at s Done = accepted end
-afterStep inner next at s (Fault number) = refused number at
+afterStep inner next at s (Fault refusal) = refused refusal at
 afterStep inner next at s (Over z) = onAccepted (leaf (partsAt s z)) (next (at + total z) (drop (total z) s))
 afterStep inner next at s (Into z) =
     inOrder (nestedOf (partsAt s z)) (inner at (at + lead z) (partsAt s z .contents)) (next (at + total z) (drop (total z) s))
 
 -- The fields of one message, from a place on. `fuel` bounds the fields that are still looked at.
 unfoldable pub fieldsFrom : Inner → ℕ → ℕ → List ℕ → Reading Fields
-fieldsFrom inner zero at s = refused 3 at
+fieldsFrom inner zero at s = refused refusals.cut at
 fieldsFrom inner (suc fuel) at s = afterStep inner (fieldsFrom inner fuel) at s (nextField s)
 
 -- The refusal of a header, 0 where it is good: cut, another magic number, another size than the message has. The size of a nested message
 -- is what gave its octets, so 14 is the outermost message's alone.
 unfoldable pub headerFault : List ℕ → ℕ
 headerFault s =
-    cond (ltb (length s) 8) 3
-    (cond (not (begins magic (drop 4 s))) 13
-    (cond (not (eqb (bigEndian (take 4 s)) (length s))) 14
+    cond (ltb (length s) 8) refusals.cut
+    (cond (not (begins magic (drop 4 s))) refusals.magic
+    (cond (not (eqb (bigEndian (take 4 s)) (length s))) refusals.size
     0))
 
 -- A message, at most `levels` messages deep. It is refused with 5 at the field that holds it where it is too deep. A field takes an octet or
 -- more, so one look more than there are octets is enough.
 unfoldable pub messageFrom : ℕ → Inner
-messageFrom zero field at s = refused 5 field
+messageFrom zero field at s = refused refusals.tooDeep field
 messageFrom (suc levels) field at s =
     cond (eqb (headerFault s) 0) (fieldsFrom (messageFrom levels) (suc (length s)) (at + 8) (drop 8 s)) (refused (headerFault s) at)
 
 -- The outermost message: its division, or the first refusal.
 unfoldable pub reading : List ℕ → Reading Fields
-reading s = cond (ltb messageLimit (length s)) (refused 1 0) (messageFrom depthLimit 0 0 s)
+reading s = cond (ltb messageLimit (length s)) (refused refusals.tooLong 0) (messageFrom depthLimit 0 0 s)

@@ -6,6 +6,7 @@ ghost use Prim.Native.Nat.{_-_, _≤_};
 ghost use lib.Dec.{ltb};
 ghost use lib.ListN.{length, take};
 ghost use Rattle.octets.specs.Number.{bigEndian};
+ghost use Rattle.reading.specs.Refusals as refusals;
 ghost use Rattle.tib_rv_field.specs.Reading.{following as following-of, own as own-of, countAllowed, found as found-of, fromCount, fromSize, fromType, nextField};
 
 // The sizes of the parts of a field, and its type octet. Of a field that holds a message the width is 1, for the marker alone, and the
@@ -83,15 +84,15 @@ fn found(n: usize, c: u8, m: u64, k: u64) -> Step
     })
 }
 
-// The field from its data on, where there are `left` octets.
-fn from_count(n: usize, c: u8, m: u64, k: u64, left: usize) -> Step
-    ensures { λ r. ⌜ r ≡ fromCount n c m k left ⌝ }
+// The field from its data on, where there are `remaining` octets.
+fn from_count(n: usize, c: u8, m: u64, k: u64, remaining: usize) -> Step
+    ensures { λ r. ⌜ r ≡ fromCount n c m k remaining ⌝ }
 {
     if !count_allowed(c, m, k) {
-        return Step::Fault(16);
+        return Step::Fault(reading::TYPE_SIZE_OR_HINT);
     }
-    if (left as u64) < k - own(m) {
-        return Step::Fault(4);
+    if (remaining as u64) < k - own(m) {
+        return Step::Fault(reading::PAST_THE_END);
     }
     found(n, c, m, k)
 }
@@ -99,10 +100,10 @@ fn from_count(n: usize, c: u8, m: u64, k: u64, left: usize) -> Step
 // The field from the w octets of its size that follow the first.
 fn from_long(n: usize, c: u8, m: u64, w: usize, s: &[u8]) -> Step
     requires { ⌜ w ≤ 4 ⌝ }
-    ensures { λ r. ⌜ r ≡ cond (ltb (length (now (s .entry))) w) (Step.Fault 3) (fromCount n c m (bigEndian (take w (now (s .entry)))) (length (now (s .entry)) - w)) ⌝ }
+    ensures { λ r. ⌜ r ≡ cond (ltb (length (now (s .entry))) w) (Step.Fault refusals.cut) (fromCount n c m (bigEndian (take w (now (s .entry)))) (length (now (s .entry)) - w)) ⌝ }
 {
     if s.len() < w {
-        return Step::Fault(3);
+        return Step::Fault(reading::CUT);
     }
     let k = tib_field::number(&s[0..w]);
     from_count(n, c, m, k, s.len() - w)
@@ -113,7 +114,7 @@ fn from_size(n: usize, c: u8, s: &[u8]) -> Step
     ensures { λ r. ⌜ r ≡ fromSize n c (now (s .entry)) ⌝ }
 {
     if s.len() == 0 {
-        return Step::Fault(3);
+        return Step::Fault(reading::CUT);
     }
     let m = numbers::wide(s[0]);
     if m < 0x79 {
@@ -125,7 +126,7 @@ fn from_size(n: usize, c: u8, s: &[u8]) -> Step
     if m == 0x7a {
         return from_long(n, c, m, 4, &s[1..]);
     }
-    Step::Fault(16)
+    Step::Fault(reading::TYPE_SIZE_OR_HINT)
 }
 
 // The field from its type on, after a name of n octets.
@@ -133,7 +134,7 @@ fn from_type(n: usize, s: &[u8]) -> Step
     ensures { λ r. ⌜ r ≡ fromType n (now (s .entry)) ⌝ }
 {
     if s.len() == 0 {
-        return Step::Fault(3);
+        return Step::Fault(reading::CUT);
     }
     from_size(n, s[0], &s[1..])
 }

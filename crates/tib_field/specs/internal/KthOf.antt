@@ -8,7 +8,7 @@ use Rattle.reading.specs.Reading.{Reading, accepted, refused}
 -- The k-th field of a reading; none where the reading refuses.
 unfoldable pub kthOf : {A B : Type 0} → (A → List (ℕ × B)) → ℕ → Reading A → Option (ℕ × B)
 kthOf fields k (accepted x) = getElem? (fields x) k
-kthOf fields k (refused number place) = none
+kthOf fields k (refused refusal place) = none
 
 -- The place and the sizes of a field, or that there is none.
 unfoldable pub foundOf : {A Z K : Type 0} → (A → Z) → (ℕ → Z → K) → K → Option (ℕ × A) → K

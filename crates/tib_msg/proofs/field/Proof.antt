@@ -12,8 +12,8 @@ use Rattle.tib_msg.proofs.field.Tie as tie
 read-requires : tie.Need-read-requires
 read-requires c κs = search needs
 
-enum-known-number : tie.Need-enum-known-number
-enum-known-number c = search needs
+enum-known-refusal : tie.Need-enum-known-refusal
+enum-known-refusal c = search needs
 
 refused-field-requires : tie.Need-refused-field-requires
 refused-field-requires c κs = search needs
@@ -48,7 +48,7 @@ unfolding field
 returns c =
     let r = c .before .before .before .before in
     let a = r .before .before .args in
-    c .refused-field .ensures ∙ field-refused length depth shown places (a .k) (reading (a .message .now)) _ _ (sym (r .read .ensures) ∙ c .before .before .number .given .1)
+    c .refused-field .ensures ∙ field-refused length depth shown places (a .k) (reading (a .message .now)) _ _ (sym (r .read .ensures) ∙ c .before .before .refusal .given .1)
 
 returns-2 : tie.Need-returns-2
 returns-2 c =
@@ -71,7 +71,7 @@ field-spec =
     tie.close
     (tie.spec
     read-requires
-    enum-known-number
+    enum-known-refusal
     refused-field-requires
     enum-told
     find-requires

@@ -1,4 +1,4 @@
--- `tib_msg::find` meets its contract: at each turn the field that is looked for is among those left.
+-- `tib_msg::find` meets its contract: at each turn the field that is looked for is among those that remain.
 use borrow.Author.Needs.{needs}
 use native.Mathlib.Omega.{arith}
 use Prim.Native.Nat.{ℕ, _-_}
@@ -11,10 +11,10 @@ use Rattle.tib_msg.proofs.find.Statement.{statement}
 use Rattle.tib_msg.proofs.find.Tie as tie
 
 abbrev Inv-loop : tie.InvT-loop
-Inv-loop s k i₀ left₀ i left = Going s k i left
+Inv-loop s k i₀ remaining₀ i remaining = Going s k i remaining
 
 abbrev μ-loop : tie.MeasureT-loop
-μ-loop s k i₀ left₀ i left = length s - i
+μ-loop s k i₀ remaining₀ i remaining = length s - i
 
 loop-holds : tie.Need-loop-holds Inv-loop μ-loop
 loop-holds c = start (c .before .args .s .now) (c .before .args .k) (c .before .pre)
@@ -35,39 +35,39 @@ enum-told : tie.Need-enum-told Inv-loop μ-loop
 enum-told c = search needs
 
 returns : tie.Need-returns Inv-loop μ-loop
-returns c = ended (c .before .before .before .before .before .before .args .s .now) (c .before .before .before .before .before .before .args .k) (c .before .before .before .before .loop .i) (c .before .before .before .before .loop .left) (c .before .before .before .before .loop .inv) _ (seen nextField (c .before .before .before .before .before .before .args .s .now) (c .before .before .before .before .loop .i) _ _ (c .before .before .next-field .ensures) (c .enum-told .given .1)) (λ z f. let y : _≡_ {A = ℕ} 0 1 = cc in absurd (omega arith))
+returns c = ended (c .before .before .before .before .before .before .args .s .now) (c .before .before .before .before .before .before .args .k) (c .before .before .before .before .loop .i) (c .before .before .before .before .loop .remaining) (c .before .before .before .before .loop .inv) _ (seen nextField (c .before .before .before .before .before .before .args .s .now) (c .before .before .before .before .loop .i) _ _ (c .before .before .next-field .ensures) (c .enum-told .given .1)) (λ z f. let y : _≡_ {A = ℕ} 0 1 = cc in absurd (omega arith))
 
 enum-told-2 : tie.Need-enum-told-2 Inv-loop μ-loop
 enum-told-2 c = search needs
 
 returns-2 : tie.Need-returns-2 Inv-loop μ-loop
-returns-2 c = ended (c .before .before .before .before .before .before .args .s .now) (c .before .before .before .before .before .before .args .k) (c .before .before .before .before .loop .i) (c .before .before .before .before .loop .left) (c .before .before .before .before .loop .inv) _ (seen nextField (c .before .before .before .before .before .before .args .s .now) (c .before .before .before .before .loop .i) _ _ (c .before .before .next-field .ensures) (c .enum-told2 .given .1)) (λ z f. let y : _≡_ {A = ℕ} 0 1 = cc in absurd (omega arith))
+returns-2 c = ended (c .before .before .before .before .before .before .args .s .now) (c .before .before .before .before .before .before .args .k) (c .before .before .before .before .loop .i) (c .before .before .before .before .loop .remaining) (c .before .before .before .before .loop .inv) _ (seen nextField (c .before .before .before .before .before .before .args .s .now) (c .before .before .before .before .loop .i) _ _ (c .before .before .next-field .ensures) (c .enum-told2 .given .1)) (λ z f. let y : _≡_ {A = ℕ} 0 1 = cc in absurd (omega arith))
 
 enum-known-z : tie.Need-enum-known-z Inv-loop μ-loop
 enum-known-z c = search needs
 
 returns-3 : tie.Need-returns-3 Inv-loop μ-loop
-returns-3 c = one-more (c .before .before .before .before .before .before .before .before .args .s .now) (c .before .before .before .before .before .before .before .before .args .k) (c .before .before .before .before .before .before .loop .i) (c .before .before .before .before .before .before .loop .left) (c .before .before .before .before .before .before .loop .inv) _ (seen nextField (c .before .before .before .before .before .before .before .before .args .s .now) (c .before .before .before .before .before .before .loop .i) _ _ (c .before .before .before .before .next-field .ensures) (c .before .before .z .given .1)) .this-one (c .if1 .taken)
+returns-3 c = one-more (c .before .before .before .before .before .before .before .before .args .s .now) (c .before .before .before .before .before .before .before .before .args .k) (c .before .before .before .before .before .before .loop .i) (c .before .before .before .before .before .before .loop .remaining) (c .before .before .before .before .before .before .loop .inv) _ (seen nextField (c .before .before .before .before .before .before .before .before .args .s .now) (c .before .before .before .before .before .before .loop .i) _ _ (c .before .before .before .before .next-field .ensures) (c .before .before .z .given .1)) .this-one (c .if1 .taken)
 
 past-requires : tie.Need-past-requires Inv-loop μ-loop
 past-requires c κs =
-    let r = one-more (c .before .before .before .before .before .before .before .before .args .s .now) (c .before .before .before .before .before .before .before .before .args .k) (c .before .before .before .before .before .before .loop .i) (c .before .before .before .before .before .before .loop .left) (c .before .before .before .before .before .before .loop .inv) _ (seen nextField (c .before .before .before .before .before .before .before .before .args .s .now) (c .before .before .before .before .before .before .loop .i) _ _ (c .before .before .before .before .next-field .ensures) (c .before .before .z .given .1)) .fits in
+    let r = one-more (c .before .before .before .before .before .before .before .before .args .s .now) (c .before .before .before .before .before .before .before .before .args .k) (c .before .before .before .before .before .before .loop .i) (c .before .before .before .before .before .before .loop .remaining) (c .before .before .before .before .before .before .loop .inv) _ (seen nextField (c .before .before .before .before .before .before .before .before .args .s .now) (c .before .before .before .before .before .before .loop .i) _ _ (c .before .before .before .before .next-field .ensures) (c .before .before .z .given .1)) .fits in
     omega arith
 
-sub-left : tie.Need-sub-left Inv-loop μ-loop
-sub-left c = omega arith
+sub-remaining : tie.Need-sub-remaining Inv-loop μ-loop
+sub-remaining c = omega arith
 
 loop-less : tie.Need-loop-less Inv-loop μ-loop
 loop-less c =
     let e = seen nextField (c .before .before .before .before .before .before .before .before .before .args .s .now) (c .before .before .before .before .before .before .before .loop .i) _ _ (c .before .before .before .before .before .next-field .ensures) (c .before .before .before .z .given .1) in
-    let r = one-more (c .before .before .before .before .before .before .before .before .before .args .s .now) (c .before .before .before .before .before .before .before .before .before .args .k) (c .before .before .before .before .before .before .before .loop .i) (c .before .before .before .before .before .before .before .loop .left) (c .before .before .before .before .before .before .before .loop .inv) _ e in
+    let r = one-more (c .before .before .before .before .before .before .before .before .before .args .s .now) (c .before .before .before .before .before .before .before .before .before .args .k) (c .before .before .before .before .before .before .before .loop .i) (c .before .before .before .before .before .before .before .loop .remaining) (c .before .before .before .before .before .before .before .loop .inv) _ e in
     let p = r .takes in
     let q = r .fits in
     let n = c .past .ensures in
     omega arith
 
 loop-again : tie.Need-loop-again Inv-loop μ-loop
-loop-again c = one-more (c .before .before .before .before .before .before .before .before .before .args .s .now) (c .before .before .before .before .before .before .before .before .before .args .k) (c .before .before .before .before .before .before .before .loop .i) (c .before .before .before .before .before .before .before .loop .left) (c .before .before .before .before .before .before .before .loop .inv) _ (seen nextField (c .before .before .before .before .before .before .before .before .before .args .s .now) (c .before .before .before .before .before .before .before .loop .i) _ _ (c .before .before .before .before .before .next-field .ensures) (c .before .before .before .z .given .1)) .later-one _ (c .before .if1 .left) (c .past .ensures)
+loop-again c = one-more (c .before .before .before .before .before .before .before .before .before .args .s .now) (c .before .before .before .before .before .before .before .before .before .args .k) (c .before .before .before .before .before .before .before .loop .i) (c .before .before .before .before .before .before .before .loop .remaining) (c .before .before .before .before .before .before .before .loop .inv) _ (seen nextField (c .before .before .before .before .before .before .before .before .before .args .s .now) (c .before .before .before .before .before .before .before .loop .i) _ _ (c .before .before .before .before .before .next-field .ensures) (c .before .before .before .z .given .1)) .later-one _ (c .before .if1 .left) (c .past .ensures)
 
 pub find-spec : {M : Type 1} → statement M
 find-spec =
@@ -87,6 +87,6 @@ find-spec =
     enum-known-z
     returns-3
     past-requires
-    sub-left
+    sub-remaining
     loop-less
     loop-again)

@@ -310,8 +310,8 @@ message-message-requires t c κs =
     let m = length-take (end t d - from t d) (drop (from t d) (octets t b)) in
     (omega arith, (omega arith, omega arith))
 
-message-enum-known-number : (t : ℕ) → message-lts.Need-enum-known-number (claims t) (message-at t) message.Post message-Inv-loop message-μ-loop
-message-enum-known-number t c = search needs
+message-enum-known-refusal : (t : ℕ) → message-lts.Need-enum-known-refusal (claims t) (message-at t) message.Post message-Inv-loop message-μ-loop
+message-enum-known-refusal t c = search needs
 
 message-refused-requires-4 : (t : ℕ) → message-lts.Need-refused-requires-4 (claims t) (message-at t) message.Post message-Inv-loop message-μ-loop
 message-refused-requires-4 t c κs = search needs
@@ -320,7 +320,7 @@ message-returns-5 : (t : ℕ) → message-lts.Need-returns-5 (claims t) (message
 message-returns-5 t c =
     let d = c .before .before .before .before .before .before in
     let b = next t d in
-    let w = c .before .before .number .given in
+    let w = c .before .before .refusal .given in
     let m = c .before .before .before .before .message in
     c .refused4 .ensures
     ∙ refused-nested (messageFrom (args t b .levels - 1)) (args t b .at) (octets t b) (i t b) (fields t b) (depth t b) (state t b) (z t d) (from t d) (end t d) (m .result) (step-is t b _ (into t d)) (d .before .data-at .ensures) (d .past2 .ensures)
@@ -419,7 +419,7 @@ pub +message-spec : {M : Type 1} → statement M
     (message-add-message t)
     (message-add-message-2 t)
     (message-message-requires t)
-    (message-enum-known-number t)
+    (message-enum-known-refusal t)
     (message-refused-requires-4 t)
     (message-returns-5 t)
     (message-enum-known-f t)

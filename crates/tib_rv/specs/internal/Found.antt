@@ -23,7 +23,7 @@ foundAt = foundOf sizes At Absent
 -- The field that a step finds, of either kind.
 unfoldable pub outerOf : Step → Outer
 outerOf Done = Nothing
-outerOf (Fault number) = Nothing
+outerOf (Fault refusal) = Nothing
 outerOf (Over z) = Field z
 outerOf (Into z) = Field z
 
