@@ -5,9 +5,9 @@ ghost use mathlib.Core.Path.{_≡_};
 ghost use lib.ListN.{length};
 ghost use Rattle.message_calls.specs.Calls.{checkOctets, shortenOctets, shortenBuffer, lookupOctets, lookupLastOctets};
 ghost use Rattle.hproto_frame.specs.Frame.{frameRead, frameWritten, frameStored};
-ghost use Rattle.tib_msg.specs.Answers.{check as tibmsg-check, field as tibmsg-field};
-ghost use Rattle.tib_rv.specs.Answers.{check as tibrv-check, field as tibrv-field};
-ghost use Rattle.tib_real.specs.FromOctets.{made};
+ghost use Rattle.tib_msg.specs.CheckAndField.{check as tibmsg-check, field as tibmsg-field};
+ghost use Rattle.tib_rv.specs.CheckAndField.{check as tibrv-check, field as tibrv-field};
+ghost use Rattle.tib_real.specs.FromOctets.{withBits};
 ghost use Rattle.tib_real.specs.InFractions.{fractionsOf};
 ghost use Rattle.concentrator.specs.Fields.{flag as flag-of, flagged, parts, hint as hint-of};
 
@@ -234,7 +234,7 @@ pub extern "C" fn crudvim_fractions(
     place: &mut u64,
     whole: &mut i64,
 ) -> u64
-    ensures { λ r. ⌜ fractionsOf (made «real_bits» hint (flagged hinted)) ≡ record { refusal = r; place = now (place .exit); value = now (whole .exit) } ⌝ }
+    ensures { λ r. ⌜ fractionsOf (withBits «real_bits» hint (flagged hinted)) ≡ record { refusal = r; place = now (place .exit); value = now (whole .exit) } ⌝ }
 {
     let fractions = tib_real::fractions(tib_real::with_bits(real_bits, hint, hinted != 0));
     *place = fractions.place;

@@ -4,8 +4,8 @@ pub mod Names
 pub mod Zeros
 pub mod Standing
 pub mod Choices
-pub mod Fronts
+pub mod NameSteps
 pub mod Fields
 pub mod Kths
-pub mod Answers
+pub mod ReadingLaws
 pub mod WrongNames

@@ -9,10 +9,10 @@ use lib.ListN.{length, getD, take, drop, length-append, take-append-drop}
 use lib.Seq.{take-at, length-take-le, getD-take}
 use borrow.Author.Tests.{eq-eqb, ne-eqb, eqb-true, eqb-false, lt-ltb, le-ltb, ltb-false}
 use Rattle.octets.proofs.Slices.{length-zero}
-use Rattle.tib_field.specs.Name.{NoZero, Name, none, closed, closes, named, nameFront}
+use Rattle.tib_field.specs.Name.{NoZero, Name, none, closed, closes, named, nameStep}
 use Rattle.tib_field.specs.internal.Zeros.{faultOf, nameFault, ZeroIn}
-use Rattle.tib_field.specs.declared.Front.{Front}
-use Rattle.tib_field.specs.declared.Front.the-variants.{End, Fault, Name as Sized}
+use Rattle.tib_field.specs.declared.NameStep.{NameStep}
+use Rattle.tib_field.specs.declared.NameStep.the-variants.{End, Fault, Name as Sized}
 
 abbrev Closed : List ℕ → Type 0
 Closed s = (r : List ℕ) × NoZero r × (s ≡ r ++ (0 ∷ []))
@@ -107,16 +107,16 @@ module _ (x : ℕ) (s : List ℕ) where
 
 -- Why the name at the front of octets is refused.
 pub fault-of-none : (s : List ℕ) → length s ≡ 0 → 0 ≡ nameFault s
-unfolding nameFault nameFront faultOf
+unfolding nameFault nameStep faultOf
 fault-of-none s h = sym (ap nameFault (length-zero s h))
 
 pub fault-cut : (s : List ℕ) (n : ℕ) → 0 < length s → n ≡ getD s 0 0 → length s - 1 < n → 3 ≡ nameFault s
-unfolding nameFault nameFront faultOf
+unfolding nameFault nameStep faultOf
 fault-cut [] n h e g = absurd (omega arith)
 fault-cut (x ∷ s) n h e g = rw (lt-ltb (length s) x (omega arith))
 
 fault-whole : (x : ℕ) (s : List ℕ) (t : Bool) → x ≤ length s → named (take x s) ≡ t → faultOf (cond t (Sized x) (Fault 15)) ≡ nameFault (x ∷ s)
-unfolding nameFault nameFront
+unfolding nameFault nameStep
 fault-whole x s t h e = rw (le-ltb (length s) x h, e)
 
 pub fault-open : (s : List ℕ) (n : ℕ) → 0 < length s → n ≡ getD s 0 0 → n ≤ length s - 1 → (getD s n 0 ≡ 0 → ⊥) → 15 ≡ nameFault s
@@ -141,19 +141,19 @@ fault-good (x ∷ s) n h e g z t f p =
     (name-good x s x (omega arith) (subst (λ (m : ℕ). getD (x ∷ s) m 0 ≡ 0) e z) (subst (λ (u : Bool). ZeroIn u (x ∷ s) 1 x x) f p))
 
 -- What stands at the front, from the refusal of its name.
-pub front-of-none : (s : List ℕ) → length s ≡ 0 → nameFront s ≡ End
-unfolding nameFront
-front-of-none s h = ap nameFront (length-zero s h)
+pub front-of-none : (s : List ℕ) → length s ≡ 0 → nameStep s ≡ End
+unfolding nameStep
+front-of-none s h = ap nameStep (length-zero s h)
 
-refused-front : (f : Front) (k : ℕ) → k ≡ faultOf f → (k ≡ 0 → ⊥) → f ≡ Fault k
+refused-front : (f : NameStep) (k : ℕ) → k ≡ faultOf f → (k ≡ 0 → ⊥) → f ≡ Fault k
 unfolding faultOf
 refused-front End k e h = absurd (h e)
 refused-front (Fault m) k e h = ap Fault (sym e)
 refused-front (Sized n) k e h = absurd (h e)
 
-pub front-refused : (s : List ℕ) (k : ℕ) → k ≡ nameFault s → (k ≡ 0 → ⊥) → nameFront s ≡ Fault k
+pub front-refused : (s : List ℕ) (k : ℕ) → k ≡ nameFault s → (k ≡ 0 → ⊥) → nameStep s ≡ Fault k
 unfolding nameFault
-front-refused s k e h = refused-front (nameFront s) k e h
+front-refused s k e h = refused-front (nameStep s) k e h
 
 sized-front : (n : ℕ) (t u : Bool) → 0 ≡ faultOf (cond t (Fault 3) (cond u (Sized n) (Fault 15))) → cond t (Fault 3) (cond u (Sized n) (Fault 15)) ≡ Sized n
 unfolding faultOf
@@ -161,8 +161,8 @@ sized-front n true u e = absurd (omega arith)
 sized-front n false true e = refl
 sized-front n false false e = absurd (omega arith)
 
-pub front-sized : (s : List ℕ) (n k : ℕ) → (length s ≡ 0 → ⊥) → k ≡ nameFault s → k ≡ 0 → n ≡ getD s 0 0 → nameFront s ≡ Sized n
-unfolding nameFault nameFront
+pub front-sized : (s : List ℕ) (n k : ℕ) → (length s ≡ 0 → ⊥) → k ≡ nameFault s → k ≡ 0 → n ≡ getD s 0 0 → nameStep s ≡ Sized n
+unfolding nameFault nameStep
 front-sized [] n k h e z m = absurd (h refl)
 front-sized (x ∷ s) n k h e z m = sized-front x (ltb (length s) x) (named (take x s)) (sym z ∙ e) ∙ ap Sized (sym m)
 
@@ -172,8 +172,8 @@ some-front n true u e = let z : _≡_ {A = ℕ} 0 1 = cc in omega arith
 some-front n false true e = let z : _≡_ {A = ℕ} 0 1 = cc in omega arith
 some-front n false false e = let z : _≡_ {A = ℕ} 0 1 = cc in omega arith
 
-pub front-end : (s : List ℕ) → nameFront s ≡ End → s ≡ []
-unfolding nameFront
+pub front-end : (s : List ℕ) → nameStep s ≡ End → s ≡ []
+unfolding nameStep
 front-end [] e = refl
 front-end (n ∷ s) e = absurd (some-front n (ltb (length s) n) (named (take n s)) e)
 
@@ -185,8 +185,8 @@ pub record Found (s : List ℕ) (n : ℕ) : Type 0 where
   pub sized : length name ≡ n
   pub good : Name name
 
-pub front-found : (s : List ℕ) (n : ℕ) → nameFront s ≡ Sized n → Found s n
-unfolding nameFront
+pub front-found : (s : List ℕ) (n : ℕ) → nameStep s ≡ Sized n → Found s n
+unfolding nameStep
 front-found [] n e = let z : _≡_ {A = ℕ} 0 1 = cc in absurd (omega arith)
 front-found (x ∷ s) n e = go (ltb (length s) x) refl (named (take x s)) refl e
   where
@@ -205,13 +205,13 @@ front-found (x ∷ s) n e = go (ltb (length s) x) refl (named (take x s)) refl e
         })
     go false f false g h = let z : _≡_ {A = ℕ} 0 1 = cc in absurd (omega arith)
 
-pub front-of-name : (name rest : List ℕ) → Name name → nameFront (length name ∷ (name ++ rest)) ≡ Sized (length name)
-unfolding nameFront
+pub front-of-name : (name rest : List ℕ) → Name name → nameStep (length name ∷ (name ++ rest)) ≡ Sized (length name)
+unfolding nameStep
 front-of-name name rest h =
     let l = length-append name rest in
     rw (le-ltb (length (name ++ rest)) (length name) (omega arith), take-at name rest (length name) refl, name-named name h)
 
-pub found-inside : (s : List ℕ) (n : ℕ) → nameFront s ≡ Sized n → 1 + n ≤ length s
+pub found-inside : (s : List ℕ) (n : ℕ) → nameStep s ≡ Sized n → 1 + n ≤ length s
 found-inside s n e =
     let f = front-found s n e in
     let l = ap length (f .divides) in

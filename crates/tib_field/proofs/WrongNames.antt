@@ -9,17 +9,17 @@ use lib.Seq.{take-at, length-take-le}
 use lib.Dec.{ltb}
 use borrow.Author.Tests.{ltb-true, ltb-false, lt-ltb, le-ltb}
 use Rattle.tib_field.specs.Name as names
-use Rattle.tib_field.specs.Name.{nameFront, afterName}
+use Rattle.tib_field.specs.Name.{nameStep, afterName}
 use Rattle.tib_field.specs.WrongName.{WrongNamed, nameCut, nameBad, named}
-use Rattle.tib_field.specs.declared.Front.the-variants.{Fault, Name as Sized}
+use Rattle.tib_field.specs.declared.NameStep.the-variants.{Fault, Name as Sized}
 use Rattle.tib_field.proofs.Names.{named-name, name-named}
-use Rattle.tib_field.proofs.Fronts.{next, next-of-name}
+use Rattle.tib_field.proofs.NameSteps.{next, next-of-name}
 
 module _ {A : Type 0} (done : A) (fault : ℕ → A) (after : ℕ → List ℕ → A) (After : ℕ → List ℕ → Type 0) where
   -- Each fault that is found is wrong, where each that is found after a name is wrong there. No two faults are the same, and none is the end.
   pub name-told : ((k : ℕ) → done ≡ fault k → ⊥) → ((j k : ℕ) → fault j ≡ fault k → j ≡ k)
       → ((k n : ℕ) (s : List ℕ) → after n s ≡ fault k → After k s) → (k : ℕ) (s : List ℕ) → next done fault after s ≡ fault k → WrongNamed After k s
-  unfolding nameFront afterName
+  unfolding nameStep afterName
   name-told ended same later k [] e = absurd (ended k e)
   name-told ended same later k (n ∷ s) e = cut (ltb (length s) n) refl e
     where
@@ -48,7 +48,7 @@ module _ {A : Type 0} (done : A) (fault : ℕ → A) (after : ℕ → List ℕ �
   -- What is wrong is refused, where what is wrong after a name is.
   pub name-wrong : ((k n : ℕ) (s : List ℕ) → After k s → after n s ≡ fault k) → (k : ℕ) (s : List ℕ) → WrongNamed After k s
       → next done fault after s ≡ fault k
-  unfolding nameFront afterName
+  unfolding nameStep afterName
   name-wrong later k s (nameCut n r h) = rw (lt-ltb (length r) n h)
   name-wrong later k s (nameBad name r h) =
       let l = length-append name r in

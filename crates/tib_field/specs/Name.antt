@@ -6,8 +6,8 @@ use mathlib.Core.List.{List, [], _∷_, _++_}
 use lib.ListN.{length, take, drop}
 use lib.Dec.{eqb, ltb}
 use Rattle.reading.specs.Refusals as refusals
-use Rattle.tib_field.specs.declared.Front.{Front}
-use Rattle.tib_field.specs.declared.Front.the-variants.{End, Fault, Name as Sized}
+use Rattle.tib_field.specs.declared.NameStep.{NameStep}
+use Rattle.tib_field.specs.declared.NameStep.the-variants.{End, Fault, Name as Sized}
 
 -- No octet is zero.
 unfoldable pub NoZero : List ℕ → Type 0
@@ -30,12 +30,12 @@ named [] = true
 named (x ∷ s) = closes (x ∷ s)
 
 -- The size of a name and the name at the front of octets: a missing octet is refused before a bad one.
-unfoldable pub nameFront : List ℕ → Front
-nameFront [] = End
-nameFront (n ∷ s) = cond (ltb (length s) n) (Fault refusals.cut) (cond (named (take n s)) (Sized n) (Fault refusals.name))
+unfoldable pub nameStep : List ℕ → NameStep
+nameStep [] = End
+nameStep (n ∷ s) = cond (ltb (length s) n) (Fault refusals.cut) (cond (named (take n s)) (Sized n) (Fault refusals.name))
 
 -- What stands at the front of octets, where `after` says what follows a name of this many octets.
-unfoldable pub afterName : {A : Type 0} → A → (ℕ → A) → (ℕ → List ℕ → A) → List ℕ → Front → A
+unfoldable pub afterName : {A : Type 0} → A → (ℕ → A) → (ℕ → List ℕ → A) → List ℕ → NameStep → A
 afterName done fault after s End = done
 afterName done fault after s (Fault k) = fault k
 afterName done fault after s (Sized n) = after n (drop (1 + n) s)

@@ -13,7 +13,7 @@ ghost use Rattle.tib_field.specs.Mark.{begins as begins-with};
 
 // What stands where a field may begin: the end of the message, a name that is refused with a number, or a name of this many octets
 // after the octet of its size.
-pub enum Front {
+pub enum NameStep {
     End,
     Fault(u64),
     Name(usize),
@@ -63,7 +63,7 @@ pub fn refused_field(refusal: u64, place: u64) -> Field
 }
 
 // The number that at most eight octets hold, 0 for more. One octet is the most common, and needs no loop.
-pub fn number(s: &[u8]) -> u64
+pub fn uint(s: &[u8]) -> u64
     ensures { λ r. ⌜ r ≡ unsigned (now (s .entry)) ⌝ }
 {
     if s.len() == 1 {

@@ -6,12 +6,12 @@ use mathlib.Core.Logic.{_↔_}
 use lib.ListN.{length}
 use Rattle.reading.specs.Checks.{counts}
 use Rattle.tib_field.specs.Refused.{refusedField}
-use Rattle.tib_field.proofs.Answers.{refused-as-checked as field-refused-as-checked, accepts-exactly}
+use Rattle.tib_field.proofs.ReadingLaws.{refused-as-checked as field-refused-as-checked, accepts-exactly}
 use Rattle.tib_msg_field.specs.Layout.{Parts, Whole}
 use Rattle.tib_msg_field.specs.Reading.{reading}
 use Rattle.tib_msg_field.proofs.Accepted.{whole-accepted, accepted-exactly}
 use Rattle.tib_msg_field.proofs.Refusals.{refusal-positive}
-use Rattle.tib_msg.specs.Answers.{depth, check, shown, places, field}
+use Rattle.tib_msg.specs.CheckAndField.{depth, check, shown, places, field}
 
 module _ (s : List ℕ) where
   -- The counts of a whole message are its division's.

@@ -16,7 +16,7 @@ use Rattle.reading.specs.internal.Verdicts.{verdictOf}
 use Rattle.reading.specs.declared.Verdict.the-variants.{Refused}
 use Rattle.tib_msg_field.specs.Layout.{magic}
 use Rattle.tib_msg_field.specs.Reading.{fieldsFrom, reading}
-use Rattle.tib_msg.specs.Answers.{depth}
+use Rattle.tib_msg.specs.CheckAndField.{depth}
 
 module _ (s : List ℕ) where
   pub too-long : messageLimit < length s → Refused 1 0 ≡ verdictOf length depth (reading s)

@@ -7,12 +7,12 @@ use mathlib.Core.List.{List}
 use mathlib.Core.Option.{Option, none, some}
 use lib.ListN.{length, drop}
 use Rattle.reading.specs.internal.Verdicts.{IsAccepted}
-use Rattle.tib_field.specs.Kth.{answerFor}
+use Rattle.tib_field.specs.Kth.{fieldOrAbsent}
 use Rattle.tib_field.specs.internal.KthOf.{kthOf}
 use Rattle.tib_field.specs.Refused.{refusedField}
 use Rattle.tib_field.specs.declared.Field.{Field}
 use Rattle.tib_field.proofs.Kths.{Going as Passing, OneMore, none-here, one-here, kth-found, kth-absent}
-use Rattle.tib_field.proofs.Answers.{field-of-kth}
+use Rattle.tib_field.proofs.ReadingLaws.{field-of-kth}
 use Rattle.tib_msg_field.specs.declared.Sizes.{Sizes}
 use Rattle.tib_msg_field.specs.declared.Step.{Step}
 use Rattle.tib_msg_field.specs.declared.Step.the-variants.{Over}
@@ -20,7 +20,7 @@ use Rattle.tib_msg.specs.declared.Kth.the-variants.{At, Absent}
 use Rattle.tib_msg_field.specs.Layout.{isWidth, Hint, none as no-hint, array, partial, value, Parts, octets, Allowed}
 use Rattle.tib_msg_field.specs.Reading.{nextField, total, partsAt, reading}
 use Rattle.tib_msg_field.specs.internal.Sizes.{sizes}
-use Rattle.tib_msg.specs.Answers.{shown, places, field}
+use Rattle.tib_msg.specs.CheckAndField.{shown, places, field}
 use Rattle.tib_msg.specs.internal.Found.{foundAt}
 use Rattle.tib_msg_field.proofs.Hints.{true-is, width-small}
 use Rattle.tib_msg_field.proofs.Steps.{step-of-field, step-of-end, parts-of-field, length-octets}
@@ -72,7 +72,7 @@ pub record KthFound (s : List ℕ) (place : ℕ) (z : Sizes) (answer : Field) : 
 
 module _ (s : List ℕ) (k : ℕ) (a : IsAccepted (reading s)) where
   pub field-found : (place : ℕ) (z : Sizes) → foundAt (wanted s k) ≡ At place z → KthFound s place z (field s k)
-  unfolding sizes answerFor field
+  unfolding sizes fieldOrAbsent field
   field-found place z e =
       let h = kth-found octets Allowed sizes total At Absent measured s (wanted s k) 9 k (start s k a)
       (λ p y f. let n : _≡_ {A = ℕ} 0 1 = cc in absurd (omega arith)) (λ p q x y f. (cc, cc)) place z e in
@@ -87,7 +87,7 @@ module _ (s : List ℕ) (k : ℕ) (a : IsAccepted (reading s)) where
       }
 
   pub field-absent : foundAt (wanted s k) ≡ Absent → refusedField 18 0 ≡ field s k
-  unfolding answerFor field
+  unfolding fieldOrAbsent field
   field-absent e =
       field-of-kth shown places k (reading s) a none
       (kth-absent octets Allowed sizes total At Absent measured s (wanted s k) 9 k (start s k a)

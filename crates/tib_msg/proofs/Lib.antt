@@ -1,5 +1,5 @@
 pub mod Headers
-pub mod Turns
+pub mod TraverseLoop
 pub mod Kths
 pub mod Shows
 pub mod Places

@@ -8,19 +8,19 @@ use lib.ListN.{length, getD, getElem?, length-append}
 use borrow.Author.Tests.{ne-eqb}
 use Rattle.tib_field.specs.Refused.{refusedField}
 use Rattle.tib_field.specs.Fields.{Each, joined, placed}
-use Rattle.tib_field.specs.Kth.{answerFor, fieldOf}
+use Rattle.tib_field.specs.Kth.{fieldOrAbsent, fieldOf}
 use Rattle.tib_field.proofs.Fields.{each-one, joined-around, Picked, picked, none-remaining}
 use Rattle.tib_field.proofs.Standing.{name-stands, data-stands}
 use Rattle.tib_msg_field.specs.Layout.{kind, hinted, Hint, none, array, partial, value, Parts, octets, Allowed, magic, Whole}
 use Rattle.tib_msg_field.proofs.Steps.{flat}
 use Rattle.tib_msg_field.proofs.Accepted.{whole-accepted}
-use Rattle.tib_msg.specs.Answers.{hintNumber, shown, places, field}
+use Rattle.tib_msg.specs.CheckAndField.{hintValue, shown, places, field}
 use Rattle.tib_msg.proofs.Shows.{number-none, number-array, number-partial}
 use Rattle.tib_msg.specs.KthTold.{HintTold, absent, element, offset, amount, KthTold}
 
 -- The hint that the layout allows is told by its octets.
-hint-told : (k size : ℕ) (t : Bool) (hint : List ℕ) → Hint k size t hint → HintTold k hint t (getD hint 0 0) (hintNumber k hint)
-unfolding hintNumber
+hint-told : (k size : ℕ) (t : Bool) (hint : List ℕ) → Hint k size t hint → HintTold k hint t (getD hint 0 0) (hintValue k hint)
+unfolding hintValue
 hint-told k size t hint (none a b) = subst (HintTold k [] false 0) (number-none k [] (omega arith)) absent
 hint-told k size t hint (array e n h p q w d) = subst (HintTold k (e ∷ n ∷ []) true e) (number-array k (e ∷ n ∷ []) h) (element e n h)
 hint-told k size t hint (partial n h) =
@@ -28,8 +28,8 @@ hint-told k size t hint (partial n h) =
 hint-told k size t hint (value e s a b p q w) = rw (ne-eqb k 8 a, ne-eqb k 9 b) (amount e s a b)
 
 module _ (s : List ℕ) (fs : List Parts) (w : Whole s fs) where
-  told : (k : ℕ) → Picked octets fs k 9 → KthTold s fs k (answerFor shown (getElem? (placed octets 9 fs) k))
-  unfolding shown answerFor
+  told : (k : ℕ) → Picked octets fs k 9 → KthTold s fs k (fieldOrAbsent shown (getElem? (placed octets 9 fs) k))
+  unfolding shown fieldOrAbsent
   told k p =
       let f = p .field in
       let front = magic ++ (w .size ++ joined octets (p .before)) in
@@ -60,11 +60,11 @@ module _ (s : List ℕ) (fs : List Parts) (w : Whole s fs) where
         named-at = refl;
         data-at = omega arith;
       } in
-      subst (KthTold s fs k) (sym (ap (answerFor shown) (p .same))) q
+      subst (KthTold s fs k) (sym (ap (fieldOrAbsent shown) (p .same))) q
 
   -- The answer for k is the k-th field of the division, or 18 at 0 where the division has no more than k fields.
   pub field-is-kth : (k : ℕ) → (k < length fs → KthTold s fs k (field s k)) × (length fs ≤ k → field s k ≡ refusedField 18 0)
-  unfolding field fieldOf answerFor places
+  unfolding field fieldOf fieldOrAbsent places
   field-is-kth k =
       let e = whole-accepted s fs w in
       (λ h. rw e (told k (picked octets fs k 9 h)), λ h. rw (e, none-remaining octets fs k 9 h))

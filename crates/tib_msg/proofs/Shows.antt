@@ -16,13 +16,13 @@ use Rattle.tib_msg_field.specs.declared.Sizes.{Sizes}
 use Rattle.tib_msg_field.specs.Reading.{total, partsAt}
 use Rattle.tib_real.specs.declared.types.Real.{Real}
 use Rattle.tib_msg_field.specs.Layout.{kind, hinted}
-use Rattle.tib_msg.specs.Answers.{hintNumber, realShown, shown}
+use Rattle.tib_msg.specs.CheckAndField.{hintValue, realShown, shown}
 
 pub first-none : (s : List ℕ) → length s ≡ 0 → 0 ≡ getD s 0 0
 first-none s h = rw (length-zero s h)
 
-pub number-none : (k : ℕ) (s : List ℕ) → length s < 2 → 0 ≡ hintNumber k s
-unfolding hintNumber bigEndian
+pub number-none : (k : ℕ) (s : List ℕ) → length s < 2 → 0 ≡ hintValue k s
+unfolding hintValue bigEndian
 number-none k s h = go (eqb k 8 || eqb k 9) s h
   where
     go : (t : Bool) (s : List ℕ) → length s < 2 → 0 ≡ cond t (getD s 1 0) (bigEndian (drop 2 s))
@@ -33,17 +33,17 @@ number-none k s h = go (eqb k 8 || eqb k 9) s h
     go false (x ∷ []) h = refl
     go false (x ∷ y ∷ s) h = absurd (omega arith)
 
-pub number-array : (k : ℕ) (s : List ℕ) → k ≡ 8 → getD s 1 0 ≡ hintNumber k s
-unfolding hintNumber
+pub number-array : (k : ℕ) (s : List ℕ) → k ≡ 8 → getD s 1 0 ≡ hintValue k s
+unfolding hintValue
 number-array k s e = rw (eq-eqb k 8 e)
 
-pub number-partial : (k : ℕ) (s : List ℕ) → (k ≡ 8 → ⊥) → k ≡ 9 → getD s 1 0 ≡ hintNumber k s
-unfolding hintNumber
+pub number-partial : (k : ℕ) (s : List ℕ) → (k ≡ 8 → ⊥) → k ≡ 9 → getD s 1 0 ≡ hintValue k s
+unfolding hintValue
 number-partial k s d e = rw (ne-eqb k 8 d, eq-eqb k 9 e)
 
 pub number-value : (k : ℕ) (s : List ℕ) → (k ≡ 8 → ⊥) → (k ≡ 9 → ⊥) → length s ≤ 10
-    → unsigned (take (length s - 2) (drop 2 s)) ≡ hintNumber k s
-unfolding hintNumber
+    → unsigned (take (length s - 2) (drop 2 s)) ≡ hintValue k s
+unfolding hintValue
 number-value k s d e h =
     rw (ne-eqb k 8 d, ne-eqb k 9 e, tail-part s 2)
     (unsigned-is (drop 2 s) (rw (length-drop 2 s) (omega arith)))
@@ -102,7 +102,7 @@ module _ (s : List ℕ) (at : ℕ) (z : Sizes) (inside : at + total z ≤ length
       rw (e, from-data, drop-drop (z .contents) start s)
 
   pub shown-is : (k n first : ℕ) (present : Bool) (r : Real) → k ≡ kind (z .octet) → present ≡ hinted (z .octet)
-      → n ≡ hintNumber k (take (hint + z .hint - hint) (drop hint s)) → first ≡ getD (take (hint + z .hint - hint) (drop hint s)) 0 0
+      → n ≡ hintValue k (take (hint + z .hint - hint) (drop hint s)) → first ≡ getD (take (hint + z .hint - hint) (drop hint s)) 0 0
       → r ≡ realShown k (take (hint - start) (drop start s)) n present
       → record {
         refusal = 0;

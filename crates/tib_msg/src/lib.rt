@@ -11,7 +11,7 @@ ghost use lib.ListN.{length, getD, drop};
 ghost use Rattle.tib_msg_field.specs.Reading.{total, partsAt, fieldsFrom, reading};
 ghost use Rattle.reading.specs.internal.Verdicts.{IsAccepted, verdictOf};
 ghost use Rattle.tib_field.specs.internal.KthOf.{kthOf};
-ghost use Rattle.tib_msg.specs.Answers.{depth, check as check-of, hintNumber, realShown, shown as shown-of, places, field as field-of};
+ghost use Rattle.tib_msg.specs.CheckAndField.{depth, check as check-of, hintValue, realShown, shown as shown-of, places, field as field-of};
 ghost use Rattle.tib_msg.specs.internal.Found.{foundAt};
 
 // A field of a message by its place, or that there is none.
@@ -66,7 +66,7 @@ fn read(message: &[u8]) -> Verdict
     if !tib_field::begins(message, b"\xce\x13\xaa\x1f\x01") {
         return refuse(reading::MAGIC);
     }
-    let size = tib_field::number(&message[5..9]);
+    let size = tib_field::uint(&message[5..9]);
     if size != (n - 9) as u64 {
         return refuse(reading::SIZE);
     }
@@ -112,9 +112,9 @@ fn first(s: &[u8]) -> u64
 }
 
 // The number of a hint, by the field's type and the hint's octets.
-fn hint_number(k: u64, s: &[u8]) -> u64
+fn hint_value(k: u64, s: &[u8]) -> u64
     requires { ⌜ length (now s) ≤ 10 ⌝ }
-    ensures { λ r. ⌜ r ≡ hintNumber k (now (s .entry)) ⌝ }
+    ensures { λ r. ⌜ r ≡ hintValue k (now (s .entry)) ⌝ }
 {
     if s.len() < 2 {
         return 0;
@@ -125,7 +125,7 @@ fn hint_number(k: u64, s: &[u8]) -> u64
     if k == 9 {
         return numbers::wide(s[1]);
     }
-    tib_field::number(&s[2..])
+    tib_field::uint(&s[2..])
 }
 
 fn real_shown(k: u64, s: &[u8], hint: u64, present: bool) -> Real
@@ -148,7 +148,7 @@ fn shown(message: &[u8], at: usize, z: Sizes) -> Field
     let hint = start + z.contents;
     let end = hint + z.hint;
     let present = tib_msg_field::hinted(z.octet);
-    let number = hint_number(k, &message[hint..end]);
+    let number = hint_value(k, &message[hint..end]);
     Field {
         refusal: 0,
         place: 0,

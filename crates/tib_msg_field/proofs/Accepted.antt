@@ -19,7 +19,7 @@ use Rattle.tib_msg_field.specs.declared.Step.the-variants.{Done, Fault, 
 use Rattle.tib_field.specs.Fields.{Each, joined}
 use Rattle.tib_field.proofs.Fields.{Row}
 use Rattle.tib_field.proofs.Choices.{fails}
-use Rattle.tib_field.proofs.Answers.{not-accepted}
+use Rattle.tib_field.proofs.ReadingLaws.{not-accepted}
 use Rattle.tib_msg_field.specs.Layout.{Parts, octets, Allowed, magic, Whole}
 use Rattle.tib_msg_field.specs.Reading.{nextField, total, partsAt, afterStep, fieldsFrom, reading}
 use Rattle.tib_msg_field.specs.internal.Sizes.{sizes}
@@ -80,7 +80,7 @@ fields-accepted (f ∷ fs) (suc fuel) at a h =
 
 -- What an accepted message has: the tests of its header passed, and fields stand after it.
 pub record Tested (s : List ℕ) (fs : List Parts) : Type 0 where
-  pub short : length s ≤ messageLimit
+  pub withinLimit : length s ≤ messageLimit
   pub header : 9 ≤ length s
   pub marked : begins magic s ≡ true
   pub counted : bigEndian (take 4 (drop 5 s)) ≡ length s - 9
@@ -96,7 +96,7 @@ accepted-tested s fs e =
     let c = fails q (not (begins magic s)) (refused 13 0) _ (not-accepted 13 0 fs) (b .1) in
     let d = fails q (not (eqb (bigEndian (take 4 (drop 5 s))) (n - 9))) (refused 14 0) _ (not-accepted 14 0 fs) (c .1) in
     record {
-      short = ltb-false messageLimit n (a .0);
+      withinLimit = ltb-false messageLimit n (a .0);
       header = ltb-false n 9 (b .0);
       marked = not-false (begins magic s) (c .0);
       counted = eqb-true (bigEndian (take 4 (drop 5 s))) (n - 9) (not-false (eqb (bigEndian (take 4 (drop 5 s))) (n - 9)) (d .0));
@@ -117,7 +117,7 @@ accepted-whole s fs e =
       width = l;
       counted = t .counted ∙ sym m;
       allowed = f .each;
-      short = t .short;
+      withinLimit = t .withinLimit;
     }
 
 pub whole-accepted : (s : List ℕ) (fs : List Parts) → Whole s fs → reading s ≡ accepted fs
@@ -131,7 +131,7 @@ whole-accepted s fs w =
     let d : drop 9 (magic ++ r) ≡ b = drop-at (w .size) b 4 (w .width) in
     let n = length s in
     let z : length s ≡ 9 + length b = ap length (w .divides) ∙ m in
-    let u = w .short in
+    let u = w .withinLimit in
     let e : bigEndian (w .size) ≡ length s - 9 = w .counted ∙ omega arith in
     let p : begins magic s ≡ true = rw (w .divides) (mark-begins magic r) in
     let q : take 4 (drop 5 s) ≡ w .size = rw (w .divides) t in

@@ -14,7 +14,7 @@ use Rattle.reading.specs.Reading.{Reading, accepted, refused, onAccepted, messa
 use Rattle.tib_field.specs.Mark.{begins}
 use Rattle.tib_field.specs.Fields.{Each, joined}
 use Rattle.tib_field.proofs.Marks.{mark-begins, begins-mark}
-use Rattle.tib_field.proofs.Answers as answers
+use Rattle.tib_field.proofs.ReadingLaws as reading-laws
 use Rattle.tib_msg_field.specs.declared.Sizes.{Sizes}
 use Rattle.tib_msg_field.specs.declared.Step.{Step}
 use Rattle.tib_msg_field.specs.declared.Step.the-variants.{Done, Fault, Over}
@@ -206,8 +206,8 @@ refused-exactly s k p = (λ e. subst (Told s) e (reading-told s), fault-refused 
 
 -- It has at most one,
 pub first-fault-unique : (s : List ℕ) (k p j q : ℕ) → FirstFault s k p → FirstFault s j q → (k ≡ j) × (p ≡ q)
-first-fault-unique s = answers.fault-unique (reading s) (FirstFault s) (refused-exactly s)
+first-fault-unique s = reading-laws.fault-unique (reading s) (FirstFault s) (refused-exactly s)
 
 -- and one exactly where it is not whole.
 pub fault-exactly : (s : List ℕ) → ((k : ℕ) × (p : ℕ) × FirstFault s k p) ↔ (((fs : List Parts) × Whole s fs) → ⊥)
-fault-exactly s = answers.fault-exactly (reading s) (FirstFault s) (refused-exactly s) (Whole s) (accepted-exactly s)
+fault-exactly s = reading-laws.fault-exactly (reading s) (FirstFault s) (refused-exactly s) (Whole s) (accepted-exactly s)

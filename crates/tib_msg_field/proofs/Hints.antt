@@ -9,10 +9,10 @@ use lib.Seq.{length-take-le}
 use lib.Dec.{T, eqb, leb, ltb}
 use borrow.Author.Tests.{leb-true, le-leb, eqb-true, eqb-false, eq-eqb, ne-eqb, ltb-false, le-ltb}
 use Rattle.tib_field.proofs.Choices.{both}
-use Rattle.tib_msg_field.specs.declared.HintPart.{HintPart}
-use Rattle.tib_msg_field.specs.declared.HintPart.the-variants.{Fault as HintFault, Size}
+use Rattle.tib_msg_field.specs.declared.HintStep.{HintStep}
+use Rattle.tib_msg_field.specs.declared.HintStep.the-variants.{Fault as HintFault, Size}
 use Rattle.tib_msg_field.specs.Layout.{kind, hinted, isWidth, Hint, none, array, partial, value}
-use Rattle.tib_msg_field.specs.Reading.{typeAllowed, arrayHint, partialHint, valueHint, hintFront, hintAt}
+use Rattle.tib_msg_field.specs.Reading.{typeAllowed, arrayHint, partialHint, valueHint, readHint, hintAt}
 
 pub is-true : (t : Bool) → t ≡ true → T t
 is-true t e = subst T (sym e) tt
@@ -75,11 +75,11 @@ pub record HintFound (kind size : ℕ) (present : Bool) (s : List ℕ) (h : ℕ)
   pub sized : length hint ≡ h
   pub allowed : Hint kind size present hint
 
-passes : (t : Bool) (p : HintPart) (k h : ℕ) → cond t p (HintFault k) ≡ Size h → (t ≡ true) × (p ≡ Size h)
+passes : (t : Bool) (p : HintStep) (k h : ℕ) → cond t p (HintFault k) ≡ Size h → (t ≡ true) × (p ≡ Size h)
 passes true p k h e = (refl, e)
 passes false p k h e = let z : _≡_ {A = ℕ} 0 1 = cc in absurd (omega arith)
 
-fails : (t : Bool) (p : HintPart) (k h : ℕ) → cond t (HintFault k) p ≡ Size h → (t ≡ false) × (p ≡ Size h)
+fails : (t : Bool) (p : HintStep) (k h : ℕ) → cond t (HintFault k) p ≡ Size h → (t ≡ false) × (p ≡ Size h)
 fails true p k h e = let z : _≡_ {A = ℕ} 0 1 = cc in absurd (omega arith)
 fails false p k h e = (refl, e)
 
@@ -132,8 +132,8 @@ module _ (kind size t n : ℕ) (s : List ℕ) (h : ℕ) where
         allowed = rw l at w;
       }
 
-front-found : (kind size : ℕ) (s : List ℕ) (h : ℕ) → hintFront kind size s ≡ Size h → HintFound kind size true s h
-unfolding hintFront
+front-found : (kind size : ℕ) (s : List ℕ) (h : ℕ) → readHint kind size s ≡ Size h → HintFound kind size true s h
+unfolding readHint
 front-found kind size [] h e = let z : _≡_ {A = ℕ} 0 1 = cc in absurd (omega arith)
 front-found kind size (t ∷ []) h e = let z : _≡_ {A = ℕ} 0 1 = cc in absurd (omega arith)
 front-found kind size (t ∷ n ∷ s) h e = go (eqb kind 8) refl (eqb kind 9) refl e
@@ -148,15 +148,15 @@ pub hint-found : (c size : ℕ) (s : List ℕ) (h : ℕ) → GoodType c → hint
 unfolding hintAt
 hint-found c size s h g e = go (hinted c) refl e
   where
-    go : (t : Bool) → hinted c ≡ t → cond t (hintFront (kind c) size s) (Size 0) ≡ Size h → HintFound (kind c) size t s h
+    go : (t : Bool) → hinted c ≡ t → cond t (readHint (kind c) size s) (Size 0) ≡ Size h → HintFound (kind c) size t s h
     go true f w = front-found (kind c) size s h w
     go false f w =
         let m : 0 ≡ h = cc in
         record { hint = []; rest = s; divides = refl; sized = m; allowed = none (g .array f) (g .partial f) }
 
 -- A hint that the layout allows is what the reading finds.
-pub front-of-hint : (kind size : ℕ) (hint rest : List ℕ) → Hint kind size true hint → hintFront kind size (hint ++ rest) ≡ Size (length hint)
-unfolding hintFront arrayHint partialHint valueHint
+pub front-of-hint : (kind size : ℕ) (hint rest : List ℕ) → Hint kind size true hint → readHint kind size (hint ++ rest) ≡ Size (length hint)
+unfolding readHint arrayHint partialHint valueHint
 front-of-hint kind size hint rest (array t n k a b w d) =
     rw (eq-eqb kind 8 k, le-leb 4 t a, le-leb t 7 b, true-is (isWidth n) w, eq-eqb (size % n) 0 d)
 front-of-hint kind size hint rest (partial n k) =
@@ -171,7 +171,7 @@ pub hint-of : (c size : ℕ) (hint rest : List ℕ) → Hint (kind c) size (hint
 unfolding hintAt
 hint-of c size hint rest h = go (hinted c) hint h
   where
-    go : (t : Bool) (hint : List ℕ) → Hint (kind c) size t hint → cond t (hintFront (kind c) size (hint ++ rest)) (Size 0) ≡ Size (length hint)
+    go : (t : Bool) (hint : List ℕ) → Hint (kind c) size t hint → cond t (readHint (kind c) size (hint ++ rest)) (Size 0) ≡ Size (length hint)
     go true hint w = front-of-hint (kind c) size hint rest w
     go false hint (none j k) = refl
 

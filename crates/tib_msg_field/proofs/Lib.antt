@@ -2,6 +2,6 @@ pub mod Hints
 pub mod Steps
 pub mod WrongFields
 pub mod Accepted
-pub mod Fronts
+pub mod StepTests
 pub mod FirstFault
 pub mod Refusals

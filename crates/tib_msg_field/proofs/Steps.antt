@@ -8,13 +8,13 @@ use lib.Seq.{take-at, drop-at, length-take-le}
 use lib.Dec.{ltb}
 use borrow.Author.Tests.{ltb-false, le-ltb}
 use Rattle.octets.specs.Number.{bigEndian}
-use Rattle.tib_field.specs.Name.{Name, nameFront, afterName}
+use Rattle.tib_field.specs.Name.{Name, nameStep, afterName}
 use Rattle.tib_field.proofs.Choices.{passes, fails}
-use Rattle.tib_field.proofs.Fronts.{next-of-name, name-found}
+use Rattle.tib_field.proofs.NameSteps.{next-of-name, name-found}
 use Rattle.tib_msg_field.specs.declared.Sizes.{Sizes}
 use Rattle.tib_msg_field.specs.declared.Step.the-variants.{Done, Fault, Over}
-use Rattle.tib_msg_field.specs.declared.HintPart.{HintPart}
-use Rattle.tib_msg_field.specs.declared.HintPart.the-variants.{Fault as HintFault, Size}
+use Rattle.tib_msg_field.specs.declared.HintStep.{HintStep}
+use Rattle.tib_msg_field.specs.declared.HintStep.the-variants.{Fault as HintFault, Size}
 use Rattle.tib_msg_field.specs.Layout.{kind, sizeWidth, sizeAllowed, Parts, octets, Allowed}
 use Rattle.tib_msg_field.specs.Reading.{typeAllowed, hintAt, withHint, fromData, fromSize, fromType, nextField, total, partsAt}
 use Rattle.tib_msg_field.specs.internal.Sizes.{sizes}
@@ -38,7 +38,7 @@ fault-not-over : (k : ℕ) (z : Sizes) → Fault k ≡ Over z → ⊥
 fault-not-over k z e = let y : _≡_ {A = ℕ} 0 1 = cc in absurd (omega arith)
 
 -- A step over a field had a hint of some size.
-over-hint : (n c w l : ℕ) (p : HintPart) (z : Sizes) → withHint n c w l p ≡ Over z
+over-hint : (n c w l : ℕ) (p : HintStep) (z : Sizes) → withHint n c w l p ≡ Over z
     → (h : ℕ) × (p ≡ Size h) × (record { name = n; octet = c; width = w; contents = l; hint = h } ≡ z)
 unfolding withHint
 over-hint n c w l (HintFault k) z e = let y : _≡_ {A = ℕ} 0 1 = cc in absurd (omega arith)
@@ -109,7 +109,7 @@ step-of-field f rest a =
     )
 
 pub step-of-end : nextField [] ≡ Done
-unfolding nextField afterName nameFront
+unfolding nextField afterName nameStep
 step-of-end = refl
 
 pub length-octets : (f : Parts) → length (octets f) ≡ total (sizes f)

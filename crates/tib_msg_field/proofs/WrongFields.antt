@@ -10,31 +10,31 @@ use lib.Dec.{eqb, leb, ltb}
 use borrow.Author.Tests.{leb-true, eqb-true, eqb-false, ltb-true, ltb-false, lt-ltb, le-ltb}
 use Rattle.octets.specs.Number.{bigEndian}
 use Rattle.tib_field.proofs.Choices.{both}
-use Rattle.tib_field.proofs.Fronts.{next-done}
+use Rattle.tib_field.proofs.NameSteps.{next-done}
 use Rattle.tib_field.proofs.WrongNames.{name-told, name-wrong}
 use Rattle.tib_msg_field.specs.declared.Step.{Step}
 use Rattle.tib_msg_field.specs.declared.Step.the-variants.{Done, Fault, Over}
-use Rattle.tib_msg_field.specs.declared.HintPart.{HintPart}
-use Rattle.tib_msg_field.specs.declared.HintPart.the-variants.{Fault as HintFault, Size}
+use Rattle.tib_msg_field.specs.declared.HintStep.{HintStep}
+use Rattle.tib_msg_field.specs.declared.HintStep.the-variants.{Fault as HintFault, Size}
 use Rattle.tib_msg_field.specs.Layout as layouts
 use Rattle.tib_msg_field.specs.Layout.{kind, hinted, sizeWidth, isWidth, sizeAllowed, Hint}
 use Rattle.tib_msg_field.specs.FirstFault as faults
 use Rattle.tib_msg_field.specs.FirstFault.{TypeOctet, WrongHint, WrongData, WrongSize, WrongType, WrongField}
-use Rattle.tib_msg_field.specs.Reading.{typeAllowed, arrayHint, partialHint, valueHint, hintFront, hintAt, withHint, fromData, fromSize, fromType, nextField}
+use Rattle.tib_msg_field.specs.Reading.{typeAllowed, arrayHint, partialHint, valueHint, readHint, hintAt, withHint, fromData, fromSize, fromType, nextField}
 use Rattle.tib_msg_field.proofs.Hints.{is-true, true-is, good-type, type-good, front-of-hint}
 
 -- ---- hints
 
 -- What the first two octets of a hint come to: no hint begins with them; they are one; or a value of n octets has to follow.
 data Two (kind size t n : ℕ) : Type 0 where
-  none : ((s : List ℕ) → hintFront kind size (t ∷ n ∷ s) ≡ HintFault 16) → Two kind size t n
-  whole : ((s : List ℕ) → hintFront kind size (t ∷ n ∷ s) ≡ Size 2) → Hint kind size true (t ∷ n ∷ []) → Two kind size t n
-  valued : ((s : List ℕ) → hintFront kind size (t ∷ n ∷ s) ≡ cond (ltb (length s) n) (HintFault 3) (Size (2 + n)))
+  none : ((s : List ℕ) → readHint kind size (t ∷ n ∷ s) ≡ HintFault 16) → Two kind size t n
+  whole : ((s : List ℕ) → readHint kind size (t ∷ n ∷ s) ≡ Size 2) → Hint kind size true (t ∷ n ∷ []) → Two kind size t n
+  valued : ((s : List ℕ) → readHint kind size (t ∷ n ∷ s) ≡ cond (ltb (length s) n) (HintFault 3) (Size (2 + n)))
       → ((s : List ℕ) → length s ≡ n → Hint kind size true (t ∷ n ∷ s)) → Two kind size t n
 
 module _ (kind size t n : ℕ) where
   two : Two kind size t n
-  unfolding hintFront arrayHint partialHint valueHint
+  unfolding readHint arrayHint partialHint valueHint
   two = go (eqb kind 8) refl (eqb kind 9) refl
     where
       array : eqb kind 8 ≡ true → (a : Bool) → ((leb 4 t && leb t 7) && (isWidth n && eqb (size % n) 0)) ≡ a → Two kind size t n
@@ -67,17 +67,17 @@ module _ (kind size t n : ℕ) where
       go false e false f = value e f ((leb 5 t && leb t 6) && isWidth n) refl
 
   -- A hint is read to its end.
-  hint-read : (s : List ℕ) → Hint kind size true (t ∷ n ∷ s) → (r : List ℕ) → hintFront kind size (t ∷ n ∷ (s ++ r)) ≡ Size (2 + length s)
+  hint-read : (s : List ℕ) → Hint kind size true (t ∷ n ∷ s) → (r : List ℕ) → readHint kind size (t ∷ n ∷ (s ++ r)) ≡ Size (2 + length s)
   hint-read s h r = front-of-hint kind size (t ∷ n ∷ s) r h ∙ ap Size (omega arith)
 
-HintTold : ℕ → ℕ → List ℕ → HintPart → Type 0
+HintTold : ℕ → ℕ → List ℕ → HintStep → Type 0
 HintTold kind size s (HintFault k) = WrongHint kind size k s
 HintTold kind size s (Size h) = Unit {0}
 
-front-told : (kind size : ℕ) (s : List ℕ) → HintTold kind size s (hintFront kind size s)
+front-told : (kind size : ℕ) (s : List ℕ) → HintTold kind size s (readHint kind size s)
 unfolding HintTold
-front-told kind size [] = unfold hintFront in faults.cut [] (omega arith)
-front-told kind size (t ∷ []) = unfold hintFront in faults.cut (t ∷ []) (omega arith)
+front-told kind size [] = unfold readHint in faults.cut [] (omega arith)
+front-told kind size (t ∷ []) = unfold readHint in faults.cut (t ∷ []) (omega arith)
 front-told kind size (t ∷ n ∷ s) = go (two kind size t n)
   where
     cutOff : ((r : List ℕ) → length r ≡ n → Hint kind size true (t ∷ n ∷ r)) → (a : Bool) → ltb (length s) n ≡ a
@@ -90,20 +90,20 @@ front-told kind size (t ∷ n ∷ s) = go (two kind size t n)
         let l : length (s ++ more) ≡ n = length-append s more ∙ omega arith in
         faults.valueCut t n s more (omega arith) (g (s ++ more) l)
 
-    go : Two kind size t n → HintTold kind size (t ∷ n ∷ s) (hintFront kind size (t ∷ n ∷ s))
+    go : Two kind size t n → HintTold kind size (t ∷ n ∷ s) (readHint kind size (t ∷ n ∷ s))
     go (none f) =
         rw (f s)
         (faults.bad t n s (λ more h. let a = f (more ++ []) in let b = hint-read kind size t n more h [] in let z : _≡_ {A = ℕ} 0 1 = cc in absurd (omega arith)))
     go (whole f h) = rw (f s) tt
     go (valued f g) = rw (f s) (cutOff g (ltb (length s) n) refl)
 
-wrong-front : (kind size k : ℕ) (s : List ℕ) → WrongHint kind size k s → hintFront kind size s ≡ HintFault k
-wrong-front kind size k s (faults.cut [] h) = unfold hintFront in refl
-wrong-front kind size k s (faults.cut (t ∷ []) h) = unfold hintFront in refl
+wrong-front : (kind size k : ℕ) (s : List ℕ) → WrongHint kind size k s → readHint kind size s ≡ HintFault k
+wrong-front kind size k s (faults.cut [] h) = unfold readHint in refl
+wrong-front kind size k s (faults.cut (t ∷ []) h) = unfold readHint in refl
 wrong-front kind size k s (faults.cut (t ∷ n ∷ r) h) = absurd (omega arith)
 wrong-front kind size k s (faults.bad t n r never) = go (two kind size t n)
   where
-    go : Two kind size t n → hintFront kind size (t ∷ n ∷ r) ≡ HintFault 16
+    go : Two kind size t n → readHint kind size (t ∷ n ∷ r) ≡ HintFault 16
     go (none f) = f r
     go (whole f h) = absurd (never [] h)
     go (valued f g) = absurd (never (replicate n 0) (g (replicate n 0) (length-replicate n 0)))
@@ -112,14 +112,14 @@ wrong-front kind size k s (faults.valueCut t n r more h g) = go (two kind size t
     l : length (r ++ more) ≡ length r + length more
     l = length-append r more
 
-    q : hintFront kind size (t ∷ n ∷ (r ++ more ++ [])) ≡ Size (2 + length (r ++ more))
+    q : readHint kind size (t ∷ n ∷ (r ++ more ++ [])) ≡ Size (2 + length (r ++ more))
     q = hint-read kind size t n (r ++ more) g []
 
     small : (a : Bool) → cond a (HintFault 3) (Size (2 + n)) ≡ Size (2 + length (r ++ more)) → length r < n
     small true e = let z : _≡_ {A = ℕ} 0 1 = cc in absurd (omega arith)
     small false e = let x = l in let y : 2 + n ≡ 2 + length (r ++ more) = cc in omega arith
 
-    go : Two kind size t n → hintFront kind size (t ∷ n ∷ r) ≡ HintFault 3
+    go : Two kind size t n → readHint kind size (t ∷ n ∷ r) ≡ HintFault 3
     go (none f) = let a = f (r ++ more ++ []) in let b = q in let z : _≡_ {A = ℕ} 0 1 = cc in absurd (omega arith)
     go (whole f w) = let a = f (r ++ more ++ []) in let b = q in let x = l in let z : 2 ≡ 2 + length (r ++ more) = cc in absurd (omega arith)
     go (valued f w) = f r ∙ rw (lt-ltb (length r) n (small (ltb (length (r ++ more ++ [])) n) (sym (f (r ++ more ++ [])) ∙ q)))
@@ -138,7 +138,7 @@ told-map P Q f Done h = h
 told-map P Q f (Fault k) h = f k h
 told-map P Q f (Over z) h = tt
 
-hint-told : (n c w l : ℕ) (s : List ℕ) → hinted c ≡ true → (p : HintPart) → HintTold (kind c) l s p
+hint-told : (n c w l : ℕ) (s : List ℕ) → hinted c ≡ true → (p : HintStep) → HintTold (kind c) l s p
     → StepTold (λ (k : ℕ). WrongHint (kind c) l k s) (withHint n c w l p)
 unfolding StepTold HintTold withHint
 hint-told n c w l s e (HintFault k) h = h
@@ -149,16 +149,16 @@ unfolding StepTold fromData hintAt
 data-told n c w l s = go (ltb (length s) l) refl
   where
     hint : length (take l s) ≡ l → (t : Bool) → hinted c ≡ t
-        → StepTold (λ (k : ℕ). WrongData c l k s) (withHint n c w l (cond t (hintFront (kind c) l (drop l s)) (Size 0)))
+        → StepTold (λ (k : ℕ). WrongData c l k s) (withHint n c w l (cond t (readHint (kind c) l (drop l s)) (Size 0)))
     hint e false f = unfold withHint in tt
     hint e true f =
         told-map (λ (k : ℕ). WrongHint (kind c) l k (drop l s)) (λ (k : ℕ). WrongData c l k s)
         (λ k h. subst (WrongData c l k) (take-append-drop l s) (faults.hint k (take l s) (drop l s) e f h))
-        (withHint n c w l (hintFront (kind c) l (drop l s)))
-        (hint-told n c w l (drop l s) f (hintFront (kind c) l (drop l s)) (front-told (kind c) l (drop l s)))
+        (withHint n c w l (readHint (kind c) l (drop l s)))
+        (hint-told n c w l (drop l s) f (readHint (kind c) l (drop l s)) (front-told (kind c) l (drop l s)))
 
     go : (t : Bool) → ltb (length s) l ≡ t
-        → StepTold (λ (k : ℕ). WrongData c l k s) (cond t (Fault 4) (withHint n c w l (cond (hinted c) (hintFront (kind c) l (drop l s)) (Size 0))))
+        → StepTold (λ (k : ℕ). WrongData c l k s) (cond t (Fault 4) (withHint n c w l (cond (hinted c) (readHint (kind c) l (drop l s)) (Size 0))))
     go true e = faults.cut s (ltb-true (length s) l e)
     go false e = hint (length-take-le l s (ltb-false (length s) l e)) (hinted c) refl
 

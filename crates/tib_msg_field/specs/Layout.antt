@@ -71,4 +71,4 @@ pub record Whole (s : List ℕ) (fs : List Parts) : Type 0 where
   pub width : length size ≡ 4
   pub counted : bigEndian size ≡ length (joined octets fs)
   pub allowed : Each Allowed fs
-  pub short : length s ≤ messageLimit
+  pub withinLimit : length s ≤ messageLimit

@@ -9,12 +9,12 @@ use Rattle.octets.specs.Number.{bigEndian}
 use Rattle.reading.specs.Reading.{Reading, accepted, refused, onAccepted, messageLimit}
 use Rattle.reading.specs.Refusals as refusals
 use Rattle.tib_field.specs.Mark.{begins}
-use Rattle.tib_field.specs.Name.{nameFront, afterName}
+use Rattle.tib_field.specs.Name.{nameStep, afterName}
 use Rattle.tib_msg_field.specs.declared.Sizes.{Sizes}
 use Rattle.tib_msg_field.specs.declared.Step.{Step}
 use Rattle.tib_msg_field.specs.declared.Step.the-variants.{Done, Fault, Over}
-use Rattle.tib_msg_field.specs.declared.HintPart.{HintPart}
-use Rattle.tib_msg_field.specs.declared.HintPart.the-variants.{Fault as HintFault, Size}
+use Rattle.tib_msg_field.specs.declared.HintStep.{HintStep}
+use Rattle.tib_msg_field.specs.declared.HintStep.the-variants.{Fault as HintFault, Size}
 use Rattle.tib_msg_field.specs.Layout.{kind, hinted, sizeWidth, isWidth, sizeAllowed, Parts, magic}
 
 -- A type octet: two bits clear, a type that there is, and a hint for an array or a partial.
@@ -22,30 +22,30 @@ unfoldable pub typeAllowed : ℕ → Bool
 typeAllowed c = eqb (c / 16 % 4) 0 && (leb (kind c) 10 && (hinted c || not (eqb (kind c) 8 || eqb (kind c) 9)))
 
 -- The hint of an array of this many octets, by its first two octets, the elements' type and size.
-unfoldable pub arrayHint : ℕ → ℕ → ℕ → HintPart
+unfoldable pub arrayHint : ℕ → ℕ → ℕ → HintStep
 arrayHint size t n = cond ((leb 4 t && leb t 7) && (isWidth n && eqb (size % n) 0)) (Size 2) (HintFault refusals.typeSizeOrHint)
 
 -- The hint of a partial, by its first octet.
-unfoldable pub partialHint : ℕ → HintPart
+unfoldable pub partialHint : ℕ → HintStep
 partialHint t = cond (eqb t 6) (Size 2) (HintFault refusals.typeSizeOrHint)
 
 -- Any other hint, by its first two octets, its type and size, and how many octets follow these.
-unfoldable pub valueHint : ℕ → ℕ → ℕ → HintPart
+unfoldable pub valueHint : ℕ → ℕ → ℕ → HintStep
 valueHint t n remaining = cond ((leb 5 t && leb t 6) && isWidth n) (cond (ltb remaining n) (HintFault refusals.cut) (Size (2 + n))) (HintFault refusals.typeSizeOrHint)
 
 -- The hint at the front of octets, by the field's type and the size of its data.
-unfoldable pub hintFront : ℕ → ℕ → List ℕ → HintPart
-hintFront kind size [] = HintFault refusals.cut
-hintFront kind size (t ∷ []) = HintFault refusals.cut
-hintFront kind size (t ∷ n ∷ s) =
+unfoldable pub readHint : ℕ → ℕ → List ℕ → HintStep
+readHint kind size [] = HintFault refusals.cut
+readHint kind size (t ∷ []) = HintFault refusals.cut
+readHint kind size (t ∷ n ∷ s) =
     cond (eqb kind 8) (arrayHint size t n) (cond (eqb kind 9) (partialHint t) (valueHint t n (length s)))
 
 -- The hint after the data, where the type octet says that there is one.
-unfoldable pub hintAt : ℕ → ℕ → List ℕ → HintPart
-hintAt c size s = cond (hinted c) (hintFront (kind c) size s) (Size 0)
+unfoldable pub hintAt : ℕ → ℕ → List ℕ → HintStep
+hintAt c size s = cond (hinted c) (readHint (kind c) size s) (Size 0)
 
 -- The field of which all but the hint is read.
-unfoldable pub withHint : ℕ → ℕ → ℕ → ℕ → HintPart → Step
+unfoldable pub withHint : ℕ → ℕ → ℕ → ℕ → HintStep → Step
 withHint n c w l (HintFault k) = Fault k
 withHint n c w l (Size h) = Over (record { name = n; octet = c; width = w; contents = l; hint = h })
 
@@ -66,7 +66,7 @@ fromType n (c ∷ s) = cond (typeAllowed c) (fromSize n c (sizeWidth c) s) (Faul
 
 -- What stands at the front of octets: their end, a fault, or a field.
 unfoldable pub nextField : List ℕ → Step
-nextField s = afterName Done Fault fromType s (nameFront s)
+nextField s = afterName Done Fault fromType s (nameStep s)
 
 -- How many octets a field takes: two more than these parts, for the name's size and the type.
 unfoldable pub total : Sizes → ℕ

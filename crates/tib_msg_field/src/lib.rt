@@ -4,7 +4,7 @@ ghost use mathlib.Core.Path.{_≡_};
 ghost use Prim.Native.Nat.{_/_, _%_};
 ghost use lib.Dec.{eqb};
 ghost use Rattle.tib_msg_field.specs.Layout.{kind as kind-of, hinted as hinted-of, sizeWidth, isWidth, sizeAllowed};
-ghost use Rattle.tib_msg_field.specs.Reading.{typeAllowed, arrayHint, partialHint, valueHint, hintFront, hintAt, fromData, fromSize, fromType, nextField};
+ghost use Rattle.tib_msg_field.specs.Reading.{typeAllowed, arrayHint, partialHint, valueHint, readHint, hintAt, fromData, fromSize, fromType, nextField};
 
 // The sizes of the parts of a field, and its type octet.
 pub struct Sizes {
@@ -23,7 +23,7 @@ pub enum Step {
 }
 
 // The hint of a field: it is refused with a number, or takes this many octets.
-enum HintPart {
+enum HintStep {
     Fault(u64),
     Size(usize),
 }
@@ -105,59 +105,59 @@ fn size_allowed(k: u64, n: u64) -> bool
     true
 }
 
-fn array_hint(size: u64, t: u64, n: u64) -> HintPart
+fn array_hint(size: u64, t: u64, n: u64) -> HintStep
     ensures { λ r. ⌜ r ≡ arrayHint size t n ⌝ }
 {
     if t < 4 {
-        return HintPart::Fault(reading::TYPE_SIZE_OR_HINT);
+        return HintStep::Fault(reading::TYPE_SIZE_OR_HINT);
     }
     if 7 < t {
-        return HintPart::Fault(reading::TYPE_SIZE_OR_HINT);
+        return HintStep::Fault(reading::TYPE_SIZE_OR_HINT);
     }
     if !is_width(n) {
-        return HintPart::Fault(reading::TYPE_SIZE_OR_HINT);
+        return HintStep::Fault(reading::TYPE_SIZE_OR_HINT);
     }
     if size % n != 0 {
-        return HintPart::Fault(reading::TYPE_SIZE_OR_HINT);
+        return HintStep::Fault(reading::TYPE_SIZE_OR_HINT);
     }
-    HintPart::Size(2)
+    HintStep::Size(2)
 }
 
-fn partial_hint(t: u64) -> HintPart
+fn partial_hint(t: u64) -> HintStep
     ensures { λ r. ⌜ r ≡ partialHint t ⌝ }
 {
     if t == 6 {
-        HintPart::Size(2)
+        HintStep::Size(2)
     } else {
-        HintPart::Fault(reading::TYPE_SIZE_OR_HINT)
+        HintStep::Fault(reading::TYPE_SIZE_OR_HINT)
     }
 }
 
 // The octets of the value are counted only once the two before them are good.
-fn value_hint(t: u64, n: u64, remaining: usize) -> HintPart
+fn value_hint(t: u64, n: u64, remaining: usize) -> HintStep
     ensures { λ r. ⌜ r ≡ valueHint t n remaining ⌝ }
 {
     if t < 5 {
-        return HintPart::Fault(reading::TYPE_SIZE_OR_HINT);
+        return HintStep::Fault(reading::TYPE_SIZE_OR_HINT);
     }
     if 6 < t {
-        return HintPart::Fault(reading::TYPE_SIZE_OR_HINT);
+        return HintStep::Fault(reading::TYPE_SIZE_OR_HINT);
     }
     if !is_width(n) {
-        return HintPart::Fault(reading::TYPE_SIZE_OR_HINT);
+        return HintStep::Fault(reading::TYPE_SIZE_OR_HINT);
     }
     if (remaining as u64) < n {
-        return HintPart::Fault(reading::CUT);
+        return HintStep::Fault(reading::CUT);
     }
-    HintPart::Size(2 + (n as usize))
+    HintStep::Size(2 + (n as usize))
 }
 
 // The hint at the front of octets, by the field's type and the size of its data.
-fn hint_front(k: u64, size: u64, s: &[u8]) -> HintPart
-    ensures { λ r. ⌜ r ≡ hintFront k size (now (s .entry)) ⌝ }
+fn read_hint(k: u64, size: u64, s: &[u8]) -> HintStep
+    ensures { λ r. ⌜ r ≡ readHint k size (now (s .entry)) ⌝ }
 {
     if s.len() < 2 {
-        return HintPart::Fault(reading::CUT);
+        return HintStep::Fault(reading::CUT);
     }
     let t = numbers::wide(s[0]);
     let n = numbers::wide(s[1]);
@@ -170,13 +170,13 @@ fn hint_front(k: u64, size: u64, s: &[u8]) -> HintPart
     value_hint(t, n, s.len() - 2)
 }
 
-fn hint_at(c: u8, size: u64, s: &[u8]) -> HintPart
+fn hint_at(c: u8, size: u64, s: &[u8]) -> HintStep
     ensures { λ r. ⌜ r ≡ hintAt c size (now (s .entry)) ⌝ }
 {
     if hinted(c) {
-        hint_front(kind(c), size, s)
+        read_hint(kind(c), size, s)
     } else {
-        HintPart::Size(0)
+        HintStep::Size(0)
     }
 }
 
@@ -189,8 +189,8 @@ fn from_data(n: usize, c: u8, w: usize, l: u64, s: &[u8]) -> Step
     }
     let d = l as usize;
     match hint_at(c, l, &s[d..]) {
-        HintPart::Fault(k) => Step::Fault(k),
-        HintPart::Size(h) => Step::Over(Sizes {
+        HintStep::Fault(k) => Step::Fault(k),
+        HintStep::Size(h) => Step::Over(Sizes {
             name: n,
             octet: c,
             width: w,
@@ -208,7 +208,7 @@ fn from_size(n: usize, c: u8, s: &[u8]) -> Step
     if s.len() < w {
         return Step::Fault(reading::CUT);
     }
-    let l = tib_field::number(&s[0..w]);
+    let l = tib_field::uint(&s[0..w]);
     if size_allowed(kind(c), l) {
         from_data(n, c, w, l, &s[w..])
     } else {

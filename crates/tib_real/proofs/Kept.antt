@@ -14,7 +14,7 @@ use borrow.Author.Tests.{ltb-true, ltb-false, ne-eqb, lt-ltb}
 use Rattle.tib_real.specs.Parts.{four, eight, negative, exponent, fraction, finite, significand, units}
 use Rattle.tib_real.specs.Widened.{widened}
 use Rattle.tib_real.proofs.Meaning.{four-units, eight-units, four-no-number, eight-no-number}
-use Rattle.tib_real.proofs.Widening.{four-bounds, together-exponent, together-fraction, together-negative, together-below, Widens, no-number, number, widens}
+use Rattle.tib_real.proofs.Widening.{four-bounds, packed-exponent, packed-fraction, packed-negative, packed-below, Widens, no-number, number, widens}
 
 -- ---- in whole numbers
 
@@ -22,8 +22,8 @@ pub sign-kept : (b : ℕ) → negative eight (widened b) ≡ negative four b
 sign-kept b = go (widens b)
   where
     go : Widens b → negative eight (widened b) ≡ negative four b
-    go (no-number e w) = let l = four-bounds b in rw w (together-negative (negative four b) 2047 (fraction four b * 2 ^ 29) (omega arith) (omega arith))
-    go (number x t f hx ht w s) = rw w (together-negative (negative four b) x t (omega arith) ht)
+    go (no-number e w) = let l = four-bounds b in rw w (packed-negative (negative four b) 2047 (fraction four b * 2 ^ 29) (omega arith) (omega arith))
+    go (number x t f hx ht w s) = rw w (packed-negative (negative four b) x t (omega arith) ht)
 
 -- Both sizes are whole numbers over a power of two, 2 ^ 149 and 2 ^ 1074: multiplied out they are the same.
 pub size-kept : (b : ℕ) → finite four b ≡ true → (finite eight (widened b) ≡ true) × (units eight (widened b) ≡ units four b * 2 ^ 925)
@@ -32,7 +32,7 @@ size-kept b h = go (widens b)
   where
     go : Widens b → (ltb (exponent eight (widened b)) 2047 ≡ true) × (cond (eqb (exponent eight (widened b)) 0) (fraction eight (widened b)) (2 ^ 52 + fraction eight (widened b)) * 2 ^ (exponent eight (widened b) - 1) ≡ units four b * 2 ^ 925)
     go (no-number e w) = let l = ltb-true (exponent four b) 255 h in absurd (omega arith)
-    go (number x t f hx ht w s) = rw (w, together-exponent (negative four b) x t (omega arith) ht, together-fraction (negative four b) x t (omega arith) ht) (lt-ltb x 2047 hx, s)
+    go (number x t f hx ht w s) = rw (w, packed-exponent (negative four b) x t (omega arith) ht, packed-fraction (negative four b) x t (omega arith) ht) (lt-ltb x 2047 hx, s)
 
 -- Of an infinity and a not-a-number.
 pub fraction-kept : (b : ℕ) → finite four b ≡ false → (exponent eight (widened b) ≡ 2047) × (fraction eight (widened b) ≡ fraction four b * 2 ^ 29)
@@ -43,15 +43,15 @@ fraction-kept b h = go (widens b)
     go (no-number e w) =
         let l = four-bounds b in
         let s = negative four b in
-        rw w (together-exponent s 2047 (fraction four b * 2 ^ 29) (omega arith) (omega arith), together-fraction s 2047 (fraction four b * 2 ^ 29) (omega arith) (omega arith))
+        rw w (packed-exponent s 2047 (fraction four b * 2 ^ 29) (omega arith) (omega arith), packed-fraction s 2047 (fraction four b * 2 ^ 29) (omega arith) (omega arith))
     go (number x t f hx ht w s) = let l = ltb-false (exponent four b) 255 h in absurd (omega arith)
 
 pub widened-below : (b : ℕ) → widened b < 2 ^ 64
 widened-below b = go (widens b)
   where
     go : Widens b → widened b < 2 ^ 64
-    go (no-number e w) = let l = four-bounds b in rw w (together-below (negative four b) 2047 (fraction four b * 2 ^ 29) (omega arith) (omega arith))
-    go (number x t f hx ht w s) = rw w (together-below (negative four b) x t (omega arith) ht)
+    go (no-number e w) = let l = four-bounds b in rw w (packed-below (negative four b) 2047 (fraction four b * 2 ^ 29) (omega arith) (omega arith))
+    go (number x t f hx ht w s) = rw w (packed-below (negative four b) x t (omega arith) ht)
 
 -- ---- as the logic reads bits
 

@@ -11,7 +11,7 @@ use lib.Ieee.Bits.{nanBits-is, nanBits-above, ofBits-fits}
 use lib.Ieee.Fits.{and-i, fits-widens}
 use borrow.Author.Tests.{ne-eqb, lt-ltb, le-ltb, leb-true, leb-false}
 use Rattle.tib_real.specs.Parts.{four, eight, negative, exponent, fraction}
-use Rattle.tib_real.specs.Widened.{together, widened}
+use Rattle.tib_real.specs.Widened.{packed, widened}
 use Rattle.tib_real.proofs.Flags.{not-false}
 use Rattle.tib_real.proofs.Widening.{widened-no-number}
 
@@ -74,8 +74,8 @@ sign-bit b h = go (leb (2 ^ 31) b) refl
     go true e = let k = leb-true (2 ^ 31) b e in omega arith
     go false e = let k = leb-false (2 ^ 31) b e in omega arith
 
-moved-is : (b : ℕ) → b < 2 ^ 32 → moved b ≡ together (negative four b) 2047 (fraction four b * 2 ^ 29)
-unfolding together fraction
+moved-is : (b : ℕ) → b < 2 ^ 32 → moved b ≡ packed (negative four b) 2047 (fraction four b * 2 ^ 29)
+unfolding packed fraction
 moved-is b h = rw (sign-bit b h, and-mask b 23) (omega arith)
 
 pub moved-widened : (b : ℕ) → b < 2 ^ 32 → exponent four b ≡ 255 → moved b ≡ widened b

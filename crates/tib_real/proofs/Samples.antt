@@ -6,23 +6,23 @@ use lib.Count.{leadingZeros}
 use lib.IntN.{pos}
 use Rattle.octets.specs.Number.{bigEndian}
 use Rattle.tib_real.specs.Parts.{negative, exponent, fraction, finite, significand, units}
-use Rattle.tib_real.specs.Widened.{together, raised, widened}
-use Rattle.tib_real.specs.FromOctets.{made, realOf}
+use Rattle.tib_real.specs.Widened.{packed, normalized, widened}
+use Rattle.tib_real.specs.FromOctets.{withBits, realOf}
 use Rattle.tib_real.specs.InFractions.{scaled, countable, signed, accepted, refused, inFractions, fractionsOf}
 
 -- 3.25 with the hint 2.
 pub sample : fractionsOf (realOf (0x40 ∷ 0x0a ∷ 0 ∷ 0 ∷ 0 ∷ 0 ∷ 0 ∷ 0 ∷ []) 2 true) ≡ accepted (pos 13)
-unfolding fractionsOf realOf made bigEndian inFractions countable scaled signed negative exponent fraction finite significand units
+unfolding fractionsOf realOf withBits bigEndian inFractions countable scaled signed negative exponent fraction finite significand units
 sample = refl
 
 -- A not-a-number of four octets.
 pub moved-up : realOf (0x7f ∷ 0x80 ∷ 0 ∷ 1 ∷ []) 0 false .bits ≡ 0x7ff0000020000000
-unfolding realOf made bigEndian widened together negative exponent fraction
+unfolding realOf withBits bigEndian widened packed negative exponent fraction
 moved-up = refl
 
 -- The smallest of four octets, minus zero, and 2 ^ 52 with the hint 1.
 pub smallest : widened 1 ≡ 0x36a0000000000000
-unfolding widened raised together negative exponent fraction leadingZeros
+unfolding widened normalized packed negative exponent fraction leadingZeros
 smallest = refl
 
 pub minus-zero : inFractions 0x8000000000000000 1 ≡ accepted (pos 0)

@@ -9,37 +9,37 @@ use lib.Count.{leadingZeros, leading-top}
 use lib.Pow.{pow-add, pow-pos}
 use borrow.Author.Tests.{ne-eqb, le-leb, lt-leb, eqb-true, eqb-false}
 use Rattle.tib_real.specs.Parts.{four, eight, negative, exponent, fraction, significand, units}
-use Rattle.tib_real.specs.Widened.{together, raised, widened}
+use Rattle.tib_real.specs.Widened.{packed, normalized, widened}
 
 -- What is put together is found again.
 module _ (s : Bool) (x t : ℕ) (hx : x < 2048) (ht : t < 2 ^ 52) where
-  pub together-exponent : exponent eight (together s x t) ≡ x
-  unfolding exponent together
-  together-exponent = go s
+  pub packed-exponent : exponent eight (packed s x t) ≡ x
+  unfolding exponent packed
+  packed-exponent = go s
     where
       go : (s : Bool) → (cond s (2 ^ 63) 0 + (x * 2 ^ 52 + t)) % 2 ^ 63 / 2 ^ 52 ≡ x
       go true = omega arith
       go false = omega arith
 
-  pub together-fraction : fraction eight (together s x t) ≡ t
-  unfolding fraction together
-  together-fraction = go s
+  pub packed-fraction : fraction eight (packed s x t) ≡ t
+  unfolding fraction packed
+  packed-fraction = go s
     where
       go : (s : Bool) → (cond s (2 ^ 63) 0 + (x * 2 ^ 52 + t)) % 2 ^ 52 ≡ t
       go true = omega arith
       go false = omega arith
 
-  pub together-negative : negative eight (together s x t) ≡ s
-  unfolding negative together
-  together-negative = go s
+  pub packed-negative : negative eight (packed s x t) ≡ s
+  unfolding negative packed
+  packed-negative = go s
     where
       go : (s : Bool) → leb (2 ^ 63) (cond s (2 ^ 63) 0 + (x * 2 ^ 52 + t)) ≡ s
       go true = le-leb (2 ^ 63) (2 ^ 63 + (x * 2 ^ 52 + t)) (omega arith)
       go false = lt-leb (2 ^ 63) (0 + (x * 2 ^ 52 + t)) (omega arith)
 
-  pub together-below : together s x t < 2 ^ 64
-  unfolding together
-  together-below = go s
+  pub packed-below : packed s x t < 2 ^ 64
+  unfolding packed
+  packed-below = go s
     where
       go : (s : Bool) → cond s (2 ^ 63) 0 + (x * 2 ^ 52 + t) < 2 ^ 64
       go true = omega arith
@@ -78,8 +78,8 @@ moved-up t above below =
 
 -- The bits after widening: an exponent of ones alone with the fraction moved up, or the exponent and the fraction of the same number.
 pub data Widens (b : ℕ) : Type 0 where
-  no-number : exponent four b ≡ 255 → widened b ≡ together (negative four b) 2047 (fraction four b * 2 ^ 29) → Widens b
-  number : (x t : ℕ) → exponent four b < 255 → x < 2047 → t < 2 ^ 52 → widened b ≡ together (negative four b) x t
+  no-number : exponent four b ≡ 255 → widened b ≡ packed (negative four b) 2047 (fraction four b * 2 ^ 29) → Widens b
+  number : (x t : ℕ) → exponent four b < 255 → x < 2047 → t < 2 ^ 52 → widened b ≡ packed (negative four b) x t
       → cond (eqb x 0) t (2 ^ 52 + t) * 2 ^ (x - 1) ≡ units four b * 2 ^ 925 → Widens b
 
 -- Zero, a number with no digit before its fraction, and one with.
@@ -92,8 +92,8 @@ unfolding units significand
 units-high b h = rw (ne-eqb (exponent four b) 0 h)
 
 -- The size of a fraction moved up, and of one with 29 bits more, is the same with the exponent that belongs to it.
-raised-same : (t z : ℕ) → z < 24 → 2 ^ 23 ≤ t * 2 ^ z → (2 ^ 52 + (t * 2 ^ z - 2 ^ 23) * 2 ^ 29) * 2 ^ (897 - z - 1) ≡ t * 1 * 2 ^ 925
-raised-same t z few high =
+normalized-same : (t z : ℕ) → z < 24 → 2 ^ 23 ≤ t * 2 ^ z → (2 ^ 52 + (t * 2 ^ z - 2 ^ 23) * 2 ^ 29) * 2 ^ (897 - z - 1) ≡ t * 1 * 2 ^ 925
+normalized-same t z few high =
     let e : 2 ^ 52 + (t * 2 ^ z - 2 ^ 23) * 2 ^ 29 ≡ t * 2 ^ z * 2 ^ 29 = omega arith in
     let p = power-sum z (897 - z - 1) 896 (omega arith) in
     ap (λ (n : ℕ). n * 2 ^ (897 - z - 1)) e
@@ -117,34 +117,34 @@ with-digit x t v h e = rw (ne-eqb x 0 h) e
 
 -- The four cases of the definition.
 module _ (b : ℕ) where
-  pub widened-no-number : exponent four b ≡ 255 → widened b ≡ together (negative four b) 2047 (fraction four b * 2 ^ 29)
+  pub widened-no-number : exponent four b ≡ 255 → widened b ≡ packed (negative four b) 2047 (fraction four b * 2 ^ 29)
   unfolding widened
   widened-no-number h = rw h
 
-  widened-zero : exponent four b ≡ 0 → fraction four b ≡ 0 → widened b ≡ together (negative four b) 0 0
+  widened-zero : exponent four b ≡ 0 → fraction four b ≡ 0 → widened b ≡ packed (negative four b) 0 0
   unfolding widened
   widened-zero h k = rw (h, k)
 
-  widened-raised : exponent four b ≡ 0 → (fraction four b ≡ 0 → ⊥) → widened b ≡ raised (negative four b) (fraction four b)
+  widened-normalized : exponent four b ≡ 0 → (fraction four b ≡ 0 → ⊥) → widened b ≡ normalized (negative four b) (fraction four b)
   unfolding widened
-  widened-raised h k = rw (h, ne-eqb (fraction four b) 0 k)
+  widened-normalized h k = rw (h, ne-eqb (fraction four b) 0 k)
 
   widened-normal : (exponent four b ≡ 255 → ⊥) → (exponent four b ≡ 0 → ⊥)
-      → widened b ≡ together (negative four b) (exponent four b + 896) (fraction four b * 2 ^ 29)
+      → widened b ≡ packed (negative four b) (exponent four b + 896) (fraction four b * 2 ^ 29)
   unfolding widened
   widened-normal h k = rw (ne-eqb (exponent four b) 255 h, ne-eqb (exponent four b) 0 k)
 
 zero-widens : (b : ℕ) → exponent four b ≡ 0 → fraction four b ≡ 0 → Widens b
 zero-widens b h k = number 0 0 (omega arith) (omega arith) (omega arith) (widened-zero b h k) (rw (units-low b h, k))
 
-raised-widens : (b : ℕ) → exponent four b ≡ 0 → (fraction four b ≡ 0 → ⊥) → Widens b
-unfolding raised
-raised-widens b h k =
+normalized-widens : (b : ℕ) → exponent four b ≡ 0 → (fraction four b ≡ 0 → ⊥) → Widens b
+unfolding normalized
+normalized-widens b h k =
     let t = fraction four b in
     let m = moved-up t (omega arith) (four-bounds b .1) in
     let z = leadingZeros 24 t in
-    number (897 - z) ((t * 2 ^ z - 2 ^ 23) * 2 ^ 29) (omega arith) (omega arith) (omega arith) (widened-raised b h k)
-    (with-digit (897 - z) _ _ (omega arith) (raised-same t z (m .few) (m .high) ∙ ap (λ (n : ℕ). n * 2 ^ 925) (sym (units-low b h))))
+    number (897 - z) ((t * 2 ^ z - 2 ^ 23) * 2 ^ 29) (omega arith) (omega arith) (omega arith) (widened-normalized b h k)
+    (with-digit (897 - z) _ _ (omega arith) (normalized-same t z (m .few) (m .high) ∙ ap (λ (n : ℕ). n * 2 ^ 925) (sym (units-low b h))))
 
 normal-widens : (b : ℕ) → (exponent four b ≡ 255 → ⊥) → (exponent four b ≡ 0 → ⊥) → Widens b
 normal-widens b h k =
@@ -160,5 +160,5 @@ widens b = go (eqb (exponent four b) 255) refl (eqb (exponent four b) 0) refl (e
     go : (p : Bool) → eqb (exponent four b) 255 ≡ p → (q : Bool) → eqb (exponent four b) 0 ≡ q → (r : Bool) → eqb (fraction four b) 0 ≡ r → Widens b
     go true e q f r g = no-number (eqb-true _ _ e) (widened-no-number b (eqb-true _ _ e))
     go false e true f true g = zero-widens b (eqb-true _ _ f) (eqb-true _ _ g)
-    go false e true f false g = raised-widens b (eqb-true _ _ f) (eqb-false _ _ g)
+    go false e true f false g = normalized-widens b (eqb-true _ _ f) (eqb-false _ _ g)
     go false e false f r g = normal-widens b (eqb-false _ _ e) (eqb-false _ _ f)

@@ -10,12 +10,12 @@ use Rattle.tib_real.specs.declared.types.Real.{Real}
 use Rattle.tib_real.specs.Widened.{widened}
 
 -- A real by its 64 bits; its value is what they stand for.
-unfoldable pub made : ℕ → ℕ → Bool → Real
-made b h present = record { value = ofBits binary64 b; bits = b; hint = h; hinted = present }
+unfoldable pub withBits : ℕ → ℕ → Bool → Real
+withBits b h present = record { value = ofBits binary64 b; bits = b; hint = h; hinted = present }
 
 -- The real that octets hold, with its hint. Octets of another length than eight and four are no real and answer one of zeros.
 unfoldable pub realOf : List ℕ → ℕ → Bool → Real
 realOf s h present =
-    cond (eqb (length s) 8) (made (bigEndian s) h present)
-    (cond (eqb (length s) 4) (made (widened (bigEndian s)) h present)
-    (made 0 0 false))
+    cond (eqb (length s) 8) (withBits (bigEndian s) h present)
+    (cond (eqb (length s) 4) (withBits (widened (bigEndian s)) h present)
+    (withBits 0 0 false))

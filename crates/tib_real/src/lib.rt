@@ -7,7 +7,7 @@ ghost use mathlib.Core.Path.{_≡_};
 ghost use Prim.Native.Nat.{_<_, _≤_, _^_};
 ghost use lib.Ieee.{binary64, ofBits};
 ghost use Rattle.tib_real.specs.Widened.{widened};
-ghost use Rattle.tib_real.specs.FromOctets.{made, realOf};
+ghost use Rattle.tib_real.specs.FromOctets.{withBits, realOf};
 ghost use Rattle.tib_real.specs.InFractions.{refused as refused-answer, inFractions, fractionsOf};
 
 // The value that bits stand for. The language makes no not-a-number from bits, so it comes from a division that has no result.
@@ -23,7 +23,7 @@ fn value(bits: u64) -> f64
 
 // A real by its 64 bits and its hint.
 pub fn with_bits(bits: u64, hint: u64, hinted: bool) -> Real
-    ensures { λ r. ⌜ r ≡ made bits hint hinted ⌝ }
+    ensures { λ r. ⌜ r ≡ withBits bits hint hinted ⌝ }
 {
     Real {
         value: value(bits),

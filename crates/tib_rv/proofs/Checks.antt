@@ -5,12 +5,12 @@ use mathlib.Core.List.{List}
 use mathlib.Core.Logic.{_↔_}
 use Rattle.reading.specs.Checks.{counts}
 use Rattle.tib_field.specs.Refused.{refusedField}
-use Rattle.tib_field.proofs.Answers.{refused-as-checked as field-refused-as-checked, accepts-exactly}
+use Rattle.tib_field.proofs.ReadingLaws.{refused-as-checked as field-refused-as-checked, accepts-exactly}
 use Rattle.tib_rv_field.specs.Layout.{Fields, depth, Whole}
 use Rattle.tib_rv_field.specs.Reading.{reading}
 use Rattle.tib_rv_field.proofs.Accepted.{whole-accepted, accepted-exactly}
 use Rattle.tib_rv_field.proofs.Refusals.{refusal-positive}
-use Rattle.tib_rv.specs.Answers.{count, check, shown, places, field}
+use Rattle.tib_rv.specs.CheckAndField.{count, check, shown, places, field}
 
 module _ (s : List ℕ) where
   -- The counts of a whole message are its division's, over all depths.

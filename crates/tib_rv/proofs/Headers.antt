@@ -17,7 +17,7 @@ use Rattle.reading.specs.internal.Verdicts.{verdictOf}
 use Rattle.reading.specs.declared.Verdict.the-variants.{Refused}
 use Rattle.tib_rv_field.specs.Layout.{magic, depth}
 use Rattle.tib_rv_field.specs.Reading.{headerFault, messageFrom, reading}
-use Rattle.tib_rv.specs.Answers.{count}
+use Rattle.tib_rv.specs.CheckAndField.{count}
 
 module _ (s : List ℕ) where
   pub too-long : messageLimit < length s → Refused 1 0 ≡ verdictOf count depth (reading s)

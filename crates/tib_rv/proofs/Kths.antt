@@ -9,20 +9,20 @@ use Rattle.tib_field.specs.declared.Field.{Field as Shown}
 use Rattle.reading.specs.internal.Verdicts.{IsAccepted}
 use Rattle.tib_field.specs.Name.{Name}
 use Rattle.tib_field.specs.Fields.{Each, joined as joinedParts}
-use Rattle.tib_field.specs.Kth.{answerFor}
+use Rattle.tib_field.specs.Kth.{fieldOrAbsent}
 use Rattle.tib_field.specs.internal.KthOf.{kthOf}
 use Rattle.tib_field.specs.Refused.{refusedField}
 use Rattle.tib_field.proofs.Kths.{Going as Passing, OneMore, none-here, one-here, kth-found, kth-absent}
-use Rattle.tib_field.proofs.Answers.{field-of-kth}
+use Rattle.tib_field.proofs.ReadingLaws.{field-of-kth}
 use Rattle.tib_rv_field.specs.declared.Sizes.{Sizes}
-use Rattle.tib_rv.specs.declared.Outer.{Outer}
-use Rattle.tib_rv.specs.declared.Outer.the-variants.{Nothing, Field}
+use Rattle.tib_rv.specs.declared.AnyField.{AnyField}
+use Rattle.tib_rv.specs.declared.AnyField.the-variants.{Nothing, Field}
 use Rattle.tib_rv.specs.declared.Kth.the-variants.{At, Absent}
 use Rattle.tib_rv_field.specs.Layout.{Parts, octets, Leaf, holder, Fields, end, leaf, nested, joined, message, Allowed}
 use Rattle.tib_rv_field.specs.Reading.{nextField, lead, total, reading}
 use Rattle.tib_rv_field.specs.internal.Sizes.{sizes}
-use Rattle.tib_rv.specs.Answers.{outermost, shown, places, field}
-use Rattle.tib_rv.specs.internal.Found.{outerOf, foundAt, shownSizes}
+use Rattle.tib_rv.specs.CheckAndField.{outermost, shown, places, field}
+use Rattle.tib_rv.specs.internal.Found.{anyField, foundAt, shownSizes}
 use Rattle.tib_rv_field.proofs.Steps.{Counted, step-of-leaf, step-of-held, step-of-end, length-octets}
 use Rattle.tib_rv_field.proofs.Accepted.{message-counted, message-parts, accepted-message, field-size}
 
@@ -46,11 +46,11 @@ outermost-all (nested name size inside rest) a =
     (holding name (message size inside) (a .0 .0) (message-counted size inside (a .0 .1) .0), outermost-all rest (a .1))
 
 -- What a step finds, of either kind.
-abbrev pub next : List ℕ → Outer
-next s = outerOf (nextField s)
+abbrev pub next : List ℕ → AnyField
+next s = anyField (nextField s)
 
-found-first : (f : Parts) (rest : List ℕ) → Outermost f → outerOf (nextField (octets f ++ rest)) ≡ Field (sizes f)
-unfolding outerOf
+found-first : (f : Parts) (rest : List ℕ) → Outermost f → anyField (nextField (octets f ++ rest)) ≡ Field (sizes f)
+unfolding anyField
 found-first g rest (plain f l) = rw (step-of-leaf f rest l)
 found-first g rest (holding name m n c) = rw (step-of-held name m rest n c)
 
@@ -84,7 +84,7 @@ module _ (s : List ℕ) (k i remaining : ℕ) (now : Going s k i remaining) wher
       (λ f rest o d. let n = ap next d ∙ found-first f rest o in let z : _≡_ {A = ℕ} 0 1 = cc in absurd (omega arith))
 
   pub one-more : (z : Sizes) → next (drop i s) ≡ Field z → OneMore octets Outermost sizes total At Absent measured s (wanted s k) i remaining now z
-  unfolding outerOf
+  unfolding anyField
   one-more z e =
       one-here octets Outermost sizes total At Absent measured s (wanted s k) i remaining now z
       (λ d. let n : next (drop i s) ≡ Nothing = ap next d ∙ rw step-of-end in let y : _≡_ {A = ℕ} 0 1 = cc in absurd (omega arith))
@@ -104,7 +104,7 @@ pub record KthFound (s : List ℕ) (place : ℕ) (z : Sizes) (answer : Shown) : 
 
 module _ (s : List ℕ) (k : ℕ) (a : IsAccepted (reading s)) where
   pub field-found : (place : ℕ) (z : Sizes) → foundAt (wanted s k) ≡ At place z → KthFound s place z (field s k)
-  unfolding answerFor field
+  unfolding fieldOrAbsent field
   field-found place z e =
       let h = kth-found octets Outermost sizes total At Absent measured s (wanted s k) 8 k (start s k a)
       (λ p y f. let n : _≡_ {A = ℕ} 0 1 = cc in absurd (omega arith)) (λ p q x y f. (cc, cc)) place z e in
@@ -115,7 +115,7 @@ module _ (s : List ℕ) (k : ℕ) (a : IsAccepted (reading s)) where
       }
 
   pub field-absent : foundAt (wanted s k) ≡ Absent → refusedField 18 0 ≡ field s k
-  unfolding answerFor field
+  unfolding fieldOrAbsent field
   field-absent e =
       field-of-kth shown places k (reading s) a none
       (kth-absent octets Outermost sizes total At Absent measured s (wanted s k) 8 k (start s k a)

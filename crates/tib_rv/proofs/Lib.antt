@@ -1,5 +1,5 @@
 pub mod Headers
-pub mod Turns
+pub mod MessageLoop
 pub mod Kths
 pub mod Places
 pub mod Checks

@@ -8,18 +8,18 @@ use lib.ListN.{length, getElem?, length-append}
 use Rattle.tib_field.specs.Refused.{refusedField}
 use Rattle.reading.specs.Reading.{messageLimit}
 use Rattle.tib_field.specs.Fields.{Each, joined as joinedParts, placed}
-use Rattle.tib_field.specs.Kth.{answerFor, fieldOf}
+use Rattle.tib_field.specs.Kth.{fieldOrAbsent, fieldOf}
 use Rattle.tib_field.proofs.Fields.{each-one, joined-around, Picked, picked, none-remaining}
 use Rattle.tib_field.proofs.Standing.{name-stands, data-stands}
 use Rattle.tib_rv_field.specs.Layout.{Parts, octets, magic, Fields, end, leaf, nested, joined, message, depth, Header, Allowed, Whole}
 use Rattle.tib_rv_field.proofs.Steps.{flat}
 use Rattle.tib_rv_field.proofs.Accepted.{whole-accepted}
-use Rattle.tib_rv.specs.Answers.{outermost, shown, places, field}
+use Rattle.tib_rv.specs.CheckAndField.{outermost, shown, places, field}
 use Rattle.tib_rv.proofs.Kths.{outermost-joined}
 use Rattle.tib_rv.specs.KthTold.{KthTold}
 
 -- The message that a field holds in one that is `deep` messages deep.
-record Holds (f : Parts) (deep : ℕ) : Type 0 where
+record Holder (f : Parts) (deep : ℕ) : Type 0 where
   size : List ℕ
   inside : Fields
   same : f .contents ≡ message size inside
@@ -29,7 +29,7 @@ record Holds (f : Parts) (deep : ℕ) : Type 0 where
 
 -- Each outermost field of type 1 holds a message.
 all-hold : (fields : Fields) (deep : ℕ) → Allowed fields → depth fields ≤ deep
-    → Each (λ (f : Parts). f .octet ≡ 1 → Holds f deep) (outermost fields)
+    → Each (λ (f : Parts). f .octet ≡ 1 → Holder f deep) (outermost fields)
 unfolding outermost depth Allowed Each
 all-hold end deep a h = tt
 all-hold (leaf f rest) deep a h = (λ t. absurd (a .0 .plain t), all-hold rest deep (a .1) h)
@@ -39,15 +39,15 @@ all-hold (nested name size inside rest) deep a h = (
 )
 
 -- A message that a field of a message holds is whole.
-inner-whole : (f : Parts) (h : Holds f 8) → length (f .contents) ≤ messageLimit → Whole (f .contents) (h .inside)
+inner-whole : (f : Parts) (h : Holder f 8) → length (f .contents) ≤ messageLimit → Whole (f .contents) (h .inside)
 inner-whole f h l =
     let d = h .deeper in
-    record { size = h .size; divides = h .same; header = h .header; allowed = h .allowed; shallow = omega arith; short = l }
+    record { size = h .size; divides = h .same; header = h .header; allowed = h .allowed; shallow = omega arith; withinLimit = l }
 
 module _ (s : List ℕ) (fields : Fields) (w : Whole s fields) where
   told : (k : ℕ) → Picked octets (outermost fields) k 8
-      → KthTold s fields k (answerFor shown (getElem? (placed octets 8 (outermost fields)) k))
-  unfolding shown message answerFor
+      → KthTold s fields k (fieldOrAbsent shown (getElem? (placed octets 8 (outermost fields)) k))
+  unfolding shown message fieldOrAbsent
   told k p =
       let f = p .field in
       let before = joinedParts octets (p .before) in
@@ -64,9 +64,9 @@ module _ (s : List ℕ) (fields : Fields) (w : Whole s fields) where
       let n : length front ≡ at = omega arith in
       let c = data-stands s front (f .name) (f .octet) (f .size) (f .contents) back at u n in
       let b = c .inside in
-      let v = w .short in
-      let h = each-one (λ (x : Parts). x .octet ≡ 1 → Holds x 8) (p .before) f (p .after)
-      (subst (Each (λ (x : Parts). x .octet ≡ 1 → Holds x 8)) (p .divides) (all-hold fields 8 (w .allowed) (w .shallow))) in
+      let v = w .withinLimit in
+      let h = each-one (λ (x : Parts). x .octet ≡ 1 → Holder x 8) (p .before) f (p .after)
+      (subst (Each (λ (x : Parts). x .octet ≡ 1 → Holder x 8)) (p .divides) (all-hold fields 8 (w .allowed) (w .shallow))) in
       let q : KthTold s fields k (shown at f)
       = record {
         before = p .before;
@@ -85,12 +85,12 @@ module _ (s : List ℕ) (fields : Fields) (w : Whole s fields) where
         named-at = refl;
         data-at = omega arith;
       } in
-      subst (KthTold s fields k) (sym (ap (answerFor shown) (p .same))) q
+      subst (KthTold s fields k) (sym (ap (fieldOrAbsent shown) (p .same))) q
 
   -- The answer for k is the k-th outermost field of the division, or 18 at 0 where the division has no more than k outermost fields.
   pub field-is-kth : (k : ℕ) → (k < length (outermost fields) → KthTold s fields k (field s k))
       × (length (outermost fields) ≤ k → field s k ≡ refusedField 18 0)
-  unfolding field fieldOf answerFor places
+  unfolding field fieldOf fieldOrAbsent places
   field-is-kth k =
       let e = whole-accepted s fields w in
       (λ h. rw e (told k (picked octets (outermost fields) k 8 h)), λ h. rw (e, none-remaining octets (outermost fields) k 8 h))

@@ -12,11 +12,11 @@ ghost use Rattle.tib_rv_field.specs.Layout.{depth};
 ghost use Rattle.reading.specs.Reading.{messageLimit, depthLimit};
 ghost use Rattle.reading.specs.internal.Verdicts.{IsAccepted, verdictOf};
 ghost use Rattle.tib_field.specs.internal.KthOf.{kthOf};
-ghost use Rattle.tib_rv.specs.Answers.{count, check as check-of, places, field as field-of};
-ghost use Rattle.tib_rv.specs.internal.Found.{outerOf, foundAt, shownSizes};
+ghost use Rattle.tib_rv.specs.CheckAndField.{count, check as check-of, places, field as field-of};
+ghost use Rattle.tib_rv.specs.internal.Found.{anyField, foundAt, shownSizes};
 
 // A field of either kind, or that there is none.
-enum Outer {
+enum AnyField {
     Nothing,
     Field(Sizes),
 }
@@ -37,7 +37,7 @@ fn header_fault(s: &[u8]) -> u64
     if !tib_field::begins(&s[4..], b"\x99\x55\xee\xaa") {
         return reading::MAGIC;
     }
-    if tib_field::number(&s[0..4]) != s.len() as u64 {
+    if tib_field::uint(&s[0..4]) != s.len() as u64 {
         return reading::SIZE;
     }
     0
@@ -122,14 +122,14 @@ pub fn check(message: &[u8]) -> Checked
 }
 
 // The field at the front of octets, whether it holds a message or not.
-fn next_outer(s: &[u8]) -> Outer
-    ensures { λ r. ⌜ r ≡ outerOf (nextField (now (s .entry))) ⌝ }
+fn next_any(s: &[u8]) -> AnyField
+    ensures { λ r. ⌜ r ≡ anyField (nextField (now (s .entry))) ⌝ }
 {
     match tib_rv_field::next_field(s) {
-        Step::Done => Outer::Nothing,
-        Step::Fault(_) => Outer::Nothing,
-        Step::Over(z) => Outer::Field(z),
-        Step::Into(z) => Outer::Field(z),
+        Step::Done => AnyField::Nothing,
+        Step::Fault(_) => AnyField::Nothing,
+        Step::Over(z) => AnyField::Field(z),
+        Step::Into(z) => AnyField::Field(z),
     }
 }
 
@@ -141,9 +141,9 @@ fn find(s: &[u8], k: u64) -> Kth
     let mut i: usize = 8;
     let mut remaining = k;
     loop {
-        match next_outer(&s[i..]) {
-            Outer::Nothing => return Kth::Absent,
-            Outer::Field(z) => {
+        match next_any(&s[i..]) {
+            AnyField::Nothing => return Kth::Absent,
+            AnyField::Field(z) => {
                 if remaining == 0 {
                     return Kth::At { place: i, sizes: z };
                 }

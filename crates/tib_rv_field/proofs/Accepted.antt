@@ -14,7 +14,7 @@ use Rattle.reading.specs.Reading.{Reading, accepted, refused, onAccepted, inOrd
 use Rattle.tib_field.specs.Mark.{begins}
 use Rattle.tib_field.proofs.Marks.{mark-begins, begins-mark}
 use Rattle.tib_field.proofs.Choices.{passes, fails}
-use Rattle.tib_field.proofs.Answers.{not-accepted}
+use Rattle.tib_field.proofs.ReadingLaws.{not-accepted}
 use Rattle.tib_rv_field.specs.declared.Sizes.{Sizes}
 use Rattle.tib_rv_field.specs.declared.Step.{Step}
 use Rattle.tib_rv_field.specs.declared.Step.the-variants.{Done, Fault, Over, Into}
@@ -269,12 +269,12 @@ accepted-whole s fs e =
       header = g .1 .header;
       allowed = g .1 .fields .allowed;
       shallow = g .1 .fields .shallow;
-      short = g .0;
+      withinLimit = g .0;
     }
 
 pub whole-accepted : (s : List ℕ) (fs : Fields) → Whole s fs → reading s ≡ accepted fs
 unfolding reading
-whole-accepted s fs w = rw (le-ltb (messageLimit) (length s) (w .short)) (good-accepted 8 0 0 s fs (whole-good s fs w))
+whole-accepted s fs w = rw (le-ltb (messageLimit) (length s) (w .withinLimit)) (good-accepted 8 0 0 s fs (whole-good s fs w))
 
 -- The reading accepts a message with a division exactly where the message is whole and that is its division.
 pub accepted-exactly : (s : List ℕ) (fs : Fields) → (reading s ≡ accepted fs) ↔ Whole s fs

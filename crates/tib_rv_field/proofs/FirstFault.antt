@@ -14,12 +14,12 @@ use Rattle.reading.specs.Reading.{Reading, accepted, refused, onAccepted, inOrd
 use Rattle.tib_field.specs.Name.{Name}
 use Rattle.tib_field.specs.Mark.{begins}
 use Rattle.tib_field.proofs.Marks.{mark-begins, begins-mark}
-use Rattle.tib_field.proofs.Answers as answers
+use Rattle.tib_field.proofs.ReadingLaws as reading-laws
 use Rattle.tib_rv_field.specs.declared.Sizes.{Sizes}
 use Rattle.tib_rv_field.specs.declared.Step.{Step}
 use Rattle.tib_rv_field.specs.declared.Step.the-variants.{Done, Fault, Over, Into}
 use Rattle.tib_rv_field.specs.Layout.{Parts, octets, holder, magic, Fields, leaf, message, depth, Header, Whole}
-use Rattle.tib_rv_field.specs.FirstFault.{WrongHeader, Opens, Holds, FaultIn, here, over, past, tooDeep, header, inside, FirstFault}
+use Rattle.tib_rv_field.specs.FirstFault.{WrongHeader, Opens, Holder, FaultIn, here, over, past, tooDeep, header, inside, FirstFault}
 use Rattle.tib_rv_field.specs.FirstFault as faults
 use Rattle.tib_rv_field.specs.Reading.{nextField, lead, total, partsAt, Inner, nestedOf, afterStep, fieldsFrom, headerFault, messageFrom, reading}
 use Rattle.tib_rv_field.specs.internal.Sizes.{sizes}
@@ -57,14 +57,14 @@ header-opens s h =
     }
 
 -- What a field of type 1 holds, by its first four octets.
-pub holds-counted : (name held : List ℕ) → Holds name held → Counted held
+pub holds-counted : (name held : List ℕ) → Holder name held → Counted held
 holds-counted name held h =
     let e = h .divides in
     let w = h .width in
     let x : length held ≡ length (h .size) + length (h .rest) = ap length e ∙ length-append (h .size) (h .rest) in
     record { four = omega arith; same = ap bigEndian (ap (take 4) e ∙ take-at (h .size) (h .rest) 4 w) ∙ h .counted }
 
-counted-holds : (name held : List ℕ) → Name name → Counted held → Holds name held
+counted-holds : (name held : List ℕ) → Name name → Counted held → Holder name held
 counted-holds name held good c =
     record {
       good = good;
@@ -334,8 +334,8 @@ refused-exactly s k p = (λ e. subst (Told s) e (reading-told s), refused-by s k
 
 -- It has at most one,
 pub first-fault-unique : (s : List ℕ) (k p j q : ℕ) → FirstFault s k p → FirstFault s j q → (k ≡ j) × (p ≡ q)
-first-fault-unique s = answers.fault-unique (reading s) (FirstFault s) (refused-exactly s)
+first-fault-unique s = reading-laws.fault-unique (reading s) (FirstFault s) (refused-exactly s)
 
 -- and one exactly where it is not whole.
 pub fault-exactly : (s : List ℕ) → ((k : ℕ) × (p : ℕ) × FirstFault s k p) ↔ (((fs : Fields) × Whole s fs) → ⊥)
-fault-exactly s = answers.fault-exactly (reading s) (FirstFault s) (refused-exactly s) (Whole s) (accepted-exactly s)
+fault-exactly s = reading-laws.fault-exactly (reading s) (FirstFault s) (refused-exactly s) (Whole s) (accepted-exactly s)

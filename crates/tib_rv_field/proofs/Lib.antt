@@ -2,7 +2,7 @@ pub mod Counts
 pub mod Steps
 pub mod WrongFields
 pub mod Accepted
-pub mod Fronts
+pub mod StepTests
 pub mod Announced
 pub mod FirstFault
 pub mod Refusals

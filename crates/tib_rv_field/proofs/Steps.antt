@@ -9,9 +9,9 @@ use lib.Seq.{take-at, drop-at, length-take-le, take-append-le, take-take}
 use lib.Dec.{eqb, ltb}
 use borrow.Author.Tests.{ltb-false, le-ltb, eqb-true, eqb-false, ne-eqb, le-leb}
 use Rattle.octets.specs.Number.{bigEndian}
-use Rattle.tib_field.specs.Name.{Name, nameFront, afterName}
+use Rattle.tib_field.specs.Name.{Name, nameStep, afterName}
 use Rattle.tib_field.proofs.Choices.{passes, fails}
-use Rattle.tib_field.proofs.Fronts.{next-of-name, AfterName, name-found}
+use Rattle.tib_field.proofs.NameSteps.{next-of-name, AfterName, name-found}
 use Rattle.tib_rv_field.specs.declared.Sizes.{Sizes}
 use Rattle.tib_rv_field.specs.declared.Step.{Step}
 use Rattle.tib_rv_field.specs.declared.Step.the-variants.{Done, Fault, Over, Into}
@@ -238,7 +238,7 @@ step-of-held name m rest good e =
     )
 
 pub step-of-end : nextField [] ≡ Done
-unfolding nextField afterName nameFront
+unfolding nextField afterName nameStep
 step-of-end = refl
 
 pub length-octets : (f : Parts) → length (octets f) ≡ total (sizes f)

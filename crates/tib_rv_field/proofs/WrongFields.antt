@@ -13,7 +13,7 @@ use Rattle.octets.proofs.Slices.{length-zero}
 use Rattle.tib_field.specs.Mark.{begins}
 use Rattle.tib_field.proofs.Marks.{mark-begins, begins-mark}
 use Rattle.tib_field.proofs.Choices.{either}
-use Rattle.tib_field.proofs.Fronts.{next-done}
+use Rattle.tib_field.proofs.NameSteps.{next-done}
 use Rattle.tib_field.proofs.WrongNames.{name-told, name-wrong}
 use Rattle.tib_rv_field.specs.declared.Step.{Step}
 use Rattle.tib_rv_field.specs.declared.Step.the-variants.{Done, Fault, Over, Into}

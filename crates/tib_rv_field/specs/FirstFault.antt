@@ -55,13 +55,13 @@ pub record Opens (s fields : List ℕ) : Type 0 where
   pub counted : bigEndian size ≡ length s
 
 -- A field of type 1: the first four of the octets that it holds count them. What it holds may be a message or not.
-pub record Holds (name held : List ℕ) : Type 0 where
+pub record Holder (name contents : List ℕ) : Type 0 where
   pub good : Name name
   pub size : List ℕ
   pub rest : List ℕ
-  pub divides : held ≡ size ++ rest
+  pub divides : contents ≡ size ++ rest
   pub width : length size ≡ 4
-  pub counted : bigEndian size ≡ length held
+  pub counted : bigEndian size ≡ length contents
 
 -- The first fault in the fields of a message that may be `levels` messages deep, itself counted: its number, and its place from the first of
 -- these octets on. It is here, at the first field; over a field that holds no message; past a field whose message is good; or in a field of
@@ -73,11 +73,11 @@ pub data FaultIn : ℕ → List ℕ → ℕ → ℕ → Type 0 where
   past : (levels k p : ℕ) (name size : List ℕ) (inside : Fields) (s : List ℕ) → Name name → Header size inside → Allowed inside
       → suc (depth inside) ≤ levels → FaultIn levels s k p
       → FaultIn levels (octets (holder name (message size inside)) ++ s) k (length (octets (holder name (message size inside))) + p)
-  tooDeep : (name held s : List ℕ) → Holds name held → FaultIn 1 (octets (holder name held) ++ s) refusals.tooDeep 0
-  header : (levels k : ℕ) (name held s : List ℕ) → 1 ≤ levels → Holds name held → WrongHeader held k
-      → FaultIn (suc levels) (octets (holder name held) ++ s) k (3 + length name)
-  inside : (levels k p : ℕ) (name held fields s : List ℕ) → 1 ≤ levels → Name name → Opens held fields → FaultIn levels fields k p
-      → FaultIn (suc levels) (octets (holder name held) ++ s) k (3 + length name + 8 + p)
+  tooDeep : (name contents s : List ℕ) → Holder name contents → FaultIn 1 (octets (holder name contents) ++ s) refusals.tooDeep 0
+  header : (levels k : ℕ) (name contents s : List ℕ) → 1 ≤ levels → Holder name contents → WrongHeader contents k
+      → FaultIn (suc levels) (octets (holder name contents) ++ s) k (3 + length name)
+  inside : (levels k p : ℕ) (name contents fields s : List ℕ) → 1 ≤ levels → Name name → Opens contents fields → FaultIn levels fields k p
+      → FaultIn (suc levels) (octets (holder name contents) ++ s) k (3 + length name + 8 + p)
 
 -- The first fault of octets, by its number and its place.
 pub data FirstFault (s : List ℕ) : ℕ → ℕ → Type 0 where

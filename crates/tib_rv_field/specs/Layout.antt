@@ -77,4 +77,4 @@ pub record Whole (s : List ℕ) (fields : Fields) : Type 0 where
   pub header : Header size fields
   pub allowed : Allowed fields
   pub shallow : depth fields ≤ depthLimit
-  pub short : length s ≤ messageLimit
+  pub withinLimit : length s ≤ messageLimit

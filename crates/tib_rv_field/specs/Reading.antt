@@ -9,7 +9,7 @@ use Rattle.octets.specs.Number.{bigEndian}
 use Rattle.reading.specs.Reading.{Reading, accepted, refused, onAccepted, inOrder, messageLimit, depthLimit}
 use Rattle.reading.specs.Refusals as refusals
 use Rattle.tib_field.specs.Mark.{begins}
-use Rattle.tib_field.specs.Name.{nameFront, afterName}
+use Rattle.tib_field.specs.Name.{nameStep, afterName}
 use Rattle.tib_rv_field.specs.declared.Sizes.{Sizes}
 use Rattle.tib_rv_field.specs.declared.Step.{Step}
 use Rattle.tib_rv_field.specs.declared.Step.the-variants.{Done, Fault, Over, Into}
@@ -57,7 +57,7 @@ fromType n (c ∷ s) = fromSize n c s
 
 -- What stands at the front of octets: their end, a fault, a field, or a field that holds a message.
 unfoldable pub nextField : List ℕ → Step
-nextField s = afterName Done Fault fromType s (nameFront s)
+nextField s = afterName Done Fault fromType s (nameStep s)
 
 -- How many octets a field has before its data: two more than these parts, for the name's size and the type.
 unfoldable pub lead : Sizes → ℕ

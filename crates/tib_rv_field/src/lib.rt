@@ -105,7 +105,7 @@ fn from_long(n: usize, c: u8, m: u64, w: usize, s: &[u8]) -> Step
     if s.len() < w {
         return Step::Fault(reading::CUT);
     }
-    let k = tib_field::number(&s[0..w]);
+    let k = tib_field::uint(&s[0..w]);
     from_count(n, c, m, k, s.len() - w)
 }
 

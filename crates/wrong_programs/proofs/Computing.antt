@@ -40,10 +40,10 @@ use Rattle.tib_field.specs.Fields as fields
 use Rattle.tib_field.specs.Kth as kths
 use Rattle.tib_msg_field.specs.Layout as msgLayout
 use Rattle.tib_msg_field.specs.Reading as msgReading
-use Rattle.tib_msg.specs.Answers as msg
+use Rattle.tib_msg.specs.CheckAndField as msg
 use Rattle.tib_rv_field.specs.Layout as rvLayout
 use Rattle.tib_rv_field.specs.Reading as rvReading
-use Rattle.tib_rv.specs.Answers as rv
+use Rattle.tib_rv.specs.CheckAndField as rv
 use Rattle.wrong_programs.specs.Kinds as kinds
 use Rattle.wrong_programs.specs.Load as load
 use Rattle.wrong_programs.specs.Check as check
@@ -87,15 +87,15 @@ writer = Unit {0}
 
 unfoldable pub tib : Type 0
 unfolding kinds.always kinds.below kinds.octets kinds.word tibs.check tibs.fieldFits tibs.field reals.realFits reals.real reals.fractionsFits
-    reals.fractions onAccepted inOrder octets.bigEndian answers.counts answers.refusal marks.begins names.nameFront names.named names.closes
-    names.afterName fields.placed kths.fieldOf kths.answerFor msgLayout.kind msgLayout.hinted msgLayout.sizeWidth msgLayout.isWidth
-    msgLayout.sizeAllowed msgLayout.octets msgReading.typeAllowed msgReading.hintAt msgReading.hintFront msgReading.valueHint msgReading.withHint
+    reals.fractions onAccepted inOrder octets.number answers.counts answers.refusal marks.begins names.nameStep names.named names.closes
+    names.afterName fields.placed kths.fieldOf kths.fieldOrAbsent msgLayout.kind msgLayout.hinted msgLayout.sizeWidth msgLayout.isWidth
+    msgLayout.sizeAllowed msgLayout.octets msgReading.typeAllowed msgReading.hintAt msgReading.readHint msgReading.valueHint msgReading.withHint
     msgReading.fromData msgReading.fromSize msgReading.fromType msgReading.nextField msgReading.total msgReading.partsAt msgReading.afterStep
-    msgReading.fieldsFrom msgReading.reading msg.check msg.depth msg.field msg.places msg.shown msg.hintNumber msg.realShown rvLayout.depth
+    msgReading.fieldsFrom msgReading.reading msg.check msg.depth msg.field msg.places msg.shown msg.hintValue msg.realShown rvLayout.depth
     rvLayout.octets rvReading.following rvReading.own rvReading.counted rvReading.countAllowed rvReading.found rvReading.fromCount
     rvReading.fromSize rvReading.fromType rvReading.nextField rvReading.lead rvReading.total rvReading.partsAt rvReading.nestedOf
     rvReading.afterStep rvReading.fieldsFrom rvReading.headerFault rvReading.messageFrom rvReading.reading rv.check rv.count rv.field rv.places
-    rv.shown rv.outermost fromOctets.made fromOctets.realOf inFractions.scaled inFractions.countable inFractions.signed inFractions.refused
+    rv.shown rv.outermost fromOctets.withBits fromOctets.realOf inFractions.scaled inFractions.countable inFractions.signed inFractions.refused
     inFractions.accepted inFractions.inFractions inFractions.fractionsOf parts.negative parts.exponent parts.fraction parts.finite parts.significand
-    parts.units wide.together wide.widened
+    parts.units wide.packed wide.widened
 tib = Unit {0}

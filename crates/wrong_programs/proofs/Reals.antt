@@ -11,7 +11,7 @@ use lib.Ieee.{fin}
 use lib.IntN.{pos}
 use borrow.Author.Tests.{eqb-false}
 use Rattle.octets.specs.Number.{bigEndian}
-use Rattle.tib_real.specs.FromOctets.{made}
+use Rattle.tib_real.specs.FromOctets.{withBits}
 use Rattle.tib_real.specs.declared.types.Real.{Real}
 use Rattle.wrong_programs.specs.Kinds.{RuledOut, Invents, SeesOnly, always}
 use Rattle.wrong_programs.specs.Reals.{RealInput, RealCall, real}
@@ -24,15 +24,15 @@ read contents hint hinted = record { contents = contents; hint = hint; hinted = 
 -- 1 in four octets, with the hint 2 and with none, and 0.
 one : Sample real
 unfolding tib
-one = given (read (0x3f ∷ 0x80 ∷ 0 ∷ 0 ∷ []) 2 true) (made 0x3ff0000000000000 2 true) tt refl
+one = given (read (0x3f ∷ 0x80 ∷ 0 ∷ 0 ∷ []) 2 true) (withBits 0x3ff0000000000000 2 true) tt refl
 
 unhinted : Sample real
 unfolding tib
-unhinted = given (read (0x3f ∷ 0x80 ∷ 0 ∷ 0 ∷ []) 0 false) (made 0x3ff0000000000000 0 false) tt refl
+unhinted = given (read (0x3f ∷ 0x80 ∷ 0 ∷ 0 ∷ []) 0 false) (withBits 0x3ff0000000000000 0 false) tt refl
 
 zero : Sample real
 unfolding tib
-zero = given (read (0 ∷ 0 ∷ 0 ∷ 0 ∷ []) 2 true) (made 0 2 true) tt refl
+zero = given (read (0 ∷ 0 ∷ 0 ∷ 0 ∷ []) 2 true) (withBits 0 2 true) tt refl
 
 abbrev bits : Real → ℕ
 bits r = r .bits

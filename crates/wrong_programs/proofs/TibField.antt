@@ -6,7 +6,7 @@ use mathlib.Core.Bool.{true, false, true≢false}
 use mathlib.Core.List.{List, [], _∷_}
 use lib.Dec.{T, ltb}
 use borrow.Author.Tests.{eqb-false}
-use Rattle.tib_real.specs.FromOctets.{made}
+use Rattle.tib_real.specs.FromOctets.{withBits}
 use Rattle.tib_real.specs.declared.types.Real.{Real}
 use Rattle.tib_field.specs.Refused.{noReal, refusedField}
 use Rattle.tib_field.specs.declared.Field.{Field}
@@ -57,7 +57,7 @@ no-third = both field (λ f. asked (two-fields f) 2) (λ f. refusedField 18 0) t
 hinted-real : Sample (field tibmsg)
 unfolding tib message
 hinted-real =
-    given (asked (message tibmsg (0 ∷ 0x47 ∷ 4 ∷ 0x3f ∷ 0x80 ∷ 0 ∷ 0 ∷ 6 ∷ 1 ∷ 2 ∷ [])) 0) (found 9 7 4 6 (made 0x3ff0000000000000 2 true)) tt refl
+    given (asked (message tibmsg (0 ∷ 0x47 ∷ 4 ∷ 0x3f ∷ 0x80 ∷ 0 ∷ 0 ∷ 6 ∷ 1 ∷ 2 ∷ [])) 0) (found 9 7 4 6 (withBits 0x3ff0000000000000 2 true)) tt refl
 
 abbrev refusal : Field → ℕ
 refusal a = a .refusal

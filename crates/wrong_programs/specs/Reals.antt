@@ -2,7 +2,7 @@
 use Prim.Native.Nat.{ℕ}
 use mathlib.Core.Bool.{Bool, _&&_}
 use mathlib.Core.List.{List}
-use Rattle.tib_real.specs.FromOctets.{made, realOf}
+use Rattle.tib_real.specs.FromOctets.{withBits, realOf}
 use Rattle.tib_real.specs.InFractions.{fractionsOf}
 use Rattle.tib_real.specs.declared.types.Real.{Real}
 use Rattle.tib_real.specs.declared.types.Fractions.{Fractions}
@@ -38,4 +38,4 @@ FractionsCall = Given fractionsFits
 
 -- The contract of tib_real::fractions, and of crudvim_fractions, where `hinted` is a number and every one but 0 is taken for true.
 unfoldable pub fractions : FractionsCall → Fractions
-fractions x = fractionsOf (made (x .value .bits) (x .value .hint) (x .value .hinted))
+fractions x = fractionsOf (withBits (x .value .bits) (x .value .hint) (x .value .hinted))

@@ -4,8 +4,8 @@ use mathlib.Core.Bool.{Bool, _&&_}
 use mathlib.Core.List.{List}
 use Rattle.reading.specs.declared.Checked.{Checked}
 use Rattle.tib_field.specs.declared.Field.{Field}
-use Rattle.tib_msg.specs.Answers as msg
-use Rattle.tib_rv.specs.Answers as rv
+use Rattle.tib_msg.specs.CheckAndField as msg
+use Rattle.tib_rv.specs.CheckAndField as rv
 use Rattle.wrong_programs.specs.Kinds.{Given, octets, word}
 
 pub data Format : Type 0 where

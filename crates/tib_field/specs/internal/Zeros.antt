@@ -4,18 +4,18 @@ use mathlib.Core.Path.{_≡_}
 use mathlib.Core.Bool.{Bool, true, false}
 use mathlib.Core.List.{List}
 use lib.ListN.{getD}
-use Rattle.tib_field.specs.declared.Front.{Front}
-use Rattle.tib_field.specs.declared.Front.the-variants.{End, Fault, Name as Sized}
-use Rattle.tib_field.specs.Name.{nameFront}
+use Rattle.tib_field.specs.declared.NameStep.{NameStep}
+use Rattle.tib_field.specs.declared.NameStep.the-variants.{End, Fault, Name as Sized}
+use Rattle.tib_field.specs.Name.{nameStep}
 
 -- The number with which the name at the front is refused, 0 where it is not.
-unfoldable pub faultOf : Front → ℕ
+unfoldable pub faultOf : NameStep → ℕ
 faultOf End = 0
 faultOf (Fault k) = k
 faultOf (Sized n) = 0
 
 unfoldable pub nameFault : List ℕ → ℕ
-nameFault s = faultOf (nameFront s)
+nameFault s = faultOf (nameStep s)
 
 -- Whether a zero stands at a place from a on that is below both b and n: one does, or none.
 unfoldable pub ZeroIn : Bool → List ℕ → ℕ → ℕ → ℕ → Type 0

@@ -4,7 +4,7 @@ use lib.ListN.{length}
 use Rattle.reading.specs.internal.Verdicts.{checkedBy}
 use Rattle.reading.proofs.Checks.{answer-by-verdict}
 use Rattle.tib_msg_field.specs.Reading.{reading}
-use Rattle.tib_msg.specs.Answers.{depth, check}
+use Rattle.tib_msg.specs.CheckAndField.{depth, check}
 use borrow.Author.Needs.{needs}
 use Rattle.tib_msg.proofs.check.Statement.{statement}
 use Rattle.tib_msg.proofs.check.Tie as tie

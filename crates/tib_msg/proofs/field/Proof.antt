@@ -1,9 +1,9 @@
 -- `tib_msg::field` meets its contract.
 use mathlib.Core.Path.{sym, _∙_}
 use lib.ListN.{length}
-use Rattle.tib_field.proofs.Answers.{verdict-accepted, field-refused}
+use Rattle.tib_field.proofs.ReadingLaws.{verdict-accepted, field-refused}
 use Rattle.tib_msg_field.specs.Reading.{reading}
-use Rattle.tib_msg.specs.Answers.{depth, shown, places, field}
+use Rattle.tib_msg.specs.CheckAndField.{depth, shown, places, field}
 use Rattle.tib_msg.proofs.Kths.{field-found, field-absent}
 use borrow.Author.Needs.{needs}
 use Rattle.tib_msg.proofs.field.Statement.{statement}

@@ -32,17 +32,17 @@ returns-3 c =
     c .refuse3 .ensures
     ∙ other-magic (c .before .before .before .before .before .before .before .args .message .now) (c .before .before .before .before .before .if1 .left) (c .before .before .before .before .if2 .left) (sym (c .before .before .begins .ensures) ∙ not-true _ (c .before .if3 .taken))
 
-sub-number : tie.Need-sub-number
-sub-number c = search needs
+sub-uint : tie.Need-sub-uint
+sub-uint c = search needs
 
-part-number-start : tie.Need-part-number-start
-part-number-start c = search needs
+part-uint-start : tie.Need-part-uint-start
+part-uint-start c = search needs
 
-part-number-end : tie.Need-part-number-end
-part-number-end c = search needs
+part-uint-end : tie.Need-part-uint-end
+part-uint-end c = search needs
 
-number-requires : tie.Need-number-requires
-number-requires c κs = search needs
+uint-requires : tie.Need-uint-requires
+uint-requires c κs = search needs
 
 refuse-requires-4 : tie.Need-refuse-requires-4
 refuse-requires-4 c κs = search needs
@@ -51,7 +51,7 @@ returns-4 : tie.Need-returns-4
 returns-4 c =
     c .refuse4 .ensures
     ∙ other-size (c .before .before .before .before .before .before .before .before .before .before .args .message .now) (c .before .before .before .before .before .before .before .before .if1 .left) (c .before .before .before .before .before .before .before .if2 .left) (sym (c .before .before .before .before .before .begins .ensures) ∙ not-false _ (c .before .before .before .before .if3 .left))
-    (c .before .before .number .result) (c .before .before .number .ensures) (c .before .if4 .taken)
+    (c .before .before .uint .result) (c .before .before .uint .ensures) (c .before .if4 .taken)
 
 traverse-requires : tie.Need-traverse-requires
 traverse-requires c κs = search needs
@@ -60,7 +60,7 @@ returns-5 : tie.Need-returns-5
 returns-5 c =
     c .traverse .ensures
     ∙ good-header (c .before .before .before .before .before .before .before .before .before .before .args .message .now) (c .before .before .before .before .before .before .before .before .if1 .left) (c .before .before .before .before .before .before .before .if2 .left) (sym (c .before .before .before .before .before .begins .ensures) ∙ not-false _ (c .before .before .before .before .if3 .left))
-    (c .before .before .number .result) (c .before .before .number .ensures) (c .before .if4 .left)
+    (c .before .before .uint .result) (c .before .before .uint .ensures) (c .before .if4 .left)
 
 pub read-spec : {M : Type 1} → statement M
 read-spec =
@@ -74,10 +74,10 @@ read-spec =
     begins-requires
     refuse-requires-3
     returns-3
-    sub-number
-    part-number-start
-    part-number-end
-    number-requires
+    sub-uint
+    part-uint-start
+    part-uint-end
+    uint-requires
     refuse-requires-4
     returns-4
     traverse-requires

@@ -1,7 +1,7 @@
 -- `tib_msg::real_shown` meets its contract.
 use mathlib.Core.Path.{_∙_}
 use borrow.Author.Tests.{eq-eqb, ne-eqb}
-use Rattle.tib_msg.specs.Answers.{realShown}
+use Rattle.tib_msg.specs.CheckAndField.{realShown}
 use borrow.Author.Needs.{needs}
 use Rattle.tib_msg.proofs.real_shown.Statement.{statement}
 use Rattle.tib_msg.proofs.real_shown.Tie as tie

@@ -31,18 +31,18 @@ add-end c = omega arith
 hinted-requires : tie.Need-hinted-requires
 hinted-requires c κs = search needs
 
-sub-hint-number : tie.Need-sub-hint-number
-sub-hint-number c = search needs
+sub-hint-value : tie.Need-sub-hint-value
+sub-hint-value c = search needs
 
-part-hint-number-start : tie.Need-part-hint-number-start
-part-hint-number-start c = search needs
+part-hint-value-start : tie.Need-part-hint-value-start
+part-hint-value-start c = search needs
 
-part-hint-number-end : tie.Need-part-hint-number-end
+part-hint-value-end : tie.Need-part-hint-value-end
 unfolding total
-part-hint-number-end c = omega arith
+part-hint-value-end c = omega arith
 
-hint-number-requires : tie.Need-hint-number-requires
-hint-number-requires c κs = search needs
+hint-value-requires : tie.Need-hint-value-requires
+hint-value-requires c κs = search needs
 
 add-t11 : tie.Need-add-t11
 add-t11 c = search needs
@@ -75,8 +75,8 @@ real-shown-requires c κs = search needs
 
 returns : tie.Need-returns
 returns c =
-    shown-is (c .before .before .before .before .before .before .before .before .before .before .before .before .before .args .message .now) (c .before .before .before .before .before .before .before .before .before .before .before .before .before .args .at) (c .before .before .before .before .before .before .before .before .before .before .before .before .before .args .z) (c .before .before .before .before .before .before .before .before .before .before .before .before .before .pre .0) (c .before .before .before .before .before .before .before .before .before .before .before .kind .result) (c .before .before .before .before .hint-number .result) (c .before .before .first .result)
-    (c .before .before .before .before .before .before .hinted .result) (c .real-shown .result) (c .before .before .before .before .before .before .before .before .before .before .before .kind .ensures) (c .before .before .before .before .before .before .hinted .ensures) (c .before .before .before .before .hint-number .ensures)
+    shown-is (c .before .before .before .before .before .before .before .before .before .before .before .before .before .args .message .now) (c .before .before .before .before .before .before .before .before .before .before .before .before .before .args .at) (c .before .before .before .before .before .before .before .before .before .before .before .before .before .args .z) (c .before .before .before .before .before .before .before .before .before .before .before .before .before .pre .0) (c .before .before .before .before .before .before .before .before .before .before .before .kind .result) (c .before .before .before .before .hint-value .result) (c .before .before .first .result)
+    (c .before .before .before .before .before .before .hinted .result) (c .real-shown .result) (c .before .before .before .before .before .before .before .before .before .before .before .kind .ensures) (c .before .before .before .before .before .before .hinted .ensures) (c .before .before .before .before .hint-value .ensures)
     (c .before .before .first .ensures) (c .real-shown .ensures)
 
 pub shown-spec : {M : Type 1} → statement M
@@ -90,10 +90,10 @@ shown-spec =
     add-hint
     add-end
     hinted-requires
-    sub-hint-number
-    part-hint-number-start
-    part-hint-number-end
-    hint-number-requires
+    sub-hint-value
+    part-hint-value-start
+    part-hint-value-end
+    hint-value-requires
     add-t11
     sub-first
     part-first-start

@@ -6,7 +6,7 @@ use mathlib.Core.Path.{refl}
 use lib.ListN.{length}
 use Rattle.octets.proofs.Slices.{seen}
 use Rattle.tib_msg_field.specs.Reading.{nextField}
-use Rattle.tib_msg.proofs.Turns.{State, start, at-end, at-fault, forward, over-field}
+use Rattle.tib_msg.proofs.TraverseLoop.{State, start, at-end, at-fault, forward, over-field}
 use Rattle.tib_msg.proofs.traverse.Statement.{statement}
 use Rattle.tib_msg.proofs.traverse.Tie as tie
 

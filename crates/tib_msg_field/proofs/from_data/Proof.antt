@@ -1,7 +1,7 @@
 -- `tib_msg_field::from_data` meets its contract.
 use mathlib.Core.Path.{sym, _∙_}
 use Rattle.tib_msg_field.specs.Reading.{withHint}
-use Rattle.tib_msg_field.proofs.Fronts.{data-cut, data-whole}
+use Rattle.tib_msg_field.proofs.StepTests.{data-cut, data-whole}
 use borrow.Author.Needs.{needs}
 use Rattle.tib_msg_field.proofs.from_data.Statement.{statement}
 use Rattle.tib_msg_field.proofs.from_data.Tie as tie

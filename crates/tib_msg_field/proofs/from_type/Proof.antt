@@ -1,6 +1,6 @@
 -- `tib_msg_field::from_type` meets its contract.
 use mathlib.Core.Path.{sym, _∙_}
-use Rattle.tib_msg_field.proofs.Fronts.{type-cut, type-bad, type-good}
+use Rattle.tib_msg_field.proofs.StepTests.{type-cut, type-bad, type-good}
 use borrow.Author.Needs.{needs}
 use Rattle.tib_msg_field.proofs.from_type.Statement.{statement}
 use Rattle.tib_msg_field.proofs.from_type.Tie as tie

@@ -11,12 +11,12 @@ hinted-requires c κs = search needs
 kind-requires : tie.Need-kind-requires
 kind-requires c κs = search needs
 
-hint-front-requires : tie.Need-hint-front-requires
-hint-front-requires c κs = search needs
+read-hint-requires : tie.Need-read-hint-requires
+read-hint-requires c κs = search needs
 
 returns : tie.Need-returns
 unfolding hintAt
-returns c = c .hint-front .ensures ∙ rw (c .before .kind .ensures, sym (c .before .before .before .hinted .ensures) ∙ c .before .before .if1 .taken)
+returns c = c .read-hint .ensures ∙ rw (c .before .kind .ensures, sym (c .before .before .before .hinted .ensures) ∙ c .before .before .if1 .taken)
 
 returns-2 : tie.Need-returns-2
 unfolding hintAt
@@ -24,4 +24,4 @@ returns-2 c = rw (sym (c .before .hinted .ensures) ∙ c .if1 .left)
 
 pub hint-at-spec : {M : Type 1} → statement M
 hint-at-spec =
-    tie.close (tie.spec hinted-requires kind-requires hint-front-requires returns returns-2)
+    tie.close (tie.spec hinted-requires kind-requires read-hint-requires returns returns-2)

@@ -14,9 +14,9 @@ use Rattle.tib_rv_field.specs.Reading.{nextField, total, fieldsFrom, headerFaul
 use Rattle.reading.specs.Reading.{messageLimit}
 use Rattle.reading.specs.internal.Verdicts.{verdictOf}
 use Rattle.octets.proofs.Slices.{seen}
-use Rattle.tib_rv.specs.Answers.{count}
+use Rattle.tib_rv.specs.CheckAndField.{count}
 use Rattle.tib_rv_field.proofs.Accepted.{header-good}
-use Rattle.tib_rv.proofs.Turns.{State, start, at-end, at-fault, over-leaf, over-nested, refused-nested, over-fits, into-fits, lead-within, counts-small, header-open, header-bad, too-deep}
+use Rattle.tib_rv.proofs.MessageLoop.{State, start, at-end, at-fault, over-leaf, over-nested, refused-nested, over-fits, into-fits, lead-within, counts-small, header-open, header-bad, too-deep}
 use borrow.Fn.Kinds.{In}
 use borrow.Fn.PlainCycle.{Measures, is, falls, and}
 use Rattle.tib_rv.proofs.message.Reads as message

@@ -4,7 +4,7 @@ use Rattle.reading.specs.internal.Verdicts.{checkedBy}
 use Rattle.reading.proofs.Checks.{answer-by-verdict}
 use Rattle.tib_rv_field.specs.Layout.{depth}
 use Rattle.tib_rv_field.specs.Reading.{reading}
-use Rattle.tib_rv.specs.Answers.{count, check}
+use Rattle.tib_rv.specs.CheckAndField.{count, check}
 use borrow.Author.Needs.{needs}
 use Rattle.tib_rv.proofs.check.Statement.{statement}
 use Rattle.tib_rv.proofs.check.Tie as tie

@@ -1,10 +1,10 @@
 -- `tib_rv::field` meets its contract.
 use mathlib.Core.Path.{sym, _∙_}
 use native.Mathlib.Omega.{arith}
-use Rattle.tib_field.proofs.Answers.{verdict-accepted, field-refused}
+use Rattle.tib_field.proofs.ReadingLaws.{verdict-accepted, field-refused}
 use Rattle.tib_rv_field.specs.Layout.{depth}
 use Rattle.tib_rv_field.specs.Reading.{reading}
-use Rattle.tib_rv.specs.Answers.{count, shown, places, field}
+use Rattle.tib_rv.specs.CheckAndField.{count, shown, places, field}
 use Rattle.tib_rv.proofs.Kths.{field-found, field-absent}
 use borrow.Author.Needs.{needs}
 use Rattle.tib_rv.proofs.field.Statement.{statement}

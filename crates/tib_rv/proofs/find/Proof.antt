@@ -17,33 +17,33 @@ abbrev μ-loop : tie.MeasureT-loop
 loop-holds : tie.Need-loop-holds Inv-loop μ-loop
 loop-holds c = start (c .before .args .s .now) (c .before .args .k) (c .before .pre)
 
-sub-next-outer : tie.Need-sub-next-outer Inv-loop μ-loop
-sub-next-outer c = omega arith
+sub-next-any : tie.Need-sub-next-any Inv-loop μ-loop
+sub-next-any c = omega arith
 
-part-next-outer-start : tie.Need-part-next-outer-start Inv-loop μ-loop
-part-next-outer-start c = omega arith
+part-next-any-start : tie.Need-part-next-any-start Inv-loop μ-loop
+part-next-any-start c = omega arith
 
-part-next-outer-end : tie.Need-part-next-outer-end Inv-loop μ-loop
-part-next-outer-end c = omega arith
+part-next-any-end : tie.Need-part-next-any-end Inv-loop μ-loop
+part-next-any-end c = omega arith
 
-next-outer-requires : tie.Need-next-outer-requires Inv-loop μ-loop
-next-outer-requires c κs = search needs
+next-any-requires : tie.Need-next-any-requires Inv-loop μ-loop
+next-any-requires c κs = search needs
 
 enum-told : tie.Need-enum-told Inv-loop μ-loop
 enum-told c = search needs
 
 returns : tie.Need-returns Inv-loop μ-loop
-returns c = ended (c .before .before .before .before .before .before .args .s .now) (c .before .before .before .before .before .before .args .k) (c .before .before .before .before .loop .i) (c .before .before .before .before .loop .remaining) (c .before .before .before .before .loop .inv) (seen next (c .before .before .before .before .before .before .args .s .now) (c .before .before .before .before .loop .i) _ _ (c .before .before .next-outer .ensures) (c .enum-told .given .1))
+returns c = ended (c .before .before .before .before .before .before .args .s .now) (c .before .before .before .before .before .before .args .k) (c .before .before .before .before .loop .i) (c .before .before .before .before .loop .remaining) (c .before .before .before .before .loop .inv) (seen next (c .before .before .before .before .before .before .args .s .now) (c .before .before .before .before .loop .i) _ _ (c .before .before .next-any .ensures) (c .enum-told .given .1))
 
 enum-known-z : tie.Need-enum-known-z Inv-loop μ-loop
 enum-known-z c = search needs
 
 returns-2 : tie.Need-returns-2 Inv-loop μ-loop
-returns-2 c = one-more (c .before .before .before .before .before .before .before .before .args .s .now) (c .before .before .before .before .before .before .before .before .args .k) (c .before .before .before .before .before .before .loop .i) (c .before .before .before .before .before .before .loop .remaining) (c .before .before .before .before .before .before .loop .inv) _ (seen next (c .before .before .before .before .before .before .before .before .args .s .now) (c .before .before .before .before .before .before .loop .i) _ _ (c .before .before .before .before .next-outer .ensures) (c .before .before .z .given .1)) .this-one (c .if1 .taken)
+returns-2 c = one-more (c .before .before .before .before .before .before .before .before .args .s .now) (c .before .before .before .before .before .before .before .before .args .k) (c .before .before .before .before .before .before .loop .i) (c .before .before .before .before .before .before .loop .remaining) (c .before .before .before .before .before .before .loop .inv) _ (seen next (c .before .before .before .before .before .before .before .before .args .s .now) (c .before .before .before .before .before .before .loop .i) _ _ (c .before .before .before .before .next-any .ensures) (c .before .before .z .given .1)) .this-one (c .if1 .taken)
 
 past-requires : tie.Need-past-requires Inv-loop μ-loop
 past-requires c κs =
-    let r = one-more (c .before .before .before .before .before .before .before .before .args .s .now) (c .before .before .before .before .before .before .before .before .args .k) (c .before .before .before .before .before .before .loop .i) (c .before .before .before .before .before .before .loop .remaining) (c .before .before .before .before .before .before .loop .inv) _ (seen next (c .before .before .before .before .before .before .before .before .args .s .now) (c .before .before .before .before .before .before .loop .i) _ _ (c .before .before .before .before .next-outer .ensures) (c .before .before .z .given .1)) .fits in
+    let r = one-more (c .before .before .before .before .before .before .before .before .args .s .now) (c .before .before .before .before .before .before .before .before .args .k) (c .before .before .before .before .before .before .loop .i) (c .before .before .before .before .before .before .loop .remaining) (c .before .before .before .before .before .before .loop .inv) _ (seen next (c .before .before .before .before .before .before .before .before .args .s .now) (c .before .before .before .before .before .before .loop .i) _ _ (c .before .before .before .before .next-any .ensures) (c .before .before .z .given .1)) .fits in
     omega arith
 
 sub-remaining : tie.Need-sub-remaining Inv-loop μ-loop
@@ -51,14 +51,14 @@ sub-remaining c = omega arith
 
 loop-less : tie.Need-loop-less Inv-loop μ-loop
 loop-less c =
-    let r = one-more (c .before .before .before .before .before .before .before .before .before .args .s .now) (c .before .before .before .before .before .before .before .before .before .args .k) (c .before .before .before .before .before .before .before .loop .i) (c .before .before .before .before .before .before .before .loop .remaining) (c .before .before .before .before .before .before .before .loop .inv) _ (seen next (c .before .before .before .before .before .before .before .before .before .args .s .now) (c .before .before .before .before .before .before .before .loop .i) _ _ (c .before .before .before .before .before .next-outer .ensures) (c .before .before .before .z .given .1)) in
+    let r = one-more (c .before .before .before .before .before .before .before .before .before .args .s .now) (c .before .before .before .before .before .before .before .before .before .args .k) (c .before .before .before .before .before .before .before .loop .i) (c .before .before .before .before .before .before .before .loop .remaining) (c .before .before .before .before .before .before .before .loop .inv) _ (seen next (c .before .before .before .before .before .before .before .before .before .args .s .now) (c .before .before .before .before .before .before .before .loop .i) _ _ (c .before .before .before .before .before .next-any .ensures) (c .before .before .before .z .given .1)) in
     let p = r .takes in
     let q = r .fits in
     let n = c .past .ensures in
     omega arith
 
 loop-again : tie.Need-loop-again Inv-loop μ-loop
-loop-again c = one-more (c .before .before .before .before .before .before .before .before .before .args .s .now) (c .before .before .before .before .before .before .before .before .before .args .k) (c .before .before .before .before .before .before .before .loop .i) (c .before .before .before .before .before .before .before .loop .remaining) (c .before .before .before .before .before .before .before .loop .inv) _ (seen next (c .before .before .before .before .before .before .before .before .before .args .s .now) (c .before .before .before .before .before .before .before .loop .i) _ _ (c .before .before .before .before .before .next-outer .ensures) (c .before .before .before .z .given .1)) .later-one _ (c .before .if1 .left) (c .past .ensures)
+loop-again c = one-more (c .before .before .before .before .before .before .before .before .before .args .s .now) (c .before .before .before .before .before .before .before .before .before .args .k) (c .before .before .before .before .before .before .before .loop .i) (c .before .before .before .before .before .before .before .loop .remaining) (c .before .before .before .before .before .before .before .loop .inv) _ (seen next (c .before .before .before .before .before .before .before .before .before .args .s .now) (c .before .before .before .before .before .before .before .loop .i) _ _ (c .before .before .before .before .before .next-any .ensures) (c .before .before .before .z .given .1)) .later-one _ (c .before .if1 .left) (c .past .ensures)
 
 pub find-spec : {M : Type 1} → statement M
 find-spec =
@@ -67,10 +67,10 @@ find-spec =
     Inv-loop
     μ-loop
     loop-holds
-    sub-next-outer
-    part-next-outer-start
-    part-next-outer-end
-    next-outer-requires
+    sub-next-any
+    part-next-any-start
+    part-next-any-end
+    next-any-requires
     enum-told
     returns
     enum-known-z

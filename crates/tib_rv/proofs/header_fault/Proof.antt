@@ -26,26 +26,26 @@ begins-requires c κs = search needs
 returns-2 : tie.Need-returns-2
 returns-2 c = other-magic (c .before .before .before .before .before .before .args .s .now) (c .before .before .before .before .if1 .left) (c .before .begins .result) (c .before .begins .ensures) (not-true _ (c .if2 .taken))
 
-sub-number : tie.Need-sub-number
-sub-number c = search needs
+sub-uint : tie.Need-sub-uint
+sub-uint c = search needs
 
-part-number-start : tie.Need-part-number-start
-part-number-start c = search needs
+part-uint-start : tie.Need-part-uint-start
+part-uint-start c = search needs
 
-part-number-end : tie.Need-part-number-end
-part-number-end c = search needs
+part-uint-end : tie.Need-part-uint-end
+part-uint-end c = search needs
 
-number-requires : tie.Need-number-requires
-number-requires c κs = search needs
+uint-requires : tie.Need-uint-requires
+uint-requires c κs = search needs
 
 returns-3 : tie.Need-returns-3
 returns-3 c =
-    other-size (c .before .before .before .before .before .before .before .before .before .args .s .now) (c .before .before .before .before .before .before .before .if1 .left) (c .before .before .before .before .begins .result) (c .before .before .before .before .begins .ensures) (c .before .number .result) (c .before .number .ensures)
+    other-size (c .before .before .before .before .before .before .before .before .before .args .s .now) (c .before .before .before .before .before .before .before .if1 .left) (c .before .before .before .before .begins .result) (c .before .before .before .before .begins .ensures) (c .before .uint .result) (c .before .uint .ensures)
     (not-false _ (c .before .before .before .if2 .left)) (c .if3 .taken)
 
 returns-4 : tie.Need-returns-4
 returns-4 c =
-    no-fault (c .before .before .before .before .before .before .before .before .before .args .s .now) (c .before .before .before .before .before .before .before .if1 .left) (c .before .before .before .before .begins .result) (c .before .before .before .before .begins .ensures) (c .before .number .result) (c .before .number .ensures)
+    no-fault (c .before .before .before .before .before .before .before .before .before .args .s .now) (c .before .before .before .before .before .before .before .if1 .left) (c .before .before .before .before .begins .result) (c .before .before .before .before .begins .ensures) (c .before .uint .result) (c .before .uint .ensures)
     (not-false _ (c .before .before .before .if2 .left)) (c .if3 .left)
 
 pub header-fault-spec : {M : Type 1} → statement M
@@ -59,9 +59,9 @@ header-fault-spec =
     slice-aggregate-begins
     begins-requires
     returns-2
-    sub-number
-    part-number-start
-    part-number-end
-    number-requires
+    sub-uint
+    part-uint-start
+    part-uint-end
+    uint-requires
     returns-3
     returns-4)

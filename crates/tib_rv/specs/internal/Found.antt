@@ -1,4 +1,4 @@
--- What the private functions `find`, `next_outer` and `shown` answer.
+-- What the private functions `find`, `next_any` and `shown` answer.
 use Prim.Native.Nat.{ℕ, _+_}
 use mathlib.Core.Bool.{false}
 use mathlib.Core.Option.{Option}
@@ -7,8 +7,8 @@ use Rattle.tib_field.specs.Refused.{noReal}
 use Rattle.tib_rv_field.specs.declared.Sizes.{Sizes}
 use Rattle.tib_rv_field.specs.declared.Step.{Step}
 use Rattle.tib_rv_field.specs.declared.Step.the-variants.{Done, Fault, Over, Into}
-use Rattle.tib_rv.specs.declared.Outer.{Outer}
-use Rattle.tib_rv.specs.declared.Outer.the-variants.{Nothing, Field}
+use Rattle.tib_rv.specs.declared.AnyField.{AnyField}
+use Rattle.tib_rv.specs.declared.AnyField.the-variants.{Nothing, Field}
 use Rattle.tib_field.specs.internal.KthOf.{foundOf}
 use Rattle.tib_rv.specs.declared.Kth.{Kth}
 use Rattle.tib_rv.specs.declared.Kth.the-variants.{At, Absent}
@@ -21,11 +21,11 @@ abbrev pub foundAt : Option (ℕ × Parts) → Kth
 foundAt = foundOf sizes At Absent
 
 -- The field that a step finds, of either kind.
-unfoldable pub outerOf : Step → Outer
-outerOf Done = Nothing
-outerOf (Fault refusal) = Nothing
-outerOf (Over z) = Field z
-outerOf (Into z) = Field z
+unfoldable pub anyField : Step → AnyField
+anyField Done = Nothing
+anyField (Fault refusal) = Nothing
+anyField (Over z) = Field z
+anyField (Into z) = Field z
 
 -- The answer for a field of these sizes that begins at a place.
 unfoldable pub shownSizes : ℕ → Sizes → Shown

@@ -2,7 +2,7 @@
 use mathlib.Core.Path.{_∙_}
 use borrow.Author.Needs.{needs}
 use native.Mathlib.Omega.{arith}
-use Rattle.tib_rv_field.proofs.Fronts.{size-none, marker-bad, size-short, size-long, follows-79, follows-7a}
+use Rattle.tib_rv_field.proofs.StepTests.{size-none, marker-bad, size-short, size-long, follows-79, follows-7a}
 use Rattle.tib_rv_field.proofs.from_size.Statement.{statement}
 use Rattle.tib_rv_field.proofs.from_size.Tie as tie
 

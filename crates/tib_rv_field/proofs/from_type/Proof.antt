@@ -1,6 +1,6 @@
 -- `tib_rv_field::from_type` meets its contract.
 use mathlib.Core.Path.{_∙_}
-use Rattle.tib_rv_field.proofs.Fronts.{type-cut, type-whole}
+use Rattle.tib_rv_field.proofs.StepTests.{type-cut, type-whole}
 use borrow.Author.Needs.{needs}
 use Rattle.tib_rv_field.proofs.from_type.Statement.{statement}
 use Rattle.tib_rv_field.proofs.from_type.Tie as tie

@@ -1,8 +1,8 @@
--- `tib_field::number` meets its contract.
+-- `tib_field::uint` meets its contract.
 use borrow.Author.Needs.{needs}
 use Rattle.tib_field.proofs.Numbers.{one-octet}
-use Rattle.tib_field.proofs.number.Statement.{statement}
-use Rattle.tib_field.proofs.number.Tie as tie
+use Rattle.tib_field.proofs.uint.Statement.{statement}
+use Rattle.tib_field.proofs.uint.Tie as tie
 
 shared-slice-read-wide : tie.Need-shared-slice-read-wide
 shared-slice-read-wide c = search needs
@@ -19,5 +19,5 @@ uint-requires c κs = search needs
 returns-2 : tie.Need-returns-2
 returns-2 c = search needs
 
-pub number-spec : {M : Type 1} → statement M
-number-spec = tie.close (tie.spec shared-slice-read-wide wide-requires returns uint-requires returns-2)
+pub uint-spec : {M : Type 1} → statement M
+uint-spec = tie.close (tie.spec shared-slice-read-wide wide-requires returns uint-requires returns-2)

@@ -8,25 +8,25 @@ use lib.ListN.{length, getD, take, drop}
 use lib.Seq.{length-take-le}
 use lib.Dec.{eqb}
 use borrow.Author.Tests.{lt-ltb, le-ltb}
-use Rattle.tib_msg_field.specs.declared.HintPart.the-variants.{Fault as HintFault}
+use Rattle.tib_msg_field.specs.declared.HintStep.the-variants.{Fault as HintFault}
 use Rattle.octets.specs.Number.{bigEndian}
 use Rattle.octets.specs.internal.Bounded.{unsigned}
 use Rattle.octets.proofs.Slices.{length-zero, tail-part, front-part}
 use Rattle.octets.proofs.Number.{unsigned-is}
 use Rattle.tib_msg_field.specs.declared.Step.the-variants.{Fault}
-use Rattle.tib_msg_field.specs.declared.HintPart.{HintPart}
+use Rattle.tib_msg_field.specs.declared.HintStep.{HintStep}
 use Rattle.tib_msg_field.specs.Layout.{kind, sizeWidth, sizeAllowed}
-use Rattle.tib_msg_field.specs.Reading.{typeAllowed, arrayHint, partialHint, valueHint, hintFront, hintAt, withHint, fromData, fromSize, fromType}
+use Rattle.tib_msg_field.specs.Reading.{typeAllowed, arrayHint, partialHint, valueHint, readHint, hintAt, withHint, fromData, fromSize, fromType}
 
-pub hint-cut : (k size : ℕ) (s : List ℕ) → length s < 2 → HintFault 3 ≡ hintFront k size s
-unfolding hintFront
+pub hint-cut : (k size : ℕ) (s : List ℕ) → length s < 2 → HintFault 3 ≡ readHint k size s
+unfolding readHint
 hint-cut k size [] h = refl
 hint-cut k size (t ∷ []) h = refl
 hint-cut k size (t ∷ n ∷ s) h = absurd (omega arith)
 
 pub hint-two : (k size : ℕ) (s : List ℕ) (t n : ℕ) → 2 ≤ length s → t ≡ getD s 0 0 → n ≡ getD s 1 0
-    → cond (eqb k 8) (arrayHint size t n) (cond (eqb k 9) (partialHint t) (valueHint t n (length s - 2))) ≡ hintFront k size s
-unfolding hintFront
+    → cond (eqb k 8) (arrayHint size t n) (cond (eqb k 9) (partialHint t) (valueHint t n (length s - 2))) ≡ readHint k size s
+unfolding readHint
 hint-two k size [] t n h p q = absurd (omega arith)
 hint-two k size (a ∷ []) t n h p q = absurd (omega arith)
 hint-two k size (a ∷ b ∷ s) t n h p q = let e : suc (suc (length s)) - 2 ≡ length s = omega arith in rw (p, q, e)
@@ -36,7 +36,7 @@ module _ (n c w l : ℕ) (s : List ℕ) where
   unfolding fromData
   data-cut h = rw (lt-ltb (length s) l h)
 
-  pub data-whole : l ≤ length s → (p : HintPart) → p ≡ hintAt c l (take (length s - l) (drop l s)) → withHint n c w l p ≡ fromData n c w l s
+  pub data-whole : l ≤ length s → (p : HintStep) → p ≡ hintAt c l (take (length s - l) (drop l s)) → withHint n c w l p ≡ fromData n c w l s
   unfolding fromData
   data-whole h p e = rw (le-ltb (length s) l h, e, tail-part s l)
 

@@ -14,7 +14,7 @@ use Rattle.tib_msg_field.specs.Layout.{Parts, octets}
 use Rattle.tib_msg_field.specs.Reading.{nextField, total, partsAt, afterStep, fieldsFrom}
 use Rattle.tib_msg_field.specs.internal.Sizes.{sizes}
 use Rattle.tib_msg_field.proofs.Steps.{step-found, length-octets}
-use Rattle.tib_msg.specs.Answers.{depth}
+use Rattle.tib_msg.specs.CheckAndField.{depth}
 
 -- A field that is found lies within the octets, and takes one of them or more.
 pub step-inside : (s : List ℕ) (z : Sizes) → nextField s ≡ Over z → (1 ≤ total z) × (total z ≤ length s)

@@ -1,10 +1,10 @@
--- `tib_msg_field::hint_front` meets its contract.
+-- `tib_msg_field::read_hint` meets its contract.
 use borrow.Author.Tests.{eq-eqb, ne-eqb}
 use mathlib.Core.Path.{_∙_}
-use Rattle.tib_msg_field.proofs.Fronts.{hint-cut, hint-two}
+use Rattle.tib_msg_field.proofs.StepTests.{hint-cut, hint-two}
 use borrow.Author.Needs.{needs}
-use Rattle.tib_msg_field.proofs.hint_front.Statement.{statement}
-use Rattle.tib_msg_field.proofs.hint_front.Tie as tie
+use Rattle.tib_msg_field.proofs.read_hint.Statement.{statement}
+use Rattle.tib_msg_field.proofs.read_hint.Tie as tie
 
 returns : tie.Need-returns
 returns c = hint-cut (c .before .before .args .k) (c .before .before .args .size) (c .before .before .args .s .now) (c .if1 .taken)
@@ -51,8 +51,8 @@ returns-4 c =
     ∙ (rw (ne-eqb (c .before .before .before .before .before .before .before .before .before .args .k) 8 (c .before .before .if2 .left), ne-eqb (c .before .before .before .before .before .before .before .before .before .args .k) 9 (c .before .if3 .left)) at
     (hint-two (c .before .before .before .before .before .before .before .before .before .args .k) (c .before .before .before .before .before .before .before .before .before .args .size) (c .before .before .before .before .before .before .before .before .before .args .s .now) (c .before .before .before .before .before .wide .result) (c .before .before .before .wide2 .result) (c .before .before .before .before .before .before .before .if1 .left) (c .before .before .before .before .before .wide .ensures) (c .before .before .before .wide2 .ensures)))
 
-pub hint-front-spec : {M : Type 1} → statement M
-hint-front-spec =
+pub read-hint-spec : {M : Type 1} → statement M
+read-hint-spec =
     tie.close
     (tie.spec
     returns

@@ -25,8 +25,8 @@ unfoldable pub check : List ℕ → Checked
 check s = counts length depth (reading s)
 
 -- The number of a hint: an array's element size and a partial's offset stand in the second octet, any other number after it.
-unfoldable pub hintNumber : ℕ → List ℕ → ℕ
-hintNumber kind hint = cond (eqb kind 8 || eqb kind 9) (getD hint 1 0) (bigEndian (drop 2 hint))
+unfoldable pub hintValue : ℕ → List ℕ → ℕ
+hintValue kind hint = cond (eqb kind 8 || eqb kind 9) (getD hint 1 0) (bigEndian (drop 2 hint))
 
 -- The real of a field of type 7, made of its data and its hint; any other field answers one of zeros.
 unfoldable pub realShown : ℕ → List ℕ → ℕ → Bool → Real
@@ -45,8 +45,8 @@ shown at f =
       «data_length» = length (f .contents);
       hinted = hinted (f .octet);
       «hint_kind» = getD (f .hint) 0 0;
-      hint = hintNumber (kind (f .octet)) (f .hint);
-      real = realShown (kind (f .octet)) (f .contents) (hintNumber (kind (f .octet)) (f .hint)) (hinted (f .octet));
+      hint = hintValue (kind (f .octet)) (f .hint);
+      real = realShown (kind (f .octet)) (f .contents) (hintValue (kind (f .octet)) (f .hint)) (hinted (f .octet));
     }
 
 -- The fields with the places where they begin, the first after the header.

@@ -11,7 +11,7 @@ use Rattle.reading.specs.Checks.{refusal, counts}
 use Rattle.reading.specs.declared.Verdict.the-variants.{Accepted, Refused}
 use Rattle.tib_field.specs.Refused.{refusedField}
 use Rattle.tib_field.specs.declared.Field.{Field}
-use Rattle.tib_field.specs.Kth.{answerFor, fieldOf}
+use Rattle.tib_field.specs.Kth.{fieldOrAbsent, fieldOf}
 use Rattle.tib_field.specs.internal.KthOf.{kthOf}
 
 pub not-accepted : {A : Type 0} (k place : ℕ) (x : A) → refused k place ≡ accepted x → ⊥
@@ -72,6 +72,6 @@ module _ {A : Type 0} (r : Reading A) (Fault : ℕ → ℕ → Type 0) (refuses 
 
 -- The answer of a message that is accepted is that for its k-th field.
 pub field-of-kth : {A B : Type 0} (shown : ℕ → B → Field) (fields : A → List (ℕ × B)) (k : ℕ) (r : Reading A) → IsAccepted r
-    → (w : Option (ℕ × B)) → kthOf fields k r ≡ w → answerFor shown w ≡ fieldOf shown fields k r
+    → (w : Option (ℕ × B)) → kthOf fields k r ≡ w → fieldOrAbsent shown w ≡ fieldOf shown fields k r
 unfolding IsAccepted kthOf fieldOf
-field-of-kth shown fields k r a w e = ap (answerFor shown) (sym e) ∙ rw (a .1)
+field-of-kth shown fields k r a w e = ap (fieldOrAbsent shown) (sym e) ∙ rw (a .1)

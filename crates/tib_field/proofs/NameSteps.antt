@@ -5,25 +5,25 @@ use mathlib.Core.Path.{_≡_, refl, sym, ap, _∙_}
 use mathlib.Core.List.{List, [], _∷_, _++_}
 use lib.ListN.{length, take, drop}
 use lib.Seq.{drop-at}
-use Rattle.tib_field.specs.Name.{Name, nameFront, afterName}
-use Rattle.tib_field.specs.declared.Front.{Front}
-use Rattle.tib_field.specs.declared.Front.the-variants.{End, Fault, Name as Sized}
+use Rattle.tib_field.specs.Name.{Name, nameStep, afterName}
+use Rattle.tib_field.specs.declared.NameStep.{NameStep}
+use Rattle.tib_field.specs.declared.NameStep.the-variants.{End, Fault, Name as Sized}
 use Rattle.tib_field.proofs.Names.{front-end, front-found, front-of-name}
 use Rattle.octets.proofs.Slices.{tail-part}
 
 module _ {A : Type 0} (done : A) (fault : ℕ → A) (after : ℕ → List ℕ → A) where
   abbrev pub next : List ℕ → A
-  next s = afterName done fault after s (nameFront s)
+  next s = afterName done fault after s (nameStep s)
 
-  pub next-of-end : (s : List ℕ) → nameFront s ≡ End → done ≡ next s
+  pub next-of-end : (s : List ℕ) → nameStep s ≡ End → done ≡ next s
   unfolding afterName
   next-of-end s e = rw e
 
-  pub next-of-fault : (s : List ℕ) (k : ℕ) → nameFront s ≡ Fault k → fault k ≡ next s
+  pub next-of-fault : (s : List ℕ) (k : ℕ) → nameStep s ≡ Fault k → fault k ≡ next s
   unfolding afterName
   next-of-fault s k e = rw e
 
-  pub next-of-sized : (s : List ℕ) (n : ℕ) → nameFront s ≡ Sized n → after n (take (length s - (1 + n)) (drop (1 + n) s)) ≡ next s
+  pub next-of-sized : (s : List ℕ) (n : ℕ) → nameStep s ≡ Sized n → after n (take (length s - (1 + n)) (drop (1 + n) s)) ≡ next s
   unfolding afterName
   next-of-sized s n e = rw (e, tail-part s (1 + n))
 
@@ -45,9 +45,9 @@ module _ {A : Type 0} (done : A) (fault : ℕ → A) (after : ℕ → List ℕ �
 
   pub name-found : (s : List ℕ) (q : A) → (done ≡ q → ⊥) → ((k : ℕ) → fault k ≡ q → ⊥) → next s ≡ q → AfterName s q
   unfolding afterName
-  name-found s q a b e = go (nameFront s) refl e
+  name-found s q a b e = go (nameStep s) refl e
     where
-      go : (f : Front) → nameFront s ≡ f → afterName done fault after s f ≡ q → AfterName s q
+      go : (f : NameStep) → nameStep s ≡ f → afterName done fault after s f ≡ q → AfterName s q
       go End f g = absurd (a g)
       go (Fault k) f g = absurd (b k g)
       go (Sized n) f g =
@@ -66,9 +66,9 @@ module _ {A : Type 0} (done : A) (fault : ℕ → A) (after : ℕ → List ℕ �
   -- Only where no octet is left is the end found.
   pub next-done : (s : List ℕ) → ((k : ℕ) → fault k ≡ done → ⊥) → ((n : ℕ) (r : List ℕ) → after n r ≡ done → ⊥) → next s ≡ done → s ≡ []
   unfolding afterName
-  next-done s a b e = go (nameFront s) refl e
+  next-done s a b e = go (nameStep s) refl e
     where
-      go : (f : Front) → nameFront s ≡ f → afterName done fault after s f ≡ done → s ≡ []
+      go : (f : NameStep) → nameStep s ≡ f → afterName done fault after s f ≡ done → s ≡ []
       go End f g = front-end s f
       go (Fault k) f g = absurd (a k g)
       go (Sized n) f g = absurd (b n (drop (1 + n) s) g)

@@ -17,7 +17,7 @@ use Rattle.reading.proofs.Traversal.{Traversal}
 use Rattle.tib_rv_field.specs.Layout.{Parts, octets, holder, magic, Fields, end, leaf, nested, joined, message, depth}
 use Rattle.tib_rv_field.specs.Reading.{nextField, lead, total, partsAt, Inner, nestedOf, afterStep, fieldsFrom, headerFault, messageFrom}
 use Rattle.tib_rv_field.specs.internal.Sizes.{sizes}
-use Rattle.tib_rv.specs.Answers.{count}
+use Rattle.tib_rv.specs.CheckAndField.{count}
 use Rattle.tib_rv_field.proofs.Steps.{step-found, step-held, length-octets}
 use Rattle.tib_rv_field.proofs.Accepted.{accepted-good, field-size, depth-positive}
 

@@ -1,9 +1,9 @@
--- `tib_msg::hint_number` meets its contract.
+-- `tib_msg::hint_value` meets its contract.
 use mathlib.Core.Path.{_∙_}
 use Rattle.tib_msg.proofs.Shows.{number-none, number-array, number-partial, number-value}
 use borrow.Author.Needs.{needs}
-use Rattle.tib_msg.proofs.hint_number.Statement.{statement}
-use Rattle.tib_msg.proofs.hint_number.Tie as tie
+use Rattle.tib_msg.proofs.hint_value.Statement.{statement}
+use Rattle.tib_msg.proofs.hint_value.Tie as tie
 
 returns : tie.Need-returns
 returns c = number-none (c .before .before .args .k) (c .before .before .args .s .now) (c .if1 .taken)
@@ -26,23 +26,23 @@ wide-requires-2 c κs = search needs
 returns-3 : tie.Need-returns-3
 returns-3 c = c .wide2 .ensures ∙ number-partial (c .before .before .before .before .before .before .args .k) (c .before .before .before .before .before .before .args .s .now) (c .before .before .before .if2 .left) (c .before .before .if3 .taken)
 
-sub-number : tie.Need-sub-number
-sub-number c = search needs
+sub-uint : tie.Need-sub-uint
+sub-uint c = search needs
 
-part-number-start : tie.Need-part-number-start
-part-number-start c = search needs
+part-uint-start : tie.Need-part-uint-start
+part-uint-start c = search needs
 
-part-number-end : tie.Need-part-number-end
-part-number-end c = search needs
+part-uint-end : tie.Need-part-uint-end
+part-uint-end c = search needs
 
-number-requires : tie.Need-number-requires
-number-requires c κs = search needs
+uint-requires : tie.Need-uint-requires
+uint-requires c κs = search needs
 
 returns-4 : tie.Need-returns-4
-returns-4 c = c .number .ensures ∙ number-value (c .before .before .before .before .before .before .args .k) (c .before .before .before .before .before .before .args .s .now) (c .before .before .before .if2 .left) (c .before .before .if3 .left) (c .before .before .before .before .before .before .pre)
+returns-4 c = c .uint .ensures ∙ number-value (c .before .before .before .before .before .before .args .k) (c .before .before .before .before .before .before .args .s .now) (c .before .before .before .if2 .left) (c .before .before .if3 .left) (c .before .before .before .before .before .before .pre)
 
-pub hint-number-spec : {M : Type 1} → statement M
-hint-number-spec =
+pub hint-value-spec : {M : Type 1} → statement M
+hint-value-spec =
     tie.close
     (tie.spec
     returns
@@ -52,8 +52,8 @@ hint-number-spec =
     shared-slice-read-wide-2
     wide-requires-2
     returns-3
-    sub-number
-    part-number-start
-    part-number-end
-    number-requires
+    sub-uint
+    part-uint-start
+    part-uint-end
+    uint-requires
     returns-4)
