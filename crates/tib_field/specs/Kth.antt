@@ -9,12 +9,12 @@ use Rattle.reading.specs.Refusals as refusals
 use Rattle.tib_field.specs.Refused.{refusedField}
 use Rattle.tib_field.specs.declared.Field.{Field}
 
--- The answer for a field by its place and what is said of it; 18 where there is none.
+-- The field at its place as `shown` describes it, or the refusal `absent` where there is none.
 unfoldable pub fieldOrAbsent : {B : Type 0} → (ℕ → B → Field) → Option (ℕ × B) → Field
 fieldOrAbsent shown none = refusedField refusals.absent 0
 fieldOrAbsent shown (some f) = shown (f .0) (f .1)
 
--- The answer for the k-th field of a message, by its reading.
+-- The k-th field of a message, by the reading of the message.
 unfoldable pub fieldOf : {A B : Type 0} → (ℕ → B → Field) → (A → List (ℕ × B)) → ℕ → Reading A → Field
 fieldOf shown fields k (accepted x) = fieldOrAbsent shown (getElem? (fields x) k)
 fieldOf shown fields k (refused refusal place) = refusedField refusal place

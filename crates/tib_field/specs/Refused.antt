@@ -1,4 +1,4 @@
--- The answer for a field where a call is refused: number and place, all else 0.
+-- The field that a refused call returns: the refusal and its place, all else 0.
 use Prim.Native.Nat.{ℕ}
 use mathlib.Core.Bool.{false}
 use mathlib.Core.List.{[]}
@@ -6,7 +6,7 @@ use Rattle.tib_real.specs.FromOctets.{realOf}
 use Rattle.tib_real.specs.declared.types.Real.{Real}
 use Rattle.tib_field.specs.declared.Field.{Field}
 
--- No octets are no real, and answer one of zeros.
+-- The real of a field that has none: a real of zeros.
 abbrev pub noReal : Real
 noReal = realOf [] 0 false
 

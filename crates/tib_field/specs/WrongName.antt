@@ -5,7 +5,7 @@ use lib.ListN.{length}
 use Rattle.reading.specs.Refusals as refusals
 use Rattle.tib_field.specs.Name.{Name}
 
--- The number of the refusal, and the octets from the size of the name on to the end of the message: the name ends too early; it is no name; or
+-- The refusal, and the octets from the size of the name on to the end of the message: the name ends too early; it is no name; or
 -- what follows it is wrong.
 pub data WrongNamed (After : ℕ → List ℕ → Type 0) : ℕ → List ℕ → Type 0 where
   nameCut : (n : ℕ) (s : List ℕ) → length s < n → WrongNamed After refusals.cut (n ∷ s)

@@ -1,5 +1,5 @@
-// What the two Tib formats share: the name of a field, the numbers of their sizes, the mark of a header, and what their readers answer.
-// This crate also has the definitions and laws of fields that stand one after the other, of the k-th of them, and of the verdict through them.
+// What the two Tib formats share: the test of a field's name, the value of a size, the mark of a header, and the field that a reader returns.
+// This crate also has the definitions and laws of consecutive fields, of the k-th of them, and of the verdict on them.
 use tib_real::types::Real;
 ghost use mathlib.Core.Path.{_≡_};
 ghost use mathlib.Core.Bool.{false, cond};
@@ -11,7 +11,7 @@ ghost use Rattle.tib_field.specs.internal.Zeros.{ZeroIn, Far, nameFault}
 ghost use Rattle.tib_field.specs.Refused.{noReal, refusedField};
 ghost use Rattle.tib_field.specs.Mark.{begins as begins-with};
 
-// What stands where a field may begin: the end of the message, a name that is refused with a number, or a name of this many octets
+// What is found where a field may begin: the end of the message, a name that is refused with this refusal, or a name of this many octets
 // after the octet of its size.
 pub enum NameStep {
     End,
@@ -19,8 +19,8 @@ pub enum NameStep {
     Name(usize),
 }
 
-// A field of a message, after a refusal's number and place: where its name stands and its length, with the closing zero (0 where it has
-// no name); its type; where its data stand and their length; whether it has a hint, the hint's type and its number; and of a real its value.
+// A refusal and its place, or 0, 0 and a field of a message: the place and the length of its name, with the closing zero (length 0 where it
+// has no name); its type; the place and the length of its data; whether it has a hint, the hint's type and value; and the value of a real.
 // Places count from the start of the lent buffer.
 pub struct Field {
     pub refusal: u64,
@@ -36,14 +36,14 @@ pub struct Field {
     pub real: Real,
 }
 
-// The answer for a field that is no real: one of zeros.
+// Returns a real of zeros, for a field that is no real.
 pub fn no_real() -> Real
     ensures { λ r. ⌜ r ≡ noReal ⌝ }
 {
     tib_real::real(b"", 0, false)
 }
 
-// The answer where a message is refused, or has no such field.
+// Returns a refusal in place of a field: the message is refused, or has no such field.
 pub fn refused_field(refusal: u64, place: u64) -> Field
     ensures { λ r. ⌜ r ≡ refusedField refusal place ⌝ }
 {
@@ -62,7 +62,7 @@ pub fn refused_field(refusal: u64, place: u64) -> Field
     }
 }
 
-// The number that at most eight octets hold, 0 for more. One octet is the most common, and needs no loop.
+// Returns the value of at most eight octets, 0 for more. One octet is the most common case, and needs no loop.
 pub fn uint(s: &[u8]) -> u64
     ensures { λ r. ⌜ r ≡ unsigned (now (s .entry)) ⌝ }
 {
@@ -72,7 +72,7 @@ pub fn uint(s: &[u8]) -> u64
     octets_read::uint(s)
 }
 
-// Whether octets begin with a mark.
+// Returns whether octets begin with a mark.
 pub fn begins(s: &[u8], mark: &[u8]) -> bool
     ensures { λ r. ⌜ r ≡ begins-with (now (mark .entry)) (now (s .entry)) ⌝ }
 {
@@ -89,15 +89,15 @@ pub fn begins(s: &[u8], mark: &[u8]) -> bool
     true
 }
 
-// Whether an octet at a place is zero and the place is below n.
+// Returns whether the octet x at the place i is zero and i is below n.
 fn zero_below(x: u8, i: u8, n: u8) -> bool
     ensures { λ r. ⌜ r ≡ cond (ltb i n) (eqb x 0) false ⌝ }
 {
     if i < n { x == 0 } else { false }
 }
 
-// Whether a zero stands at one of the places 1 to 16 that are below n. All sixteen octets are read at once and none decides a branch:
-// a loop that ends at n takes longer, since most names are short and of different sizes.
+// Returns whether a zero stands at one of the places 1 to 16 that are below n. It reads all sixteen octets and branches on none of them:
+// a loop that ends at n takes longer, since most names have few octets and their sizes differ.
 fn zero_near(s: &[u8], n: u8) -> bool
     requires { ⌜ 17 ≤ length (now s) ⌝ }
     ensures { λ r. ⌜ ZeroIn r (now (s .entry)) 1 17 n ⌝ }
@@ -111,7 +111,7 @@ fn zero_near(s: &[u8], n: u8) -> bool
     z
 }
 
-// Whether a zero stands among the sixteen octets from a place on.
+// Returns whether a zero stands among the sixteen octets from a place on.
 fn zero_of_sixteen(s: &[u8], at: usize) -> bool
     requires { ⌜ at + 16 ≤ length (now s) ⌝ }
     ensures { λ r. ⌜ ZeroIn r (now (s .entry)) at (at + 16) (at + 16) ⌝ }
@@ -126,8 +126,8 @@ fn zero_of_sixteen(s: &[u8], at: usize) -> bool
     z
 }
 
-// Whether a zero stands from the place 1 to n where none stands before a place, sixteen octets at once. The last sixteen end at n, and
-// may have been read in part.
+// Returns whether a zero stands at a place from 1 to n. The caller has found none before `from`. It reads sixteen octets at once; the last
+// sixteen end at n, so that some of them may be read twice.
 fn zero_from(s: &[u8], from: usize, n: usize) -> bool
     requires { ⌜ (n ≤ length (now s)) × Far (now s) from n ⌝ }
     ensures { λ r. ⌜ ZeroIn r (now (s .entry)) 1 n n ⌝ }
@@ -142,7 +142,7 @@ fn zero_from(s: &[u8], from: usize, n: usize) -> bool
     zero_of_sixteen(s, n - 16)
 }
 
-// The same from the place 17 on, thirty-two octets at once as far as there are as many.
+// The same from the place 17 on. It reads thirty-two octets at once while as many remain.
 fn zero_far(s: &[u8], n: usize) -> bool
     requires { ⌜ (n ≤ length (now s)) × Far (now s) 17 n ⌝ }
     ensures { λ r. ⌜ ZeroIn r (now (s .entry)) 1 n n ⌝ }
@@ -157,7 +157,7 @@ fn zero_far(s: &[u8], n: usize) -> bool
     zero_from(s, i, n)
 }
 
-// Whether a zero stands from the place 1 to n, one octet after the other.
+// Returns whether a zero stands at a place from 1 to n, one octet after the other.
 fn zero_of_few(s: &[u8], n: usize) -> bool
     requires { ⌜ n ≤ length (now s) ⌝ }
     ensures { λ r. ⌜ ZeroIn r (now (s .entry)) 1 n n ⌝ }
@@ -172,7 +172,7 @@ fn zero_of_few(s: &[u8], n: usize) -> bool
     false
 }
 
-// Whether a zero stands from the place 1 to n.
+// Returns whether a zero stands at a place from 1 to n.
 fn zero_inside(s: &[u8], n: u8) -> bool
     requires { ⌜ n ≤ length (now s) ⌝ }
     ensures { λ r. ⌜ ZeroIn r (now (s .entry)) 1 n n ⌝ }
@@ -190,9 +190,9 @@ fn zero_inside(s: &[u8], n: u8) -> bool
     zero_far(s, end)
 }
 
-// Why the name at the front of octets is refused, 0 where it is good or there are no octets. A name that is cut short is refused before
-// its octets are looked at. The last octet of a name of n octets stands at the place n, after the octet of its size; where n is 0, that
-// octet is the one there, and zero. The octets are handed on as a part of their own: the compiler then keeps their place in registers.
+// Returns the refusal of the name at the front of octets, 0 where the name is good or there are no octets. A name that is cut is refused
+// before its octets are tested. The last octet of a name of n octets stands at the place n, after the octet of its size; where n is 0, that
+// is the size octet itself, and zero. The octets are passed on as a slice of their own: the compiler then keeps their address in registers.
 pub fn name_fault(s: &[u8]) -> u64
     ensures { λ r. ⌜ r ≡ nameFault (now (s .entry)) ⌝ }
 {

@@ -1,4 +1,4 @@
--- What the readers of TibMsg answer, by a message's reading.
+-- What `check` and `field` return for a TibMsg message, by its reading.
 use Prim.Native.Nat.{ℕ, _+_}
 use mathlib.Core.Bool.{Bool, cond, _||_}
 use mathlib.Core.List.{List}
@@ -24,11 +24,11 @@ depth fs = 1
 unfoldable pub check : List ℕ → Checked
 check s = counts length depth (reading s)
 
--- The number of a hint: an array's element size and a partial's offset stand in the second octet, any other number after it.
+-- The value of a hint: an array's element size and a partial's offset stand in the second octet, any other value after it.
 unfoldable pub hintValue : ℕ → List ℕ → ℕ
 hintValue kind hint = cond (eqb kind 8 || eqb kind 9) (getD hint 1 0) (bigEndian (drop 2 hint))
 
--- The real of a field of type 7, made of its data and its hint; any other field answers one of zeros.
+-- The real of a field of type 7, made of its data and its hint; any other field has a real of zeros.
 unfoldable pub realShown : ℕ → List ℕ → ℕ → Bool → Real
 realShown kind contents hint present = cond (eqb kind 7) (realOf contents hint present) noReal
 

@@ -1,4 +1,4 @@
-// Reading TibMsg messages: the check of a whole message, and its k-th field.
+// Reads TibMsg messages: checks a whole message, and returns its k-th field.
 use reading::Checked;
 use reading::Verdict;
 use tib_field::Field;
@@ -14,13 +14,13 @@ ghost use Rattle.tib_field.specs.internal.KthOf.{kthOf};
 ghost use Rattle.tib_msg.specs.CheckAndField.{depth, check as check-of, hintValue, realShown, shown as shown-of, places, field as field-of};
 ghost use Rattle.tib_msg.specs.internal.Found.{foundAt};
 
-// A field of a message by its place, or that there is none.
+// The place and the sizes of a field, or that there is none.
 enum Kth {
     At { place: usize, sizes: Sizes },
     Absent,
 }
 
-// The place after a field of these sizes.
+// Returns the place after a field of these sizes.
 fn past(at: usize, z: Sizes) -> usize
     requires { ⌜ at + total z < 2 ^ 64 ⌝ }
     ensures { λ r. ⌜ r ≡ at + total z ⌝ }
@@ -28,7 +28,7 @@ fn past(at: usize, z: Sizes) -> usize
     at + 2 + z.name + z.width + z.contents + z.hint
 }
 
-// The fields of a message after a header that is good.
+// Traverses the fields of a message. Internal: the caller has already tested the header.
 fn traverse(s: &[u8]) -> Verdict
     requires { ⌜ 9 ≤ length (now s) ⌝ }
     ensures { λ r. ⌜ r ≡ verdictOf length depth (fieldsFrom (suc (length (now (s .entry)))) 9 (drop 9 (now (s .entry)))) ⌝ }
@@ -47,12 +47,14 @@ fn traverse(s: &[u8]) -> Verdict
     }
 }
 
+// Returns a refusal at the place 0.
 fn refuse(refusal: u64) -> Verdict
     ensures { λ r. ⌜ r ≡ Verdict.Refused refusal 0 ⌝ }
 {
     Verdict::Refused(refusal, 0)
 }
 
+// Reads a whole message: its header, then its fields.
 fn read(message: &[u8]) -> Verdict
     ensures { λ r. ⌜ r ≡ verdictOf length depth (reading (now (message .entry))) ⌝ }
 {
@@ -73,14 +75,14 @@ fn read(message: &[u8]) -> Verdict
     traverse(message)
 }
 
-// The check of a whole TibMsg: its refusal, or the count of its fields and the depth 1.
+// Checks a whole TibMsg. Returns its refusal, or the count of its fields and the depth 1.
 pub fn check(message: &[u8]) -> Checked
     ensures { λ r. ⌜ r ≡ check-of (now (message .entry)) ⌝ }
 {
     reading::answer(read(message))
 }
 
-// The place and the sizes of the k-th field of a message that is accepted.
+// Returns the place and the sizes of the k-th field. Internal: the caller has already checked the message.
 fn find(s: &[u8], k: u64) -> Kth
     requires { ⌜ IsAccepted (reading (now s)) ⌝ }
     ensures { λ r. ⌜ r ≡ foundAt (kthOf places k (reading (now (s .entry)))) ⌝ }
@@ -102,6 +104,7 @@ fn find(s: &[u8], k: u64) -> Kth
     }
 }
 
+// Returns the first octet, 0 where there is none.
 fn first(s: &[u8]) -> u64
     ensures { λ r. ⌜ r ≡ getD (now (s .entry)) 0 0 ⌝ }
 {
@@ -111,7 +114,7 @@ fn first(s: &[u8]) -> u64
     numbers::wide(s[0])
 }
 
-// The number of a hint, by the field's type and the hint's octets.
+// Returns the value of a hint, by the field's type and the hint's octets.
 fn hint_value(k: u64, s: &[u8]) -> u64
     requires { ⌜ length (now s) ≤ 10 ⌝ }
     ensures { λ r. ⌜ r ≡ hintValue k (now (s .entry)) ⌝ }
@@ -128,6 +131,7 @@ fn hint_value(k: u64, s: &[u8]) -> u64
     tib_field::uint(&s[2..])
 }
 
+// Returns the real of a field of type 7, and a real of zeros for any other field.
 fn real_shown(k: u64, s: &[u8], hint: u64, present: bool) -> Real
     ensures { λ r. ⌜ r ≡ realShown k (now (s .entry)) hint present ⌝ }
 {
@@ -138,7 +142,7 @@ fn real_shown(k: u64, s: &[u8], hint: u64, present: bool) -> Real
     }
 }
 
-// The answer for a field of these sizes at a place.
+// Returns the field of these sizes at a place.
 fn shown(message: &[u8], at: usize, z: Sizes) -> Field
     requires { ⌜ (at + total z ≤ length (now message)) × (z .hint ≤ 10) ⌝ }
     ensures { λ r. ⌜ r ≡ shown-of at (partsAt (drop at (now (message .entry))) z) ⌝ }
@@ -148,7 +152,7 @@ fn shown(message: &[u8], at: usize, z: Sizes) -> Field
     let hint = start + z.contents;
     let end = hint + z.hint;
     let present = tib_msg_field::hinted(z.octet);
-    let number = hint_value(k, &message[hint..end]);
+    let value = hint_value(k, &message[hint..end]);
     Field {
         refusal: 0,
         place: 0,
@@ -159,12 +163,12 @@ fn shown(message: &[u8], at: usize, z: Sizes) -> Field
         data_length: z.contents as u64,
         hinted: present,
         hint_kind: first(&message[hint..end]),
-        hint: number,
-        real: real_shown(k, &message[start..hint], number, present),
+        hint: value,
+        real: real_shown(k, &message[start..hint], value, present),
     }
 }
 
-// The k-th field, from 0, of a TibMsg: the check's refusal, or 18 where there is none, or the field.
+// Returns the k-th field, from 0, of a TibMsg: the check's refusal, or ABSENT where there is no such field, or the field.
 pub fn field(message: &[u8], k: u64) -> Field
     ensures { λ r. ⌜ r ≡ field-of (now (message .entry)) k ⌝ }
 {

@@ -20,7 +20,7 @@ pub record TypeOctet (c : ℕ) : Type 0 where
   pub array : kind c ≡ 8 → hinted c ≡ true
   pub partial : kind c ≡ 9 → hinted c ≡ true
 
--- Each type below has the number of the refusal, and the octets from the part on to the end of the message.
+-- Each type below has the refusal, and the octets from the part on to the end of the message.
 
 -- A hint after data of a size: its first two octets are not both there, no hint begins with them, or its value ends too early.
 pub data WrongHint (kind size : ℕ) : ℕ → List ℕ → Type 0 where

@@ -86,7 +86,7 @@ partsAt s z =
       hint = take (z .hint) afterData;
     }
 
--- What a step at the front of octets, at a place, comes to, where `next` reads the fields that follow.
+-- The reading of the fields from a place on, by the step at the front of the octets; `next` reads the fields that follow.
 unfoldable pub afterStep : (ℕ → List ℕ → Reading (List Parts)) → ℕ → List ℕ → Step → Reading (List Parts)
 afterStep next at s Done = accepted []
 afterStep next at s (Fault refusal) = refused refusal at

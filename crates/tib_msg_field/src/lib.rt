@@ -1,5 +1,5 @@
-// One step through a TibMsg message: the field at the front of octets. This crate also has the definitions of a message and of its
-// reading, and the laws between them.
+// One step of the traversal of a TibMsg message: reads the field at the front of octets. This crate also has the definitions of a message
+// and of its reading, and the laws between them.
 ghost use mathlib.Core.Path.{_≡_};
 ghost use Prim.Native.Nat.{_/_, _%_};
 ghost use lib.Dec.{eqb};
@@ -15,43 +15,48 @@ pub struct Sizes {
     pub hint: usize,
 }
 
-// What stands where a field may begin: the end of the message, a field that is refused with a number, or a field.
+// What is found where a field may begin: the end of the message, a field that is refused with this refusal, or a field.
 pub enum Step {
     Done,
     Fault(u64),
     Over(Sizes),
 }
 
-// The hint of a field: it is refused with a number, or takes this many octets.
+// What is found where a hint may begin: a refusal, or a hint of this many octets.
 enum HintStep {
     Fault(u64),
     Size(usize),
 }
 
+// Returns the type that a type octet names.
 pub fn kind(c: u8) -> u64
     ensures { λ r. ⌜ r ≡ kind-of c ⌝ }
 {
     numbers::wide(c & 15)
 }
 
+// Returns whether a type octet announces a hint.
 pub fn hinted(c: u8) -> bool
     ensures { λ r. ⌜ r ≡ hinted-of c ⌝ }
 {
     (c >> 6) & 1 == 1
 }
 
+// Returns whether the two unused bits of a type octet are clear.
 fn clear(c: u8) -> bool
     ensures { λ r. ⌜ r ≡ eqb (c / 16 % 4) 0 ⌝ }
 {
     (c >> 4) & 3 == 0
 }
 
+// Returns how many octets the size of the data takes.
 fn size_width(c: u8) -> usize
     ensures { λ r. ⌜ r ≡ sizeWidth c ⌝ }
 {
     if (c >> 7) & 1 == 1 { 4 } else { 1 }
 }
 
+// Returns whether n is the width of a whole number: 1, 2, 4 or 8 octets.
 fn is_width(n: u64) -> bool
     ensures { λ r. ⌜ r ≡ isWidth n ⌝ }
 {
@@ -67,7 +72,7 @@ fn is_width(n: u64) -> bool
     n == 8
 }
 
-// An array or a partial cannot do without a hint.
+// Returns whether a type octet is allowed. An array and a partial need a hint.
 fn type_allowed(c: u8) -> bool
     ensures { λ r. ⌜ r ≡ typeAllowed c ⌝ }
 {
@@ -87,6 +92,7 @@ fn type_allowed(c: u8) -> bool
     k != 9
 }
 
+// Returns whether data of the type k may have n octets.
 fn size_allowed(k: u64, n: u64) -> bool
     ensures { λ r. ⌜ r ≡ sizeAllowed k n ⌝ }
 {
@@ -105,6 +111,7 @@ fn size_allowed(k: u64, n: u64) -> bool
     true
 }
 
+// Reads the hint of an array of `size` octets: the type and the size of its elements.
 fn array_hint(size: u64, t: u64, n: u64) -> HintStep
     ensures { λ r. ⌜ r ≡ arrayHint size t n ⌝ }
 {
@@ -123,6 +130,7 @@ fn array_hint(size: u64, t: u64, n: u64) -> HintStep
     HintStep::Size(2)
 }
 
+// Reads the hint of a partial, which has the type 6.
 fn partial_hint(t: u64) -> HintStep
     ensures { λ r. ⌜ r ≡ partialHint t ⌝ }
 {
@@ -133,7 +141,7 @@ fn partial_hint(t: u64) -> HintStep
     }
 }
 
-// The octets of the value are counted only once the two before them are good.
+// Reads any other hint: a type, a size, and a value of that size. The type and the size are tested before the value is found to be cut.
 fn value_hint(t: u64, n: u64, remaining: usize) -> HintStep
     ensures { λ r. ⌜ r ≡ valueHint t n remaining ⌝ }
 {
@@ -152,7 +160,7 @@ fn value_hint(t: u64, n: u64, remaining: usize) -> HintStep
     HintStep::Size(2 + (n as usize))
 }
 
-// The hint at the front of octets, by the field's type and the size of its data.
+// Reads the hint at the front of octets, by the field's type and the size of its data.
 fn read_hint(k: u64, size: u64, s: &[u8]) -> HintStep
     ensures { λ r. ⌜ r ≡ readHint k size (now (s .entry)) ⌝ }
 {
@@ -170,6 +178,7 @@ fn read_hint(k: u64, size: u64, s: &[u8]) -> HintStep
     value_hint(t, n, s.len() - 2)
 }
 
+// Reads the hint after the data, where the type octet announces one.
 fn hint_at(c: u8, size: u64, s: &[u8]) -> HintStep
     ensures { λ r. ⌜ r ≡ hintAt c size (now (s .entry)) ⌝ }
 {
@@ -180,7 +189,7 @@ fn hint_at(c: u8, size: u64, s: &[u8]) -> HintStep
     }
 }
 
-// The field from its data on, which are announced to be l octets.
+// Reads the rest of a field from its data on, which have l octets by their size.
 fn from_data(n: usize, c: u8, w: usize, l: u64, s: &[u8]) -> Step
     ensures { λ r. ⌜ r ≡ fromData n c w l (now (s .entry)) ⌝ }
 {
@@ -200,7 +209,7 @@ fn from_data(n: usize, c: u8, w: usize, l: u64, s: &[u8]) -> Step
     }
 }
 
-// The field from its size on, which takes one octet or four.
+// Reads the rest of a field from its size on, which takes one octet or four.
 fn from_size(n: usize, c: u8, s: &[u8]) -> Step
     ensures { λ r. ⌜ r ≡ fromSize n c (sizeWidth c) (now (s .entry)) ⌝ }
 {
@@ -216,7 +225,7 @@ fn from_size(n: usize, c: u8, s: &[u8]) -> Step
     }
 }
 
-// The field from its type on, after a name of n octets.
+// Reads the rest of a field from its type on, after a name of n octets.
 fn from_type(n: usize, s: &[u8]) -> Step
     ensures { λ r. ⌜ r ≡ fromType n (now (s .entry)) ⌝ }
 {
@@ -231,8 +240,8 @@ fn from_type(n: usize, s: &[u8]) -> Step
     }
 }
 
-// What stands at the front of octets. The size of the name is read from its octet, not handed on by the test of the name, so that the
-// place of the next field does not depend on that test.
+// Reads the field at the front of octets. It reads the size of the name from its octet, not from the result of the test of the name, so
+// that the processor need not wait for that test to find the next field.
 pub fn next_field(s: &[u8]) -> Step
     ensures { λ r. ⌜ r ≡ nextField (now (s .entry)) ⌝ }
 {

@@ -9,11 +9,11 @@ use Rattle.octets.specs.Number.{bigEndian}
 use Rattle.tib_real.specs.declared.types.Real.{Real}
 use Rattle.tib_real.specs.Widened.{widened}
 
--- A real by its 64 bits; its value is what they stand for.
+-- The real with these 64 bits; its value is the one that they encode.
 unfoldable pub withBits : ℕ → ℕ → Bool → Real
 withBits b h present = record { value = ofBits binary64 b; bits = b; hint = h; hinted = present }
 
--- The real that octets hold, with its hint. Octets of another length than eight and four are no real and answer one of zeros.
+-- The real that octets hold, with its hint. Octets of another length than eight and four give a real of zeros.
 unfoldable pub realOf : List ℕ → ℕ → Bool → Real
 realOf s h present =
     cond (eqb (length s) 8) (withBits (bigEndian s) h present)

@@ -28,10 +28,10 @@ refused = record { refusal = refusals.notInFractions; place = 0; value = pos 0 }
 unfoldable pub accepted : ℤ → Fractions
 accepted z = record { refusal = 0; place = 0; value = z }
 
--- Bits read in fractions with the hint h, whichever it is.
+-- Bits read in fractions with any hint h.
 unfoldable pub inFractions : ℕ → ℕ → Fractions
 inFractions b h = cond (countable b h) (accepted (signed (negative eight b) (scaled b h / 2 ^ 1074))) refused
 
--- A real read in fractions: it has a hint, from 1 to 8. The bits decide, also where a caller hands in a value that is not theirs.
+-- A real read in fractions: it has a hint, from 1 to 8. Only the bits count, even where a caller passes a value that they do not encode.
 unfoldable pub fractionsOf : Real → Fractions
 fractionsOf r = cond (r .hinted && (leb 1 (r .hint) && leb (r .hint) 8)) (inFractions (r .bits) (r .hint)) refused

@@ -1,4 +1,4 @@
--- What it is to read a real in fractions.
+-- The rule for reading a real in fractions.
 use Prim.Native.Nat.{ℕ, _*_, _^_, _≤_, _<_}
 use mathlib.Core.Path.{_≡_}
 use mathlib.Core.Bool.{true}

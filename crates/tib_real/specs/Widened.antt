@@ -9,8 +9,8 @@ use Rattle.tib_real.specs.Parts.{four, negative, exponent, fraction}
 unfoldable pub packed : Bool → ℕ → ℕ → ℕ
 packed s x t = cond s (2 ^ 63) 0 + (x * 2 ^ 52 + t)
 
--- A size below the smallest that has a digit before its fraction gets one: the fraction moves up until its highest digit stands there,
--- and the exponent falls by as many places from 897, the first that four octets have.
+-- A subnormal real becomes normal: the fraction moves up until its highest digit stands before the fraction, and the exponent falls by as
+-- many places from 897, the exponent of the smallest normal real of four octets.
 unfoldable pub normalized : Bool → ℕ → ℕ
 normalized s t =
     let z = leadingZeros 24 t in

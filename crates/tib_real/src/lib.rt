@@ -1,4 +1,4 @@
-// The reals of the Tib formats: their value from four or eight octets, and reading them in fractions.
+// Reads the reals of the Tib formats from four or eight octets, and reads a real in fractions.
 pub mod types;
 
 use types::Fractions;
@@ -10,7 +10,7 @@ ghost use Rattle.tib_real.specs.Widened.{widened};
 ghost use Rattle.tib_real.specs.FromOctets.{withBits, realOf};
 ghost use Rattle.tib_real.specs.InFractions.{refused as refused-answer, inFractions, fractionsOf};
 
-// The value that bits stand for. The language makes no not-a-number from bits, so it comes from a division that has no result.
+// Returns the value of these bits. The language makes no not-a-number from bits, so a division without a result makes it.
 fn value(bits: u64) -> f64
     ensures { λ r. ⌜ r ≡ ofBits binary64 bits ⌝ }
 {
@@ -21,7 +21,7 @@ fn value(bits: u64) -> f64
     }
 }
 
-// A real by its 64 bits and its hint.
+// Returns the real with these 64 bits and this hint.
 pub fn with_bits(bits: u64, hint: u64, hinted: bool) -> Real
     ensures { λ r. ⌜ r ≡ withBits bits hint hinted ⌝ }
 {
@@ -33,8 +33,8 @@ pub fn with_bits(bits: u64, hint: u64, hinted: bool) -> Real
     }
 }
 
-// The bits of eight octets for those of four. The machine's conversion may change a not-a-number's fraction, so the bits of one, and of
-// an infinity, are moved here.
+// Returns the bits of the same real in eight octets. The machine's conversion may change the fraction of a not-a-number, so this function
+// moves the bits of infinities and not-a-numbers itself.
 fn widen(b: u64) -> u64
     requires { ⌜ b < 2 ^ 32 ⌝ }
     ensures { λ r. ⌜ r ≡ widened b ⌝ }
@@ -45,7 +45,7 @@ fn widen(b: u64) -> u64
     f64::to_bits(f32::from_bits(b as u32) as f64)
 }
 
-// Octets of another length are no real. They answer one of zeros, so that no caller needs a refusal for them.
+// Returns the real that four or eight octets hold. Octets of another length give a real of zeros, so that no caller has to handle a refusal.
 pub fn real(s: &[u8], hint: u64, hinted: bool) -> Real
     ensures { λ r. ⌜ r ≡ realOf (now (s .entry)) hint hinted ⌝ }
 {
@@ -59,6 +59,7 @@ pub fn real(s: &[u8], hint: u64, hinted: bool) -> Real
     with_bits(0, 0, false)
 }
 
+// Returns the refusal of a real that cannot be read in fractions.
 fn refused() -> Fractions
     ensures { λ r. ⌜ r ≡ refused-answer ⌝ }
 {
@@ -69,7 +70,8 @@ fn refused() -> Fractions
     }
 }
 
-// From the exponent 1076 - h on, the product's size is 2^53 or more, or the bits stand for no number. Below it the product is exact.
+// Internal: callers have already rejected other hints. With an exponent of 1076 - h or more the product's size is 2^53 or more, or the bits
+// are no number. With a smaller exponent the product is exact.
 fn in_fractions(bits: u64, h: u64) -> Fractions
     requires { ⌜ (1 ≤ h) × (h ≤ 8) ⌝ }
     ensures { λ r. ⌜ r ≡ inFractions bits h ⌝ }
@@ -89,7 +91,7 @@ fn in_fractions(bits: u64, h: u64) -> Fractions
     refused()
 }
 
-// The bits decide, not the value beside them.
+// Reads a real in fractions. It uses the bits and ignores the value beside them.
 pub fn fractions(r: Real) -> Fractions
     ensures { λ a. ⌜ a ≡ fractionsOf r ⌝ }
 {

@@ -1,6 +1,6 @@
-// The answers. They have a module of their own, since `real` and `Real` cannot stand in one.
+// The types that the functions return. They have a module of their own because `real` and `Real` cannot share one.
 
-// A real with its hint, and whether there was one. The bits stand beside the value, since a not-a-number's value does not show them.
+// A real with its hint, and whether it has one. The bits are given beside the value because the value of a not-a-number does not show them.
 pub struct Real {
     pub value: f64,
     pub bits: u64,
@@ -8,7 +8,7 @@ pub struct Real {
     pub hinted: bool,
 }
 
-// A real read in fractions: a refusal's number and place, or 0 and the whole number.
+// The result of reading a real in fractions: a refusal and its place, or 0 and the whole number.
 pub struct Fractions {
     pub refusal: u64,
     pub place: u64,

@@ -1,4 +1,4 @@
--- What the readers of TibrvMsg answer, by a message's reading.
+-- What `check` and `field` return for a TibrvMsg message, by its reading.
 use Prim.Native.Nat.{ℕ, _+_}
 use mathlib.Core.Bool.{false}
 use mathlib.Core.List.{List, [], _∷_}

@@ -1,4 +1,4 @@
-// Reading TibrvMsg messages: the check of a whole message, and its k-th field.
+// Reads TibrvMsg messages: checks a whole message, and returns its k-th outermost field.
 use reading::Checked;
 use reading::Verdict;
 use tib_field::Field;
@@ -15,19 +15,19 @@ ghost use Rattle.tib_field.specs.internal.KthOf.{kthOf};
 ghost use Rattle.tib_rv.specs.CheckAndField.{count, check as check-of, places, field as field-of};
 ghost use Rattle.tib_rv.specs.internal.Found.{anyField, foundAt, shownSizes};
 
-// A field of either kind, or that there is none.
+// A field, whether it holds a message or not, or that there is none.
 enum AnyField {
     Nothing,
     Field(Sizes),
 }
 
-// A field of a message by its place, or that there is none.
+// The place and the sizes of a field, or that there is none.
 enum Kth {
     At { place: usize, sizes: Sizes },
     Absent,
 }
 
-// The refusal of a header, 0 where it is good.
+// Returns the refusal of a header, 0 where the header is good.
 fn header_fault(s: &[u8]) -> u64
     ensures { λ r. ⌜ r ≡ headerFault (now (s .entry)) ⌝ }
 {
@@ -43,7 +43,7 @@ fn header_fault(s: &[u8]) -> u64
     0
 }
 
-// The place of the data of a field of these sizes, and the place after it.
+// Returns the place of the data of a field of these sizes.
 fn data_at(at: usize, z: Sizes) -> usize
     requires { ⌜ at + total z < 2 ^ 64 ⌝ }
     ensures { λ r. ⌜ r ≡ at + lead-of z ⌝ }
@@ -51,6 +51,7 @@ fn data_at(at: usize, z: Sizes) -> usize
     at + 2 + z.name + z.width
 }
 
+// Returns the place after a field of these sizes.
 fn past(at: usize, z: Sizes) -> usize
     requires { ⌜ at + total z < 2 ^ 64 ⌝ }
     ensures { λ r. ⌜ r ≡ at + total z ⌝ }
@@ -58,14 +59,15 @@ fn past(at: usize, z: Sizes) -> usize
     data_at(at, z) + z.contents
 }
 
+// Returns a refusal at a place.
 fn refused(refusal: u64, place: u64) -> Verdict
     ensures { λ r. ⌜ r ≡ Verdict.Refused refusal place ⌝ }
 {
     Verdict::Refused(refusal, place)
 }
 
-// A message whose header starts at a place, in a field at another place. `levels` is how many messages deep it may be, itself counted; a
-// nested message has one less.
+// Traverses a message, whose header starts at the place `at`, in a field at the place `field`. The message may be `levels` messages deep,
+// itself counted; a nested message may be one less.
 fn message(s: &[u8], levels: u64, field: u64, at: u64) -> Verdict
     requires { ⌜ at + length (now s) ≤ messageLimit ⌝ }
     requires { ⌜ levels ≤ depthLimit ⌝ }
@@ -105,6 +107,7 @@ fn message(s: &[u8], levels: u64, field: u64, at: u64) -> Verdict
     }
 }
 
+// Reads a whole message and its nested ones.
 fn read(s: &[u8]) -> Verdict
     ensures { λ r. ⌜ r ≡ verdictOf count depth (reading (now (s .entry))) ⌝ }
 {
@@ -114,14 +117,14 @@ fn read(s: &[u8]) -> Verdict
     message(s, reading::DEPTH_LIMIT, 0, 0)
 }
 
-// The check of a whole TibrvMsg: its refusal, or the count of its fields at all depths and the depth of its deepest message.
+// Checks a whole TibrvMsg. Returns its refusal, or the count of its fields at all depths and the depth of its deepest message.
 pub fn check(message: &[u8]) -> Checked
     ensures { λ r. ⌜ r ≡ check-of (now (message .entry)) ⌝ }
 {
     reading::answer(read(message))
 }
 
-// The field at the front of octets, whether it holds a message or not.
+// Reads the field at the front of octets, whether it holds a message or not. Returns `Nothing` at the end of the message and for a fault.
 fn next_any(s: &[u8]) -> AnyField
     ensures { λ r. ⌜ r ≡ anyField (nextField (now (s .entry))) ⌝ }
 {
@@ -133,7 +136,7 @@ fn next_any(s: &[u8]) -> AnyField
     }
 }
 
-// The place and the sizes of the k-th outermost field of a message that is accepted.
+// Returns the place and the sizes of the k-th outermost field. Internal: the caller has already checked the message.
 fn find(s: &[u8], k: u64) -> Kth
     requires { ⌜ IsAccepted (reading (now s)) ⌝ }
     ensures { λ r. ⌜ r ≡ foundAt (kthOf places k (reading (now (s .entry)))) ⌝ }
@@ -154,7 +157,7 @@ fn find(s: &[u8], k: u64) -> Kth
     }
 }
 
-// The answer for a field of these sizes at a place.
+// Returns the field of these sizes at a place.
 fn shown(at: usize, z: Sizes) -> Field
     requires { ⌜ at + total z < 2 ^ 64 ⌝ }
     ensures { λ r. ⌜ r ≡ shownSizes at z ⌝ }
@@ -174,7 +177,7 @@ fn shown(at: usize, z: Sizes) -> Field
     }
 }
 
-// The k-th outermost field, from 0, of a TibrvMsg: the check's refusal, or 18 where there is none, or the field.
+// Returns the k-th outermost field, from 0, of a TibrvMsg: the check's refusal, or ABSENT where there is no such field, or the field.
 pub fn field(message: &[u8], k: u64) -> Field
     ensures { λ r. ⌜ r ≡ field-of (now (message .entry)) k ⌝ }
 {

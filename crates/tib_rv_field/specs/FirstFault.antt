@@ -11,7 +11,7 @@ use Rattle.tib_field.specs.Name.{Name}
 use Rattle.tib_field.specs.WrongName.{WrongNamed}
 use Rattle.tib_rv_field.specs.Layout.{Parts, octets, Size, Leaf, holder, magic, Fields, message, depth, Header, Allowed}
 
--- The octets of a size, whatever they count.
+-- The octets of a size of any count.
 pub data SizeOctets : List ℕ → Type 0 where
   one : (m : ℕ) → m ≤ 0x78 → SizeOctets (m ∷ [])
   two : (s : List ℕ) → length s ≡ 2 → SizeOctets (0x79 ∷ s)
@@ -22,7 +22,7 @@ pub record Announces (octet : ℕ) (size : List ℕ) (n : ℕ) : Type 0 where
   pub counts : Size size n
   pub long : octet ≡ 1 → (s : List ℕ) × (size ≡ 0x7a ∷ s)
 
--- Each type below has the number of the refusal, and the octets from the part on to the end of the message.
+-- Each type below has the refusal, and the octets from the part on to the end of the message.
 
 -- A size and the data after it: the size ends too early; it begins with another marker; it counts less than itself, or type 1 does not use
 -- `7a`; or the data end too early.
@@ -54,7 +54,7 @@ pub record Opens (s fields : List ℕ) : Type 0 where
   pub width : length size ≡ 4
   pub counted : bigEndian size ≡ length s
 
--- A field of type 1: the first four of the octets that it holds count them. What it holds may be a message or not.
+-- A field of type 1: the first four of its contents count the contents. The contents may be a message or not.
 pub record Holder (name contents : List ℕ) : Type 0 where
   pub good : Name name
   pub size : List ℕ

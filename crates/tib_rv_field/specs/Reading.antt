@@ -19,15 +19,15 @@ use Rattle.tib_rv_field.specs.Layout.{Parts, magic, Fields, end, leaf, n
 unfoldable pub following : ℕ → ℕ
 following m = cond (eqb m 0x79) 2 (cond (eqb m 0x7a) 4 0)
 
--- How many octets of a size it counts itself: its first octet alone, or those that follow it.
+-- How many of its own octets a size counts: its first octet alone, or those that follow it.
 unfoldable pub own : ℕ → ℕ
 own m = cond (ltb m 0x79) 1 (following m)
 
--- What a size says, by its first octet and the octets after that.
+-- The count in a size, by its first octet and the octets after that.
 unfoldable pub counted : ℕ → List ℕ → ℕ
 counted m s = cond (ltb m 0x79) m (bigEndian (take (following m) s))
 
--- A count is no smaller than what it counts of the size, and type 1 uses `7a`.
+-- A size counts at least its own octets, and type 1 uses `7a`.
 unfoldable pub countAllowed : ℕ → ℕ → ℕ → Bool
 countAllowed c m k = leb (own m) k && (not (eqb c 1) || eqb m 0x7a)
 
@@ -38,7 +38,7 @@ found n c m k =
     cond (eqb c 1) (Into (record { name = n; octet = c; width = 1; contents = k }))
     (Over (record { name = n; octet = c; width = 1 + following m; contents = k - own m }))
 
--- The field from its data on, where there are `remaining` octets.
+-- The field from its data on, where `remaining` octets follow.
 unfoldable pub fromCount : ℕ → ℕ → ℕ → ℕ → ℕ → Step
 fromCount n c m k remaining = cond (countAllowed c m k) (cond (ltb remaining (k - own m)) (Fault refusals.pastTheEnd) (found n c m k)) (Fault refusals.typeSizeOrHint)
 
@@ -85,8 +85,8 @@ Inner = ℕ → ℕ → List ℕ → Reading Fields
 unfoldable pub nestedOf : Parts → Fields → Fields → Fields
 nestedOf f inside rest = nested (f .name) (take 4 (f .contents)) inside rest
 
--- What a step at the front of octets, at a place, comes to, where `next` reads the fields that follow. A nested message is read before
--- these.
+-- The reading of the fields from a place on, by the step at the front of the octets; `next` reads the fields that follow. A nested message
+-- is read before these.
 unfoldable pub afterStep : Inner → (ℕ → List ℕ → Reading Fields) → ℕ → List ℕ → Step → Reading Fields
 afterStep inner next at s Done = accepted end
 afterStep inner next at s (Fault refusal) = refused refusal at
@@ -108,7 +108,7 @@ headerFault s =
     (cond (not (eqb (bigEndian (take 4 s)) (length s))) refusals.size
     0))
 
--- A message, at most `levels` messages deep. It is refused with 5 at the field that holds it where it is too deep. A field takes an octet or
+-- A message, at most `levels` messages deep. Where it is too deep, it is refused at the field that holds it. A field takes an octet or
 -- more, so one look more than there are octets is enough.
 unfoldable pub messageFrom : ℕ → Inner
 messageFrom zero field at s = refused refusals.tooDeep field

@@ -1,5 +1,5 @@
-// One step through a TibrvMsg message: the field at the front of octets. This crate also has the definitions of a message and of its
-// reading, and the laws between them.
+// One step of the traversal of a TibrvMsg message: reads the field at the front of octets. This crate also has the definitions of a message
+// and of its reading, and the laws between them.
 ghost use mathlib.Core.Path.{_≡_};
 ghost use mathlib.Core.Bool.{cond};
 ghost use Prim.Native.Nat.{_-_, _≤_};
@@ -9,7 +9,7 @@ ghost use Rattle.octets.specs.Number.{bigEndian};
 ghost use Rattle.reading.specs.Refusals as refusals;
 ghost use Rattle.tib_rv_field.specs.Reading.{following as following-of, own as own-of, countAllowed, found as found-of, fromCount, fromSize, fromType, nextField};
 
-// The sizes of the parts of a field, and its type octet. Of a field that holds a message the width is 1, for the marker alone, and the
+// The sizes of the parts of a field, and its type octet. For a field that holds a message the width is 1, for the marker alone, and the
 // contents are the message.
 pub struct Sizes {
     pub name: usize,
@@ -18,8 +18,8 @@ pub struct Sizes {
     pub contents: usize,
 }
 
-// What stands where a field may begin: the end of the message, a field that is refused with a number, a field, or a field that holds a
-// message.
+// What is found where a field may begin: the end of the message, a field that is refused with this refusal, a field, or a field that holds
+// a message.
 pub enum Step {
     Done,
     Fault(u64),
@@ -27,7 +27,7 @@ pub enum Step {
     Into(Sizes),
 }
 
-// How many octets of a size follow its first octet.
+// Returns how many octets of a size follow its first octet.
 fn following(m: u64) -> usize
     ensures { λ r. ⌜ r ≡ following-of m ⌝ }
     ensures { λ r. ⌜ r ≤ 4 ⌝ }
@@ -41,7 +41,7 @@ fn following(m: u64) -> usize
     0
 }
 
-// How many octets of a size it counts itself.
+// Returns how many of its own octets a size counts.
 fn own(m: u64) -> u64
     ensures { λ r. ⌜ r ≡ own-of m ⌝ }
 {
@@ -51,6 +51,7 @@ fn own(m: u64) -> u64
     1
 }
 
+// Returns whether a size may count k octets. It counts at least its own octets, and type 1 uses the marker 7a.
 fn count_allowed(c: u8, m: u64, k: u64) -> bool
     ensures { λ r. ⌜ r ≡ countAllowed c m k ⌝ }
 {
@@ -63,7 +64,7 @@ fn count_allowed(c: u8, m: u64, k: u64) -> bool
     true
 }
 
-// A field whose octets are all there. Where it holds a message, that starts at the size octets and the count is its length.
+// Returns a field whose octets are all there. The message in a field of type 1 starts at the size octets, and the count is its length.
 fn found(n: usize, c: u8, m: u64, k: u64) -> Step
     requires { ⌜ own-of m ≤ k ⌝ }
     ensures { λ r. ⌜ r ≡ found-of n c m k ⌝ }
@@ -84,7 +85,7 @@ fn found(n: usize, c: u8, m: u64, k: u64) -> Step
     })
 }
 
-// The field from its data on, where there are `remaining` octets.
+// Reads the rest of a field from its data on; `remaining` octets follow.
 fn from_count(n: usize, c: u8, m: u64, k: u64, remaining: usize) -> Step
     ensures { λ r. ⌜ r ≡ fromCount n c m k remaining ⌝ }
 {
@@ -97,7 +98,7 @@ fn from_count(n: usize, c: u8, m: u64, k: u64, remaining: usize) -> Step
     found(n, c, m, k)
 }
 
-// The field from the w octets of its size that follow the first.
+// Reads the rest of a field from the w octets of its size that follow the first.
 fn from_long(n: usize, c: u8, m: u64, w: usize, s: &[u8]) -> Step
     requires { ⌜ w ≤ 4 ⌝ }
     ensures { λ r. ⌜ r ≡ cond (ltb (length (now (s .entry))) w) (Step.Fault refusals.cut) (fromCount n c m (bigEndian (take w (now (s .entry)))) (length (now (s .entry)) - w)) ⌝ }
@@ -109,7 +110,7 @@ fn from_long(n: usize, c: u8, m: u64, w: usize, s: &[u8]) -> Step
     from_count(n, c, m, k, s.len() - w)
 }
 
-// The field from its size on. Most sizes are one octet, so that case is tested first.
+// Reads the rest of a field from its size on. Most sizes are one octet, so that case is tested first.
 fn from_size(n: usize, c: u8, s: &[u8]) -> Step
     ensures { λ r. ⌜ r ≡ fromSize n c (now (s .entry)) ⌝ }
 {
@@ -129,7 +130,7 @@ fn from_size(n: usize, c: u8, s: &[u8]) -> Step
     Step::Fault(reading::TYPE_SIZE_OR_HINT)
 }
 
-// The field from its type on, after a name of n octets.
+// Reads the rest of a field from its type on, after a name of n octets.
 fn from_type(n: usize, s: &[u8]) -> Step
     ensures { λ r. ⌜ r ≡ fromType n (now (s .entry)) ⌝ }
 {
@@ -139,8 +140,8 @@ fn from_type(n: usize, s: &[u8]) -> Step
     from_size(n, s[0], &s[1..])
 }
 
-// What stands at the front of octets. The size of the name is read from its octet, not handed on by the test of the name, so that the
-// place of the next field does not depend on that test.
+// Reads the field at the front of octets. It reads the size of the name from its octet, not from the result of the test of the name, so
+// that the processor need not wait for that test to find the next field.
 pub fn next_field(s: &[u8]) -> Step
     ensures { λ r. ⌜ r ≡ nextField (now (s .entry)) ⌝ }
 {

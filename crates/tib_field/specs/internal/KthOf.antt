@@ -1,4 +1,4 @@
--- The k-th field of a reading, and what the private functions `find` answer for it.
+-- The k-th field of a reading, and what the private functions `find` return for it.
 use Prim.Native.Nat.{ℕ}
 use mathlib.Core.List.{List}
 use mathlib.Core.Option.{Option, none, some}

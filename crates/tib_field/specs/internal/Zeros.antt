@@ -8,7 +8,7 @@ use Rattle.tib_field.specs.declared.NameStep.{NameStep}
 use Rattle.tib_field.specs.declared.NameStep.the-variants.{End, Fault, Name as Sized}
 use Rattle.tib_field.specs.Name.{nameStep}
 
--- The number with which the name at the front is refused, 0 where it is not.
+-- The refusal of the name at the front of octets, 0 where it is accepted.
 unfoldable pub faultOf : NameStep → ℕ
 faultOf End = 0
 faultOf (Fault k) = k

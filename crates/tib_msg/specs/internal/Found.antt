@@ -1,4 +1,4 @@
--- What the private function `find` answers.
+-- What the private function `find` returns.
 use Prim.Native.Nat.{ℕ}
 use mathlib.Core.Option.{Option}
 use Rattle.tib_field.specs.internal.KthOf.{foundOf}

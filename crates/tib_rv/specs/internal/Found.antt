@@ -1,4 +1,4 @@
--- What the private functions `find`, `next_any` and `shown` answer.
+-- What the private functions `find`, `next_any` and `shown` return.
 use Prim.Native.Nat.{ℕ, _+_}
 use mathlib.Core.Bool.{false}
 use mathlib.Core.Option.{Option}
