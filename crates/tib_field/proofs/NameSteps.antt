@@ -8,7 +8,7 @@ use lib.Seq.{drop-at}
 use Rattle.tib_field.specs.Name.{Name, nameStep, afterName}
 use Rattle.tib_field.specs.declared.NameStep.{NameStep}
 use Rattle.tib_field.specs.declared.NameStep.the-variants.{End, Fault, Name as Sized}
-use Rattle.tib_field.proofs.Names.{front-end, front-found, front-of-name}
+use Rattle.tib_field.proofs.Names.{name-step-end, name-step-found, name-step-of-name}
 use Rattle.octets.proofs.Slices.{tail-part}
 
 module _ {A : Type 0} (done : A) (fault : ℕ → A) (after : ℕ → List ℕ → A) where
@@ -33,7 +33,7 @@ module _ {A : Type 0} (done : A) (fault : ℕ → A) (after : ℕ → List ℕ �
   next-of-name name rest good =
       let n = length name in
       let k : 1 + n ≡ suc n = omega arith in
-      rw (front-of-name name rest good, k, drop-at name rest n refl)
+      rw (name-step-of-name name rest good, k, drop-at name rest n refl)
 
   -- What is neither the end nor a fault was found after a name.
   pub record AfterName (s : List ℕ) (q : A) : Type 0 where
@@ -51,7 +51,7 @@ module _ {A : Type 0} (done : A) (fault : ℕ → A) (after : ℕ → List ℕ �
       go End f g = absurd (a g)
       go (Fault k) f g = absurd (b k g)
       go (Sized n) f g =
-          let r = front-found s n f in
+          let r = name-step-found s n f in
           let k : 1 + n ≡ suc n = omega arith in
           let d : drop (1 + n) s ≡ r .rest = rw k (ap (drop (suc n)) (r .divides)) ∙ drop-at (r .name) (r .rest) n (r .sized) in
           let h : after n (r .rest) ≡ q = rw d at g in
@@ -63,12 +63,12 @@ module _ {A : Type 0} (done : A) (fault : ℕ → A) (after : ℕ → List ℕ �
             same = rw (r .sized) h;
           }
 
-  -- Only where no octet is left is the end found.
+  -- A step finds the end only where no octet remains.
   pub next-done : (s : List ℕ) → ((k : ℕ) → fault k ≡ done → ⊥) → ((n : ℕ) (r : List ℕ) → after n r ≡ done → ⊥) → next s ≡ done → s ≡ []
   unfolding afterName
   next-done s a b e = go (nameStep s) refl e
     where
       go : (f : NameStep) → nameStep s ≡ f → afterName done fault after s f ≡ done → s ≡ []
-      go End f g = front-end s f
+      go End f g = name-step-end s f
       go (Fault k) f g = absurd (a k g)
       go (Sized n) f g = absurd (b n (drop (1 + n) s) g)

@@ -141,19 +141,19 @@ fault-good (x ∷ s) n h e g z t f p =
     (name-good x s x (omega arith) (subst (λ (m : ℕ). getD (x ∷ s) m 0 ≡ 0) e z) (subst (λ (u : Bool). ZeroIn u (x ∷ s) 1 x x) f p))
 
 -- What stands at the front, from the refusal of its name.
-pub front-of-none : (s : List ℕ) → length s ≡ 0 → nameStep s ≡ End
+pub name-step-none : (s : List ℕ) → length s ≡ 0 → nameStep s ≡ End
 unfolding nameStep
-front-of-none s h = ap nameStep (length-zero s h)
+name-step-none s h = ap nameStep (length-zero s h)
 
-refused-front : (f : NameStep) (k : ℕ) → k ≡ faultOf f → (k ≡ 0 → ⊥) → f ≡ Fault k
+refused-name-step : (f : NameStep) (k : ℕ) → k ≡ faultOf f → (k ≡ 0 → ⊥) → f ≡ Fault k
 unfolding faultOf
-refused-front End k e h = absurd (h e)
-refused-front (Fault m) k e h = ap Fault (sym e)
-refused-front (Sized n) k e h = absurd (h e)
+refused-name-step End k e h = absurd (h e)
+refused-name-step (Fault m) k e h = ap Fault (sym e)
+refused-name-step (Sized n) k e h = absurd (h e)
 
-pub front-refused : (s : List ℕ) (k : ℕ) → k ≡ nameFault s → (k ≡ 0 → ⊥) → nameStep s ≡ Fault k
+pub name-step-refused : (s : List ℕ) (k : ℕ) → k ≡ nameFault s → (k ≡ 0 → ⊥) → nameStep s ≡ Fault k
 unfolding nameFault
-front-refused s k e h = refused-front (nameStep s) k e h
+name-step-refused s k e h = refused-name-step (nameStep s) k e h
 
 sized-front : (n : ℕ) (t u : Bool) → 0 ≡ faultOf (cond t (Fault 3) (cond u (Sized n) (Fault 15))) → cond t (Fault 3) (cond u (Sized n) (Fault 15)) ≡ Sized n
 unfolding faultOf
@@ -161,21 +161,21 @@ sized-front n true u e = absurd (omega arith)
 sized-front n false true e = refl
 sized-front n false false e = absurd (omega arith)
 
-pub front-sized : (s : List ℕ) (n k : ℕ) → (length s ≡ 0 → ⊥) → k ≡ nameFault s → k ≡ 0 → n ≡ getD s 0 0 → nameStep s ≡ Sized n
+pub name-step-sized : (s : List ℕ) (n k : ℕ) → (length s ≡ 0 → ⊥) → k ≡ nameFault s → k ≡ 0 → n ≡ getD s 0 0 → nameStep s ≡ Sized n
 unfolding nameFault nameStep
-front-sized [] n k h e z m = absurd (h refl)
-front-sized (x ∷ s) n k h e z m = sized-front x (ltb (length s) x) (named (take x s)) (sym z ∙ e) ∙ ap Sized (sym m)
+name-step-sized [] n k h e z m = absurd (h refl)
+name-step-sized (x ∷ s) n k h e z m = sized-front x (ltb (length s) x) (named (take x s)) (sym z ∙ e) ∙ ap Sized (sym m)
 
--- Only where no octet is left does a message end.
+-- A message ends only where no octet remains.
 some-front : (n : ℕ) (t u : Bool) → cond t (Fault 3) (cond u (Sized n) (Fault 15)) ≡ End → ⊥
 some-front n true u e = let z : _≡_ {A = ℕ} 0 1 = cc in omega arith
 some-front n false true e = let z : _≡_ {A = ℕ} 0 1 = cc in omega arith
 some-front n false false e = let z : _≡_ {A = ℕ} 0 1 = cc in omega arith
 
-pub front-end : (s : List ℕ) → nameStep s ≡ End → s ≡ []
+pub name-step-end : (s : List ℕ) → nameStep s ≡ End → s ≡ []
 unfolding nameStep
-front-end [] e = refl
-front-end (n ∷ s) e = absurd (some-front n (ltb (length s) n) (named (take n s)) e)
+name-step-end [] e = refl
+name-step-end (n ∷ s) e = absurd (some-front n (ltb (length s) n) (named (take n s)) e)
 
 -- A name that is found lies within the octets.
 pub record Found (s : List ℕ) (n : ℕ) : Type 0 where
@@ -185,10 +185,10 @@ pub record Found (s : List ℕ) (n : ℕ) : Type 0 where
   pub sized : length name ≡ n
   pub good : Name name
 
-pub front-found : (s : List ℕ) (n : ℕ) → nameStep s ≡ Sized n → Found s n
+pub name-step-found : (s : List ℕ) (n : ℕ) → nameStep s ≡ Sized n → Found s n
 unfolding nameStep
-front-found [] n e = let z : _≡_ {A = ℕ} 0 1 = cc in absurd (omega arith)
-front-found (x ∷ s) n e = go (ltb (length s) x) refl (named (take x s)) refl e
+name-step-found [] n e = let z : _≡_ {A = ℕ} 0 1 = cc in absurd (omega arith)
+name-step-found (x ∷ s) n e = go (ltb (length s) x) refl (named (take x s)) refl e
   where
     go : (t : Bool) → ltb (length s) x ≡ t → (u : Bool) → named (take x s) ≡ u → cond t (Fault 3) (cond u (Sized x) (Fault 15)) ≡ Sized n
         → Found (x ∷ s) n
@@ -205,19 +205,19 @@ front-found (x ∷ s) n e = go (ltb (length s) x) refl (named (take x s)) refl e
         })
     go false f false g h = let z : _≡_ {A = ℕ} 0 1 = cc in absurd (omega arith)
 
-pub front-of-name : (name rest : List ℕ) → Name name → nameStep (length name ∷ (name ++ rest)) ≡ Sized (length name)
+pub name-step-of-name : (name rest : List ℕ) → Name name → nameStep (length name ∷ (name ++ rest)) ≡ Sized (length name)
 unfolding nameStep
-front-of-name name rest h =
+name-step-of-name name rest h =
     let l = length-append name rest in
     rw (le-ltb (length (name ++ rest)) (length name) (omega arith), take-at name rest (length name) refl, name-named name h)
 
 pub found-inside : (s : List ℕ) (n : ℕ) → nameStep s ≡ Sized n → 1 + n ≤ length s
 found-inside s n e =
-    let f = front-found s n e in
+    let f = name-step-found s n e in
     let l = ap length (f .divides) in
     let m = length-append (f .name) (f .rest) in
     let k = f .sized in
     omega arith
 
 pub sized-inside : (s : List ℕ) (n k : ℕ) → (length s ≡ 0 → ⊥) → k ≡ nameFault s → k ≡ 0 → n ≡ getD s 0 0 → 1 + n ≤ length s
-sized-inside s n k h e z m = found-inside s n (front-sized s n k h e z m)
+sized-inside s n k h e z m = found-inside s n (name-step-sized s n k h e z m)

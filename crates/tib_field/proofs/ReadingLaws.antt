@@ -1,4 +1,4 @@
--- What the answers of a verdict, a check and a field tell of the reading that they come from, and what a reading tells of its first fault.
+-- Laws of a verdict, a check and a field by the reading that they come from, and of a reading by its first fault.
 use Prim.Native.Nat.{ℕ, _<_}
 use native.Mathlib.Omega.{arith}
 use mathlib.Core.Path.{_≡_, refl, sym, ap, _∙_}

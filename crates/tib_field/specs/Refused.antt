@@ -11,9 +11,9 @@ abbrev pub noReal : Real
 noReal = realOf [] 0 false
 
 abbrev pub refusedField : ℕ → ℕ → Field
-refusedField number at =
+refusedField refusal at =
     record {
-      refusal = number;
+      refusal = refusal;
       place = at;
       «name_place» = 0;
       «name_length» = 0;

@@ -15,16 +15,16 @@ use Rattle.tib_msg_field.specs.Layout.{kind, hinted, Hint, none, array, partial
 use Rattle.tib_msg_field.proofs.Steps.{flat}
 use Rattle.tib_msg_field.proofs.Accepted.{whole-accepted}
 use Rattle.tib_msg.specs.CheckAndField.{hintValue, shown, places, field}
-use Rattle.tib_msg.proofs.Shows.{number-none, number-array, number-partial}
+use Rattle.tib_msg.proofs.Shows.{value-none, value-array, value-partial}
 use Rattle.tib_msg.specs.KthTold.{HintTold, absent, element, offset, amount, KthTold}
 
 -- The hint that the layout allows is told by its octets.
 hint-told : (k size : ℕ) (t : Bool) (hint : List ℕ) → Hint k size t hint → HintTold k hint t (getD hint 0 0) (hintValue k hint)
 unfolding hintValue
-hint-told k size t hint (none a b) = subst (HintTold k [] false 0) (number-none k [] (omega arith)) absent
-hint-told k size t hint (array e n h p q w d) = subst (HintTold k (e ∷ n ∷ []) true e) (number-array k (e ∷ n ∷ []) h) (element e n h)
+hint-told k size t hint (none a b) = subst (HintTold k [] false 0) (value-none k [] (omega arith)) absent
+hint-told k size t hint (array e n h p q w d) = subst (HintTold k (e ∷ n ∷ []) true e) (value-array k (e ∷ n ∷ []) h) (element e n h)
 hint-told k size t hint (partial n h) =
-    subst (HintTold k (6 ∷ n ∷ []) true 6) (number-partial k (6 ∷ n ∷ []) (omega arith) h) (offset n h)
+    subst (HintTold k (6 ∷ n ∷ []) true 6) (value-partial k (6 ∷ n ∷ []) (omega arith) h) (offset n h)
 hint-told k size t hint (value e s a b p q w) = rw (ne-eqb k 8 a, ne-eqb k 9 b) (amount e s a b)
 
 module _ (s : List ℕ) (fs : List Parts) (w : Whole s fs) where

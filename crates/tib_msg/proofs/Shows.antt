@@ -21,9 +21,9 @@ use Rattle.tib_msg.specs.CheckAndField.{hintValue, realShown, shown}
 pub first-none : (s : List ℕ) → length s ≡ 0 → 0 ≡ getD s 0 0
 first-none s h = rw (length-zero s h)
 
-pub number-none : (k : ℕ) (s : List ℕ) → length s < 2 → 0 ≡ hintValue k s
+pub value-none : (k : ℕ) (s : List ℕ) → length s < 2 → 0 ≡ hintValue k s
 unfolding hintValue bigEndian
-number-none k s h = go (eqb k 8 || eqb k 9) s h
+value-none k s h = go (eqb k 8 || eqb k 9) s h
   where
     go : (t : Bool) (s : List ℕ) → length s < 2 → 0 ≡ cond t (getD s 1 0) (bigEndian (drop 2 s))
     go true [] h = refl
@@ -33,18 +33,18 @@ number-none k s h = go (eqb k 8 || eqb k 9) s h
     go false (x ∷ []) h = refl
     go false (x ∷ y ∷ s) h = absurd (omega arith)
 
-pub number-array : (k : ℕ) (s : List ℕ) → k ≡ 8 → getD s 1 0 ≡ hintValue k s
+pub value-array : (k : ℕ) (s : List ℕ) → k ≡ 8 → getD s 1 0 ≡ hintValue k s
 unfolding hintValue
-number-array k s e = rw (eq-eqb k 8 e)
+value-array k s e = rw (eq-eqb k 8 e)
 
-pub number-partial : (k : ℕ) (s : List ℕ) → (k ≡ 8 → ⊥) → k ≡ 9 → getD s 1 0 ≡ hintValue k s
+pub value-partial : (k : ℕ) (s : List ℕ) → (k ≡ 8 → ⊥) → k ≡ 9 → getD s 1 0 ≡ hintValue k s
 unfolding hintValue
-number-partial k s d e = rw (ne-eqb k 8 d, eq-eqb k 9 e)
+value-partial k s d e = rw (ne-eqb k 8 d, eq-eqb k 9 e)
 
-pub number-value : (k : ℕ) (s : List ℕ) → (k ≡ 8 → ⊥) → (k ≡ 9 → ⊥) → length s ≤ 10
+pub value-other : (k : ℕ) (s : List ℕ) → (k ≡ 8 → ⊥) → (k ≡ 9 → ⊥) → length s ≤ 10
     → unsigned (take (length s - 2) (drop 2 s)) ≡ hintValue k s
 unfolding hintValue
-number-value k s d e h =
+value-other k s d e h =
     rw (ne-eqb k 8 d, ne-eqb k 9 e, tail-part s 2)
     (unsigned-is (drop 2 s) (rw (length-drop 2 s) (omega arith)))
 

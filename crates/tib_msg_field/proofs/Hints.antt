@@ -132,11 +132,11 @@ module _ (kind size t n : ℕ) (s : List ℕ) (h : ℕ) where
         allowed = rw l at w;
       }
 
-front-found : (kind size : ℕ) (s : List ℕ) (h : ℕ) → readHint kind size s ≡ Size h → HintFound kind size true s h
+name-step-found : (kind size : ℕ) (s : List ℕ) (h : ℕ) → readHint kind size s ≡ Size h → HintFound kind size true s h
 unfolding readHint
-front-found kind size [] h e = let z : _≡_ {A = ℕ} 0 1 = cc in absurd (omega arith)
-front-found kind size (t ∷ []) h e = let z : _≡_ {A = ℕ} 0 1 = cc in absurd (omega arith)
-front-found kind size (t ∷ n ∷ s) h e = go (eqb kind 8) refl (eqb kind 9) refl e
+name-step-found kind size [] h e = let z : _≡_ {A = ℕ} 0 1 = cc in absurd (omega arith)
+name-step-found kind size (t ∷ []) h e = let z : _≡_ {A = ℕ} 0 1 = cc in absurd (omega arith)
+name-step-found kind size (t ∷ n ∷ s) h e = go (eqb kind 8) refl (eqb kind 9) refl e
   where
     go : (a : Bool) → eqb kind 8 ≡ a → (b : Bool) → eqb kind 9 ≡ b
         → cond a (arrayHint size t n) (cond b (partialHint t) (valueHint t n (length s))) ≡ Size h → HintFound kind size true (t ∷ n ∷ s) h
@@ -149,7 +149,7 @@ unfolding hintAt
 hint-found c size s h g e = go (hinted c) refl e
   where
     go : (t : Bool) → hinted c ≡ t → cond t (readHint (kind c) size s) (Size 0) ≡ Size h → HintFound (kind c) size t s h
-    go true f w = front-found (kind c) size s h w
+    go true f w = name-step-found (kind c) size s h w
     go false f w =
         let m : 0 ≡ h = cc in
         record { hint = []; rest = s; divides = refl; sized = m; allowed = none (g .array f) (g .partial f) }

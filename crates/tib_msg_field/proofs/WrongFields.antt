@@ -25,7 +25,7 @@ use Rattle.tib_msg_field.proofs.Hints.{is-true, true-is, good-type, typ
 
 -- ---- hints
 
--- What the first two octets of a hint come to: no hint begins with them; they are one; or a value of n octets has to follow.
+-- The three cases of the first two octets of a hint: no hint begins with them; they are a whole hint; or a value of n octets has to follow.
 data Two (kind size t n : ℕ) : Type 0 where
   none : ((s : List ℕ) → readHint kind size (t ∷ n ∷ s) ≡ HintFault 16) → Two kind size t n
   whole : ((s : List ℕ) → readHint kind size (t ∷ n ∷ s) ≡ Size 2) → Hint kind size true (t ∷ n ∷ []) → Two kind size t n
@@ -74,11 +74,11 @@ HintTold : ℕ → ℕ → List ℕ → HintStep → Type 0
 HintTold kind size s (HintFault k) = WrongHint kind size k s
 HintTold kind size s (Size h) = Unit {0}
 
-front-told : (kind size : ℕ) (s : List ℕ) → HintTold kind size s (readHint kind size s)
+read-hint-told : (kind size : ℕ) (s : List ℕ) → HintTold kind size s (readHint kind size s)
 unfolding HintTold
-front-told kind size [] = unfold readHint in faults.cut [] (omega arith)
-front-told kind size (t ∷ []) = unfold readHint in faults.cut (t ∷ []) (omega arith)
-front-told kind size (t ∷ n ∷ s) = go (two kind size t n)
+read-hint-told kind size [] = unfold readHint in faults.cut [] (omega arith)
+read-hint-told kind size (t ∷ []) = unfold readHint in faults.cut (t ∷ []) (omega arith)
+read-hint-told kind size (t ∷ n ∷ s) = go (two kind size t n)
   where
     cutOff : ((r : List ℕ) → length r ≡ n → Hint kind size true (t ∷ n ∷ r)) → (a : Bool) → ltb (length s) n ≡ a
         → HintTold kind size (t ∷ n ∷ s) (cond a (HintFault 3) (Size (2 + n)))
@@ -155,7 +155,7 @@ data-told n c w l s = go (ltb (length s) l) refl
         told-map (λ (k : ℕ). WrongHint (kind c) l k (drop l s)) (λ (k : ℕ). WrongData c l k s)
         (λ k h. subst (WrongData c l k) (take-append-drop l s) (faults.hint k (take l s) (drop l s) e f h))
         (withHint n c w l (readHint (kind c) l (drop l s)))
-        (hint-told n c w l (drop l s) f (readHint (kind c) l (drop l s)) (front-told (kind c) l (drop l s)))
+        (hint-told n c w l (drop l s) f (readHint (kind c) l (drop l s)) (read-hint-told (kind c) l (drop l s)))
 
     go : (t : Bool) → ltb (length s) l ≡ t
         → StepTold (λ (k : ℕ). WrongData c l k s) (cond t (Fault 4) (withHint n c w l (cond (hinted c) (readHint (kind c) l (drop l s)) (Size 0))))
@@ -231,7 +231,7 @@ field-told s k =
     name-told Done Fault fromType WrongType (λ j f. let z : _≡_ {A = ℕ} 0 1 = cc in absurd (omega arith)) (λ i j f. cc)
     (λ j n r f. subst (StepTold (λ (i : ℕ). WrongType i r)) f (type-told n r)) k s
 
--- Only where no octet is left does a step find the end.
+-- A step finds the end only where no octet remains.
 pub step-done : (s : List ℕ) → nextField s ≡ Done → s ≡ []
 unfolding StepTold nextField
 step-done s =

@@ -11,7 +11,7 @@ use borrow.Author.Tests.{ne-eqb, le-leb, lt-leb, eqb-true, eqb-false}
 use Rattle.tib_real.specs.Parts.{four, eight, negative, exponent, fraction, significand, units}
 use Rattle.tib_real.specs.Widened.{packed, normalized, widened}
 
--- What is put together is found again.
+-- The exponent, the fraction and the sign of packed bits are those that were packed.
 module _ (s : Bool) (x t : ℕ) (hx : x < 2048) (ht : t < 2 ^ 52) where
   pub packed-exponent : exponent eight (packed s x t) ≡ x
   unfolding exponent packed

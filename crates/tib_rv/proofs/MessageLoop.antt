@@ -18,7 +18,7 @@ use Rattle.tib_rv_field.specs.Layout.{Parts, octets, holder, magic, Fields, end
 use Rattle.tib_rv_field.specs.Reading.{nextField, lead, total, partsAt, Inner, nestedOf, afterStep, fieldsFrom, headerFault, messageFrom}
 use Rattle.tib_rv_field.specs.internal.Sizes.{sizes}
 use Rattle.tib_rv.specs.CheckAndField.{count}
-use Rattle.tib_rv_field.proofs.Steps.{step-found, step-held, length-octets}
+use Rattle.tib_rv_field.proofs.Steps.{step-found, step-holder, length-octets}
 use Rattle.tib_rv_field.proofs.Accepted.{accepted-good, field-size, depth-positive}
 
 -- A field that is found lies within the octets, and takes one of them or more.
@@ -34,7 +34,7 @@ pub over-inside : (s : List ℕ) (z : Sizes) → nextField s ≡ Over z → (1 �
 over-inside s z e = let f = step-found s z e in inside-of (f .field) (f .rest) s z (f .divides) (f .sized)
 
 pub into-inside : (s : List ℕ) (z : Sizes) → nextField s ≡ Into z → (1 ≤ total z) × (total z ≤ length s)
-into-inside s z e = let f = step-held s z e in inside-of (holder (f .name) (f .octets-held)) (f .rest) s z (f .divides) (f .sized)
+into-inside s z e = let f = step-holder s z e in inside-of (holder (f .name) (f .octets-held)) (f .rest) s z (f .divides) (f .sized)
 
 -- The data of a field of these sizes that begins at i.
 pub data-part : (s : List ℕ) (i : ℕ) (z : Sizes) → partsAt (drop i s) z .contents ≡ take (i + total z - (i + lead z)) (drop (i + lead z) s)
@@ -112,9 +112,9 @@ module _ (inner : Inner) (at : ℕ) (s : List ℕ) where
           (fieldsFrom inner (now .fuel - 1) (at + i + total z) (drop (total z) (drop i s))) w number place (rw k) inner-walk v
 
 -- A message has no more fields than octets.
-held-length : (name m : List ℕ) → 1 + length m ≤ length (octets (holder name m))
+holder-length : (name m : List ℕ) → 1 + length m ≤ length (octets (holder name m))
 unfolding total lead sizes
-held-length name m = let l = length-octets (holder name m) in omega arith
+holder-length name m = let l = length-octets (holder name m) in omega arith
 
 fields-few : (fs : Fields) → count fs ≤ length (joined fs)
 unfolding count joined
@@ -125,7 +125,7 @@ fields-few (leaf f rest) =
     rw length-append (omega arith)
 fields-few (nested name size inside rest) =
     let m = size ++ (magic ++ joined inside) in
-    let k = held-length name m in
+    let k = holder-length name m in
     let l = length-append size (magic ++ joined inside) in
     let p = fields-few inside in
     let q = fields-few rest in

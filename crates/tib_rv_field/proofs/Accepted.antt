@@ -21,7 +21,7 @@ use Rattle.tib_rv_field.specs.declared.Step.the-variants.{Done, Fault, O
 use Rattle.tib_rv_field.specs.Layout.{Parts, octets, holder, magic, Fields, end, leaf, nested, joined, message, depth, Header, Allowed, Whole}
 use Rattle.tib_rv_field.specs.Reading.{nextField, lead, total, partsAt, Inner, nestedOf, afterStep, fieldsFrom, headerFault, messageFrom, reading}
 use Rattle.tib_rv_field.specs.internal.Sizes.{sizes}
-use Rattle.tib_rv_field.proofs.Steps.{Found, Held, Counted, step-found, step-held, step-of-leaf, step-of-held, step-of-end, parts-of-field, rest-of-field}
+use Rattle.tib_rv_field.proofs.Steps.{Found, Held, Counted, step-found, step-holder, step-of-leaf, step-of-held, step-of-end, parts-of-field, rest-of-field}
 use Rattle.tib_rv_field.proofs.WrongFields.{step-done}
 
 -- Octets that are allowed fields joined, in a message that may be `levels` messages deep.
@@ -106,7 +106,7 @@ module _ (levels : ℕ) (inner : Inner)
           → inOrder (nestedOf (partsAt s z)) q r ≡ accepted fs → Good (suc levels) s fs
       go (accepted inside) d (accepted rest) f g =
           subst (Good (suc levels) s) (cc)
-          (one-held levels s z rest inside (step-held s z h) (below at (at + lead z) (partsAt s z .contents) inside d)
+          (one-held levels s z rest inside (step-holder s z h) (below at (at + lead z) (partsAt s z .contents) inside d)
           (later (at + total z) (drop (total z) s) rest f))
       go (accepted inside) d (refused number place) f g = let y : _≡_ {A = ℕ} 0 1 = cc in absurd (omega arith)
       go (refused number place) d r f g = let y : _≡_ {A = ℕ} 0 1 = cc in absurd (omega arith)

@@ -8,13 +8,13 @@ use Rattle.tib_rv_field.specs.declared.Sizes.{Sizes}
 use Rattle.tib_rv_field.specs.declared.Step.the-variants.{Into}
 use Rattle.tib_rv_field.specs.Layout.{Parts, holder}
 use Rattle.tib_rv_field.specs.Reading.{nextField, partsAt}
-use Rattle.tib_rv_field.proofs.Steps.{Counted, step-held, parts-of-field}
+use Rattle.tib_rv_field.proofs.Steps.{Counted, step-holder, parts-of-field}
 
 module _ (s : List ℕ) (z : Sizes) (e : nextField s ≡ Into z) where
   -- Four octets or more are held, and the first four count all of them.
   pub inner-counted : Counted (partsAt s z .contents)
   inner-counted =
-      let h = step-held s z e in
+      let h = step-holder s z e in
       let f = holder (h .name) (h .octets-held) in
       let p : partsAt s z ≡ f = ap₂ partsAt (h .divides) (sym (h .sized)) ∙ parts-of-field f (h .rest) in
       subst (λ (x : Parts). Counted (x .contents)) (sym p) (h .measured)

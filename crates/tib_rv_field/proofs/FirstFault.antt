@@ -23,7 +23,7 @@ use Rattle.tib_rv_field.specs.FirstFault.{WrongHeader, Opens, Holder, Fa
 use Rattle.tib_rv_field.specs.FirstFault as faults
 use Rattle.tib_rv_field.specs.Reading.{nextField, lead, total, partsAt, Inner, nestedOf, afterStep, fieldsFrom, headerFault, messageFrom, reading}
 use Rattle.tib_rv_field.specs.internal.Sizes.{sizes}
-use Rattle.tib_rv_field.proofs.Steps.{Found, Held, Counted, step-found, step-held, step-of-leaf, step-of-held, parts-of-field, rest-of-field, length-octets}
+use Rattle.tib_rv_field.proofs.Steps.{Found, Held, Counted, step-found, step-holder, step-of-leaf, step-of-held, parts-of-field, rest-of-field, length-octets}
 use Rattle.tib_rv_field.proofs.Accepted.{GoodMessage, GoodHeader, leaf-parts, held-parts, header-good, good-header, field-size, message-counted, accepted-good, good-accepted, accepted-exactly}
 use Rattle.tib_rv_field.proofs.WrongFields.{field-told, wrong-field, header-told, wrong-header}
 
@@ -157,13 +157,13 @@ fault-refused depth s k p (header d j name held r l o w) (suc levels) (suc fuel)
 fault-refused depth s k p (inside d j q name held fields r l good o inner) levels zero at e h = absurd (omega arith)
 fault-refused depth s k p (inside d j q name held fields r l good o inner) zero (suc fuel) at e h = absurd (omega arith)
 fault-refused depth s k p (inside d j q name held fields r l good o inner) (suc levels) (suc fuel) at e h =
-    let b : length held ≡ 8 + length fields = held-length in
+    let b : length held ≡ 8 + length fields = holder-length in
     let i = fault-refused d fields j q inner levels (suc (length held)) (at + (3 + length name) + 8) (omega arith) (omega arith) in
     into-refused (suc levels) fuel at name held r good (opens-counted held fields o) j (at + (3 + length name + 8 + q))
     (open-message levels at (at + (3 + length name)) held fields o ∙ i ∙ ap (refused j) (omega arith))
   where
-    held-length : length held ≡ 8 + length fields
-    held-length =
+    holder-length : length held ≡ 8 + length fields
+    holder-length =
         let w = o .width in
         let x : length held ≡ length (o .size) + length (magic ++ fields) = ap length (o .divides) ∙ length-append (o .size) (magic ++ fields) in
         let y = length-append magic fields in
@@ -241,7 +241,7 @@ module _ (levels : ℕ) (inner : Inner) (good : (field at : ℕ) (m : List ℕ) 
           one-leaf (suc levels) at s z f (fieldsFrom inner fuel (at + total z) (drop (total z) s))
           (later (at + total z) (drop (total z) s) (shorter z (f .field) (f .rest) (f .divides) (f .sized)))
       go (Into z) e later =
-          let f = step-held s z e in
+          let f = step-holder s z e in
           let m = f .octets-held in
           let o = holder (f .name) m in
           let c : partsAt s z .contents ≡ m = ap (λ (x : Parts). x .contents) (held-parts s z f .0) in

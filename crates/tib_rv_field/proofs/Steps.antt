@@ -161,9 +161,9 @@ step-found s z e =
           };
     }
 
-pub step-held : (s : List ℕ) (z : Sizes) → nextField s ≡ Into z → Held s z
+pub step-holder : (s : List ℕ) (z : Sizes) → nextField s ≡ Into z → Held s z
 unfolding Finds octets sizes following own counted
-step-held s z e =
+step-holder s z e =
     let n = name-tested (Into z) tt s e in
     let y = type-tested (Into z) tt (length (n .name)) (n .rest) (n .same) in
     let t = y .3 in

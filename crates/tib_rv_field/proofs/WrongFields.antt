@@ -152,7 +152,7 @@ field-told s k =
     name-told Done Fault fromType WrongType (λ j f. let z : _≡_ {A = ℕ} 0 1 = cc in absurd (omega arith)) (λ i j f. cc)
     (λ j n r f. subst (StepTold (λ (i : ℕ). WrongType i r)) f (type-told n r)) k s
 
--- Only where no octet is left does a step find the end.
+-- A step finds the end only where no octet remains.
 pub step-done : (s : List ℕ) → nextField s ≡ Done → s ≡ []
 unfolding StepTold nextField
 step-done s =

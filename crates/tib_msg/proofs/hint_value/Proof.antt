@@ -1,12 +1,12 @@
 -- `tib_msg::hint_value` meets its contract.
 use mathlib.Core.Path.{_∙_}
-use Rattle.tib_msg.proofs.Shows.{number-none, number-array, number-partial, number-value}
+use Rattle.tib_msg.proofs.Shows.{value-none, value-array, value-partial, value-other}
 use borrow.Author.Needs.{needs}
 use Rattle.tib_msg.proofs.hint_value.Statement.{statement}
 use Rattle.tib_msg.proofs.hint_value.Tie as tie
 
 returns : tie.Need-returns
-returns c = number-none (c .before .before .args .k) (c .before .before .args .s .now) (c .if1 .taken)
+returns c = value-none (c .before .before .args .k) (c .before .before .args .s .now) (c .if1 .taken)
 
 shared-slice-read-wide : tie.Need-shared-slice-read-wide
 shared-slice-read-wide c = search needs
@@ -15,7 +15,7 @@ wide-requires : tie.Need-wide-requires
 wide-requires c κs = search needs
 
 returns-2 : tie.Need-returns-2
-returns-2 c = c .wide .ensures ∙ number-array (c .before .before .before .before .before .args .k) (c .before .before .before .before .before .args .s .now) (c .before .before .if2 .taken)
+returns-2 c = c .wide .ensures ∙ value-array (c .before .before .before .before .before .args .k) (c .before .before .before .before .before .args .s .now) (c .before .before .if2 .taken)
 
 shared-slice-read-wide-2 : tie.Need-shared-slice-read-wide-2
 shared-slice-read-wide-2 c = search needs
@@ -24,7 +24,7 @@ wide-requires-2 : tie.Need-wide-requires-2
 wide-requires-2 c κs = search needs
 
 returns-3 : tie.Need-returns-3
-returns-3 c = c .wide2 .ensures ∙ number-partial (c .before .before .before .before .before .before .args .k) (c .before .before .before .before .before .before .args .s .now) (c .before .before .before .if2 .left) (c .before .before .if3 .taken)
+returns-3 c = c .wide2 .ensures ∙ value-partial (c .before .before .before .before .before .before .args .k) (c .before .before .before .before .before .before .args .s .now) (c .before .before .before .if2 .left) (c .before .before .if3 .taken)
 
 sub-uint : tie.Need-sub-uint
 sub-uint c = search needs
@@ -39,7 +39,7 @@ uint-requires : tie.Need-uint-requires
 uint-requires c κs = search needs
 
 returns-4 : tie.Need-returns-4
-returns-4 c = c .uint .ensures ∙ number-value (c .before .before .before .before .before .before .args .k) (c .before .before .before .before .before .before .args .s .now) (c .before .before .before .if2 .left) (c .before .before .if3 .left) (c .before .before .before .before .before .before .pre)
+returns-4 c = c .uint .ensures ∙ value-other (c .before .before .before .before .before .before .args .k) (c .before .before .before .before .before .before .args .s .now) (c .before .before .before .if2 .left) (c .before .before .if3 .left) (c .before .before .before .before .before .before .pre)
 
 pub hint-value-spec : {M : Type 1} → statement M
 hint-value-spec =

@@ -2,7 +2,7 @@
 use mathlib.Core.Path.{_∙_}
 use borrow.Author.Needs.{needs}
 use native.Mathlib.Omega.{arith}
-use Rattle.tib_field.proofs.Names.{front-of-none, front-refused, front-sized, sized-inside}
+use Rattle.tib_field.proofs.Names.{name-step-none, name-step-refused, name-step-sized, sized-inside}
 use Rattle.tib_field.proofs.NameSteps.{next-of-end, next-of-fault, next-of-sized}
 use Rattle.tib_msg_field.specs.Reading.{fromType, nextField}
 use Rattle.tib_msg_field.specs.declared.Step.the-variants.{Done, Fault}
@@ -11,7 +11,7 @@ use Rattle.tib_msg_field.proofs.next_field.Tie as tie
 
 returns : tie.Need-returns
 unfolding nextField
-returns c = let s = c .before .before .args .s .now in next-of-end Done Fault fromType s (front-of-none s (c .if1 .taken))
+returns c = let s = c .before .before .args .s .now in next-of-end Done Fault fromType s (name-step-none s (c .if1 .taken))
 
 name-fault-requires : tie.Need-name-fault-requires
 name-fault-requires c κs = search needs
@@ -21,7 +21,7 @@ unfolding nextField
 returns-2 c =
     let f = c .before in
     let s = f .before .before .before .args .s .now in
-    next-of-fault Done Fault fromType s _ (front-refused s _ (f .name-fault .ensures) (c .if2 .taken))
+    next-of-fault Done Fault fromType s _ (name-step-refused s _ (f .name-fault .ensures) (c .if2 .taken))
 
 shared-slice-read-wide : tie.Need-shared-slice-read-wide
 shared-slice-read-wide c = search needs
@@ -60,7 +60,7 @@ returns-3 c =
     let f = w .before .before .before in
     let s = f .before .before .before .args .s .now in
     c .from-type .ensures
-    ∙ next-of-sized Done Fault fromType s _ (front-sized s (w .wide .result) (f .name-fault .result) (f .before .if1 .left) (f .name-fault .ensures) (w .before .before .if2 .left) (w .wide .ensures))
+    ∙ next-of-sized Done Fault fromType s _ (name-step-sized s (w .wide .result) (f .name-fault .result) (f .before .if1 .left) (f .name-fault .ensures) (w .before .before .if2 .left) (w .wide .ensures))
 
 pub next-field-spec : {M : Type 1} → statement M
 next-field-spec =

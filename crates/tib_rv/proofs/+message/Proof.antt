@@ -1,5 +1,5 @@
--- `tib_rv::message` meets its contract: at each turn the counts so far, with those of the fields that are left, are the message's. The
--- levels left for nested messages fall with each call of itself.
+-- `tib_rv::message` meets its contract: at each turn the counts so far, with those of the fields that remain, are the message's. The
+-- levels that remain for nested messages decrease with each recursive call.
 use Prim.Native.Nat.{ℕ, suc, _+_, _-_, _≤_, _<_}
 use native.Mathlib.Omega.{arith}
 use borrow.Author.Needs.{needs}
@@ -95,20 +95,20 @@ module _ (t : ℕ) (c : After-next t) where
   abbrev state : State (messageFrom (args .levels - 1)) (args .at) octets i fields depth
   state = c .before .before .loop .inv .2
 
-  abbrev levels-left : 1 ≤ args .levels
-  levels-left = c .before .before .loop .inv .0
+  abbrev levels-remain : 1 ≤ args .levels
+  levels-remain = c .before .before .loop .inv .0
 
   abbrev bounds : (args .at + length octets ≤ messageLimit) × (args .levels ≤ 8)
   bounds = c .before .before .before .before .before .before .before .pre .1
 
-  -- What the step found at the octets that are left.
+  -- What the step found at the octets that remain.
   step-is : (p : Step) → c .next-field .result ≡ p → nextField (drop i octets) ≡ p
   step-is p e = seen nextField octets i (c .next-field .result) p (c .next-field .ensures) e
 
-  -- What the whole message comes to, in terms of its fields.
+  -- The verdict on the whole message, by the verdict on its fields.
   opened : verdictOf count depth-of (fieldsFrom (messageFrom (args .levels - 1)) (suc (length octets)) (args .at + 8) (drop 8 octets))
       ≡ verdictOf count depth-of (messageFrom (args .levels) (args .field) (args .at) octets)
-  opened = let h = levels-left in header-open (args .levels) (args .field) (args .at) octets (λ e. omega arith) (c .before .before .loop .inv .1)
+  opened = let h = levels-remain in header-open (args .levels) (args .field) (args .at) octets (λ e. omega arith) (c .before .before .loop .inv .1)
 
   over-ends : (z : Sizes) → c .next-field .result ≡ Over z → (i < i + total z) × (i + total z ≤ length octets)
   over-ends z e = over-fits (messageFrom (args .levels - 1)) (args .at) octets i fields depth state z (step-is (Over z) e)
@@ -251,7 +251,7 @@ message-loop-less t c =
 message-loop-again : (t : ℕ) → message-lts.Need-loop-again (claims t) (message-at t) message.Post message-Inv-loop message-μ-loop
 message-loop-again t c =
     let b = c .before .before .before .before in
-    (levels-left t b, b .before .before .loop .inv .1, over-leaf (messageFrom (args t b .levels - 1)) (args t b .at) (octets t b) (i t b) (fields t b) (depth t b) (state t b) _ _ (step-is t b _ (c .before .before .z .given .1)) (c .past .ensures))
+    (levels-remain t b, b .before .before .loop .inv .1, over-leaf (messageFrom (args t b .levels - 1)) (args t b .at) (octets t b) (i t b) (fields t b) (depth t b) (state t b) _ _ (step-is t b _ (c .before .before .z .given .1)) (c .past .ensures))
 
 message-enum-known-z-2 : (t : ℕ) → message-lts.Need-enum-known-z-2 (claims t) (message-at t) message.Post message-Inv-loop message-μ-loop
 message-enum-known-z-2 t c = search needs
@@ -280,7 +280,7 @@ message-part-message-end : (t : ℕ) → message-lts.Need-part-message-end (clai
 message-part-message-end t c = let h = part t c .2 in omega arith
 
 message-sub-message-2 : (t : ℕ) → message-lts.Need-sub-message-2 (claims t) (message-at t) message.Post message-Inv-loop message-μ-loop
-message-sub-message-2 t c = let h = levels-left t (next t (c .before)) in omega arith
+message-sub-message-2 t c = let h = levels-remain t (next t (c .before)) in omega arith
 
 message-add-message : (t : ℕ) → message-lts.Need-add-message (claims t) (message-at t) message.Post message-Inv-loop message-μ-loop
 message-add-message t c =
@@ -305,7 +305,7 @@ message-message-requires t c κs =
     let g = part t d .2 in
     let k = bounds t b .0 in
     let l = bounds t b .1 in
-    let r = levels-left t b in
+    let r = levels-remain t b in
     let p = b .before .before .before .before .before .before .before .pre .0 in
     let m = length-take (end t d - from t d) (drop (from t d) (octets t b)) in
     (omega arith, (omega arith, omega arith))
@@ -376,7 +376,7 @@ message-loop-again-2 t c =
     let b = next t d in
     let w = n .before .f .given in
     let m = n .before .before .before .message in (
-      levels-left t b,
+      levels-remain t b,
       b .before .before .loop .inv .1,
       over-nested (messageFrom (args t b .levels - 1)) (args t b .at) (octets t b) (i t b) (fields t b) (depth t b) (state t b) (z t d) (from t d) (end t d) (m .result) (step-is t b _ (into t d)) (d .before .data-at .ensures)
           (d .past2 .ensures) (m .ensures) (w .0 .0) (w .0 .1 .0) (c .larger .result) (w .1) (inner-small t n .0) (c .larger .ensures),
