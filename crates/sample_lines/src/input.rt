@@ -1,4 +1,4 @@
-// What a word stands for: a number, or octets.
+// Reads a word of a line: a number, or octets.
 use crate::line;
 use crate::print;
 ghost use Prim.Native.Nat.{_≤_};
@@ -7,7 +7,7 @@ pub fn wide(x: u8) -> u64 {
     x as u64
 }
 
-// The value of a hexadecimal digit, 16 for any other character.
+// Returns the value of a hexadecimal digit, 16 for any other character.
 fn digit(x: u8) -> u64
     ensures { λ r. ⌜ r ≤ 16 ⌝ }
 {
@@ -27,7 +27,7 @@ fn digit(x: u8) -> u64
     16
 }
 
-// The decimal number at the front of a word. It is read as far as the next digit is sure to fit.
+// Returns the decimal number at the front of a word. It stops before a digit that might not fit.
 pub fn number_in(s: &[u8]) -> u64 {
     let mut v: u64 = 0;
     let mut i = 0;
@@ -45,7 +45,7 @@ pub fn number_in(s: &[u8]) -> u64 {
     v
 }
 
-// The size of a buffer, at most that of those which the programs have.
+// Returns the size of a buffer, at most the size of the buffers in the programs.
 pub fn room_in(s: &[u8]) -> usize
     ensures { λ r. ⌜ r ≤ 65546 ⌝ }
 {
@@ -56,7 +56,7 @@ pub fn room_in(s: &[u8]) -> usize
     n as usize
 }
 
-// The next place that holds a hexadecimal digit; a place past the end where there is none.
+// Returns the first place from `from` on that holds a hexadecimal digit; a place past the end where there is none.
 fn next_digit(s: &[u8], from: usize) -> usize
     ensures { λ r. ⌜ from ≤ r ⌝ }
 {
@@ -70,7 +70,7 @@ fn next_digit(s: &[u8], from: usize) -> usize
     i
 }
 
-// Puts octets that are written in hexadecimal at the front of a buffer, and answers how many.
+// Stores octets that are written in hexadecimal at the front of a buffer, and returns how many.
 fn spell(s: &[u8], out: &mut [u8; 65546]) -> u64 {
     let mut n: usize = 0;
     let mut i: usize = 0;
@@ -92,7 +92,7 @@ fn spell(s: &[u8], out: &mut [u8; 65546]) -> u64 {
     n as u64
 }
 
-// Puts the octets of a word at the front of a buffer of zeros, and answers how many there are with the zeros that are meant too.
+// Stores the octets of a word at the front of a buffer of zeros. Returns how many octets the word has, the zeros that it leaves out included.
 pub fn octets_in(s: &[u8], out: &mut [u8; 65546]) -> u64 {
     let colon = line::find(s, 0, b':');
     if s.len() <= colon {
@@ -103,7 +103,7 @@ pub fn octets_in(s: &[u8], out: &mut [u8; 65546]) -> u64 {
     number_in(s)
 }
 
-// The first octets of such a buffer.
+// Returns the first n octets of such a buffer.
 pub fn front(s: &[u8; 65546], n: u64) -> &[u8] {
     print::part(s, 0, n)
 }

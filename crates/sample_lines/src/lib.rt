@@ -1,8 +1,8 @@
-// What the programs that run samples share: they read lines of standard input and print a label and an answer for each.
+// What the programs that run samples share: reading lines from standard input, and printing a label and a result for each.
 //
 // A line is words with one space between them, then `# ` and a label. Numbers are decimal. Octets are hexadecimal, `-` for none; any other
-// character among the digits is passed over, so that commas can set records apart. Before them, a number and `:` say how many octets there
-// are where those that are not written are 0. A buffer has 65,546 octets, one more than the longest that a function under test takes.
+// character among the digits is ignored, so that commas can separate records. A number and `:` before them give the count of octets; those
+// that are not written are 0. A buffer has 65,546 octets, one more than the longest that a function under test takes.
 mod input;
 mod line;
 mod print;

@@ -1,4 +1,4 @@
-// Writing to standard output.
+// Prints labels, numbers, octets and refusals to standard output.
 use crate::input;
 use crate::line;
 ghost use Prim.Native.Nat.{_<_, _^_};
@@ -7,7 +7,7 @@ pub fn text(s: &[u8]) {
     io::write_all(1, s);
 }
 
-// What a line's answer begins with.
+// Prints the label of a line, which comes before its result.
 pub fn label(s: &[u8]) {
     text(line::label(s));
     text(b": ");
@@ -17,7 +17,7 @@ pub fn number(n: u64) {
     io::print_decimal(1, n);
 }
 
-// One less than the size of a number below zero, since the lowest number has no opposite; any other number itself.
+// Returns n, or -1 - n for a negative n: the lowest number has no opposite.
 fn size(n: i64) -> u64
     ensures { λ r. ⌜ r < 2 ^ 63 ⌝ }
 {
@@ -36,7 +36,7 @@ pub fn signed(n: i64) {
     }
 }
 
-// A part of octets; none where it does not lie within them.
+// Returns n octets from a place on; no octets where they do not lie within s.
 pub fn part(s: &[u8], from: u64, n: u64) -> &[u8] {
     let len = s.len() as u64;
     if len < from {
@@ -50,7 +50,7 @@ pub fn part(s: &[u8], from: u64, n: u64) -> &[u8] {
     &s[a..e]
 }
 
-// Octets in hexadecimal, or how many there are where that would be long.
+// Prints octets in hexadecimal, or only their count where there are more than 40.
 pub fn octets(s: &[u8]) {
     if s.len() == 0 {
         text(b"-");
@@ -75,7 +75,7 @@ pub fn refusal(n: u64, place: u64) {
     number(place);
 }
 
-// What a check answers of a message that it accepts.
+// Prints what a check returns for a message that it accepts.
 pub fn counts(fields: u64, depth: u64) {
     text(b"fields ");
     number(fields);

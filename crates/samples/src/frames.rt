@@ -1,4 +1,4 @@
-// Frames, read and written.
+// Reads and writes frames.
 use crate::print;
 
 fn place(buffer: &[u8]) {

@@ -1,10 +1,10 @@
-// Lookup of a tag.
+// Looks up tags.
 use crate::print;
 use crate::tables;
 use hproto_table::Table;
 use message_calls::Found;
 
-// Every part of the answer, and the octets at the place that it names.
+// Prints every part of a lookup's result, and the octets of the contents.
 fn found(m: &[u8], f: Found) {
     if f.refusal != 0 {
         sample_lines::refusal(f.refusal, f.place);

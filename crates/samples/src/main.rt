@@ -1,5 +1,5 @@
-// Runs the worked examples of the documents, and what is easy to get wrong in them, through the public functions. Each line of standard
-// input is a sample; sample_lines says how it is written. Its first word says what to do, and only the first letter counts:
+// Runs the worked examples of the documents, and cases that are easy to get wrong, through the public functions. Each line of standard
+// input is a sample; sample_lines describes its form. The first word says what to do, and only its first letter counts:
 //
 //     message NUMBER TABLE OCTETS          check a message and shorten it
 //     shorten ROOM TABLE OCTETS            shorten a message of number 0 into a buffer of ROOM octets, all of them aa
@@ -8,7 +8,7 @@
 //     read OCTETS                          read a frame
 //     write ROOM OCTETS                    write a frame into a buffer of ROOM octets, all of them aa, and read it
 //
-// A line that starts with # is passed over. What no line can give comes after the last one.
+// A line that starts with # is ignored. Samples that no line can express run after the last line.
 mod frames;
 mod lookups;
 mod messages;

@@ -1,4 +1,4 @@
-// The check and the shortener.
+// Checks and shortens messages.
 use crate::print;
 use crate::tables;
 use hproto_table::Table;

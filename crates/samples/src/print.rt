@@ -1,6 +1,6 @@
 // Prints what several kinds of line have in common.
 
-// Octets; of many, how many there are and the first six.
+// Prints octets; of more than 40, their count and the first six.
 pub fn octets(s: &[u8]) {
     sample_lines::octets(s);
     if 40 < s.len() {
@@ -10,13 +10,13 @@ pub fn octets(s: &[u8]) {
     }
 }
 
-// What a line hands to the functions.
+// Prints the octets that a line passes to a function.
 pub fn given(s: &[u8]) {
     octets(s);
     sample_lines::text(b" -> ");
 }
 
-// The answer of a function that writes into a buffer, and the whole buffer afterwards.
+// Prints the result of a function that writes into a buffer, and the whole buffer afterwards.
 pub fn written(refusal: u64, place: u64, length: u64, buffer: &[u8]) {
     if refusal != 0 {
         sample_lines::refusal(refusal, place);

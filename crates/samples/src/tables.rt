@@ -1,4 +1,4 @@
-// The loader, and table values that it does not make.
+// Loads field tables, and tries table values that the loader does not return.
 use crate::messages;
 use hproto_table::Loaded;
 use hproto_table::Table;
@@ -9,7 +9,7 @@ fn load(word: &[u8]) -> Loaded {
     table_index::load(sample_lines::front(&space, n))
 }
 
-// The table of a word, which is to load.
+// Loads the table of a word. The word is meant to be a good table; a refusal is printed.
 pub fn loaded(word: &[u8]) -> Table {
     let l = load(word);
     if l.refusal != 0 {
@@ -31,7 +31,7 @@ pub fn table(line: &[u8]) {
     }
 }
 
-// An empty message under a table value.
+// Checks an empty message with a table value.
 fn value(label: &[u8], count: usize, words: [u64; 64]) {
     sample_lines::text(label);
     sample_lines::text(b": ");
@@ -39,7 +39,7 @@ fn value(label: &[u8], count: usize, words: [u64; 64]) {
     sample_lines::text(b"\n");
 }
 
-// Table values that the loader did not make. The last is one that it could have made.
+// Tries table values that did not come from the loader. The loader could have returned the last of them.
 pub fn values() {
     let mut words = [0u64; 64];
     value(b"slot of kind 0", 1, words);

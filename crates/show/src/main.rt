@@ -1,7 +1,7 @@
-// Reads a framed table and then a framed message from standard input, and prints the message field by field or the first refusal. One
-// octet more than the limit is read, so that longer input is seen to be too long.
+// Reads a framed table and then a framed message from standard input, and prints the message field by field, or the first refusal. It reads
+// one octet more than the limit, so that it detects input that is too long.
 
-// How many octets of the output are held at once.
+// The size of the output buffer.
 const SIZE: usize = 65536;
 
 fn main() {
@@ -11,9 +11,9 @@ fn main() {
     let total = hproto_show::show(&input[..n], 0, &mut out);
     let mut from: u64 = 0;
     loop {
-        let left = total - from;
-        if left <= SIZE as u64 {
-            let end = left as usize;
+        let remaining = total - from;
+        if remaining <= SIZE as u64 {
+            let end = remaining as usize;
             io::write_all(1, &out[0..end]);
             return;
         }

@@ -1,6 +1,6 @@
 // Runs the readers of the Tib formats on the messages of standard input, one to a line. A line says what to do (m and r: check a TibMsg
 // and a TibrvMsg message and show their fields; M and R: ask for the field whose number is the count of fields), then has the octets of
-// the message, and a label. sample_lines says how a line is written. A line that starts with # is passed over.
+// the message, and a label. sample_lines describes the form of a line. A line that starts with # is ignored.
 mod print;
 
 // Checks a TibMsg message and shows its fields, the reals read in fractions too.
@@ -24,7 +24,7 @@ fn msg(s: &[u8]) {
     }
 }
 
-// The same for a TibrvMsg message. Its count is of all its fields; those that can be asked for are the outermost.
+// The same for a TibrvMsg message. Its count includes nested fields; only the outermost ones can be asked for.
 fn rv(s: &[u8]) {
     let c = tib_rv::check(s);
     if c.refusal != 0 {
@@ -44,7 +44,7 @@ fn rv(s: &[u8]) {
     }
 }
 
-// Asks for a field that is not there.
+// Asks for a field that the message does not have.
 fn msg_none(s: &[u8]) {
     let c = tib_msg::check(s);
     let f = tib_msg::field(s, c.fields);

@@ -1,8 +1,8 @@
-// Prints what the readers answer of a field.
+// Prints the fields that the readers return.
 use tib_field::Field;
 use tib_real::types::Real;
 
-// The bits of a value, which the language does not give for a not-a-number.
+// Prints the bits of a value, or `nan`: the language does not give the bits of a not-a-number.
 fn value(v: f64) {
     if v == v {
         io::print_hex(1, f64::to_bits(v), 16);
@@ -11,7 +11,7 @@ fn value(v: f64) {
     }
 }
 
-// A real: its value, the bits beside it, and the real read in fractions.
+// Prints a real: its value, its bits, and its value in fractions.
 pub fn real(r: Real) {
     sample_lines::text(b" real ");
     value(r.value);
@@ -36,7 +36,7 @@ fn hint(f: Field) {
     }
 }
 
-// The k-th field of a message, on a line of its own.
+// Prints the k-th field of a message on a line of its own.
 pub fn field(s: &[u8], k: u64, f: Field) {
     sample_lines::text(b"\n");
     sample_lines::number(k);

@@ -1,10 +1,10 @@
-// Reads a message back: its octets, what the check counts, whether there is a shorter form, and the value of a field.
+// Reads a message back: prints its octets, the counts of the check, whether it can be shortened, and the value of a field.
 use crate::compare;
 use crate::print;
 use hproto_table::Table;
 use message_calls::Found;
 
-// Whether the shortener gives the same octets.
+// Returns whether the shortener returns the same octets.
 fn shortest(t: Table, number: u64, m: &[u8]) {
     let mut out = [0u8; 65536];
     let s = message_calls::shorten_loaded(t, number, m, &mut out);
@@ -29,7 +29,7 @@ pub fn message(t: Table, number: u64, m: &[u8]) {
     shortest(t, number, m);
 }
 
-// A field's kind and value: the number of a uint or an int, the octets of the others.
+// Prints the kind and the value of a field: the number of a uint or an int, the octets of the others.
 pub fn field(f: Found, m: &[u8]) {
     if f.refusal != 0 {
         sample_lines::refusal(f.refusal, f.place);

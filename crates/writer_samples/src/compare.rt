@@ -1,6 +1,6 @@
-// Parts of octets, and whether octets are equal.
+// Compares octets.
 
-// A part of octets; none where it does not lie within them.
+// Returns a part of octets; no octets where it does not lie within them.
 pub fn part(s: &[u8], from: usize, to: usize) -> &[u8] {
     if s.len() < to || to < from {
         return &s[0..0];
@@ -22,7 +22,7 @@ pub fn equal(a: &[u8], b: &[u8]) -> bool {
     true
 }
 
-// Whether octets are the same but for a part.
+// Returns whether octets are equal outside a part.
 pub fn equal_around(a: &[u8], b: &[u8], from: usize, to: usize) -> bool {
     if !equal(part(a, 0, from), part(b, 0, from)) {
         return false;

@@ -1,4 +1,4 @@
-// What a line of the script says, beyond what sample_lines reads.
+// Reads the words of a line that sample_lines does not read.
 
 pub fn letter(s: &[u8]) -> u8 {
     if s.len() == 0 {
@@ -7,12 +7,12 @@ pub fn letter(s: &[u8]) -> u8 {
     s[0]
 }
 
-// The k-th word as a number.
+// Returns the k-th word as a number.
 pub fn number(s: &[u8], k: u64) -> u64 {
     sample_lines::number_in(sample_lines::word(s, k))
 }
 
-// A signed number of a size, as near as there is one.
+// Returns the signed number nearest to a size with a sign.
 fn above(n: u64) -> i64 {
     if 0x7fffffffffffffff < n {
         return 0x7fffffffffffffff;
@@ -20,7 +20,7 @@ fn above(n: u64) -> i64 {
     n as i64
 }
 
-// A word as a signed number, as near as there is one. The complement of n - 1 is minus n.
+// Returns the signed number nearest to a word. The complement of n - 1 is minus n.
 pub fn signed(s: &[u8]) -> i64 {
     if s.len() == 0 {
         return 0;

@@ -1,6 +1,6 @@
-// Runs the writer on the script of standard input and reads back what it wrote. A line is a call, and its answer is printed after it.
-// sample_lines says how numbers and octets are written; an int may have a minus. A capital letter sets something, and the letters from w
-// on read what is written.
+// Runs the writer on the script of standard input and reads back what it wrote. A line is a call, and its result is printed after it.
+// sample_lines describes how numbers and octets are written; an int may have a minus. A capital letter sets something, and the letters from
+// w on read what is written.
 //   T OCTETS          load a field table           C COUNT           give the table another count
 //   B LENGTH          lend so much of the buffer   s NUMBER          start
 //   u TAG NUMBER      put a uint                   i TAG NUMBER      put an int

@@ -1,15 +1,15 @@
-// What is printed beyond what sample_lines prints.
+// Prints what sample_lines does not print.
 fn wide(x: u8) -> u64 {
     x as u64
 }
 
-// A word and a number.
+// Prints a word and a number.
 pub fn named(what: &[u8], n: u64) {
     sample_lines::text(what);
     sample_lines::number(n);
 }
 
-// All octets in hexadecimal, however many there are.
+// Prints all octets in hexadecimal.
 pub fn octets(s: &[u8]) {
     if s.len() == 0 {
         sample_lines::text(b"-");
@@ -22,7 +22,7 @@ pub fn octets(s: &[u8]) {
     }
 }
 
-// One of two words.
+// Prints one of two words.
 pub fn either(is: bool, yes: &[u8], no: &[u8]) {
     if is {
         sample_lines::text(yes);

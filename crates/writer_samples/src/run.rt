@@ -1,4 +1,4 @@
-// One line of the script: what it asks for, and what is answered.
+// Runs one line of the script and prints its result.
 use crate::back;
 use crate::compare;
 use crate::input;
@@ -8,8 +8,8 @@ use hproto_state::State;
 use hproto_state::Written;
 use hproto_table::Table;
 
-// What the lines before have left: the table, the state, how much of the buffer is lent, and the message that is read, with its number
-// and where it stands in the buffer.
+// What the lines so far have set: the table, the state, how much of the buffer is lent, and the message to read, with its number and its
+// span in the buffer.
 pub struct Run {
     pub table: Table,
     pub state: State,
@@ -57,7 +57,7 @@ fn call(what: u8, line: &[u8], t: Table, s: State, out: &mut [u8]) -> Written {
     hproto_nesting::close_field(t, s, out)
 }
 
-// The octets that a call stored, the place of the first, and whether it stored no others.
+// Prints the octets that a call stored, the place of the first, and whether the other octets are unchanged.
 fn stored(given: State, after: State, before: &[u8], now: &[u8]) {
     print::octets(compare::part(now, after.start, given.start));
     print::named(b" at ", after.start as u64);
@@ -82,7 +82,7 @@ fn answered(w: Written, given: State, before: &[u8], now: &[u8]) {
     print::either(same, b", buffer kept", b", buffer changed");
 }
 
-// A put, an open or a close. It gets the part of the buffer that is lent.
+// Runs a put, an open or a close on the lent part of the buffer.
 fn calls(what: u8, line: &[u8], r: Run, before: &[u8], buffer: &mut [u8]) -> Run {
     let n = r.lent;
     if buffer.len() < n {
@@ -98,7 +98,7 @@ fn calls(what: u8, line: &[u8], r: Run, before: &[u8], buffer: &mut [u8]) -> Run
     next
 }
 
-// A start. A refused one answers a state of zeros.
+// Runs a start. A refused start returns a state of zeros.
 fn starts(line: &[u8], r: Run, buffer: &[u8]) -> Run {
     let out = compare::part(buffer, 0, r.lent);
     let w = hproto_state::start(r.table, input::number(line, 1), out);
@@ -115,7 +115,7 @@ fn starts(line: &[u8], r: Run, buffer: &[u8]) -> Run {
     next
 }
 
-// A finish. The message that it answers is read from here on.
+// Runs a finish. The lines after it read the message that it returns.
 fn finishes(r: Run) -> Run {
     let given = r.state;
     let f = hproto_state::finish(given);
@@ -143,7 +143,7 @@ fn loaded(word: &[u8]) -> Table {
     t
 }
 
-// A line that sets something: a table, how much of the buffer is lent, or a part of the state.
+// Runs a line that sets something: a table, how much of the buffer is lent, or a part of the state.
 fn sets(what: u8, line: &[u8], r: Run) -> Run {
     let mut next = r;
     if what == b'T' {
@@ -167,7 +167,7 @@ fn sets(what: u8, line: &[u8], r: Run) -> Run {
     next
 }
 
-// A sum, as far as the buffer reaches.
+// Returns the sum of two places, or the length of the buffer where one of them exceeds it.
 fn sum(a: usize, b: usize) -> usize {
     if 65546 < a {
         return 65546;
@@ -178,7 +178,7 @@ fn sum(a: usize, b: usize) -> usize {
     a + b
 }
 
-// A line that reads what is written.
+// Runs a line that reads what is written.
 fn reads(what: u8, line: &[u8], r: Run, buffer: &[u8]) -> Run {
     let m = compare::part(buffer, r.from, r.to);
     let tag = input::number(line, 1);
@@ -222,7 +222,7 @@ fn answer(what: u8, line: &[u8], r: Run, before: &[u8], buffer: &mut [u8]) -> Ru
     calls(what, line, r, before, buffer)
 }
 
-// A line, with its answer after it. `before` holds the same octets as the buffer.
+// Prints a line, runs it and prints its result. `before` has the same octets as the buffer.
 pub fn line(s: &[u8], r: Run, before: &[u8; 65546], buffer: &mut [u8; 65546]) -> Run {
     sample_lines::text(s);
     let what = input::letter(s);

@@ -1,8 +1,8 @@
-// States of the writer: compared, and changed by hand into some that no run of calls gives.
+// Compares states of the writer, and changes them into states that no sequence of calls returns.
 use crate::input;
 use hproto_state::State;
 
-// The state that a refused start answers.
+// Returns the state that a refused start returns.
 pub fn nothing() -> State {
     State {
         length: 0,
@@ -14,7 +14,7 @@ pub fn nothing() -> State {
     }
 }
 
-// The levels of two states.
+// Returns whether the levels of two states are equal.
 fn same_levels(a: State, b: State) -> bool {
     let mut i: usize = 0;
     while i < 7 {
@@ -39,7 +39,7 @@ pub fn same(a: State, b: State) -> bool {
     same_levels(a, b)
 }
 
-// A state with another number at a level: the number of its message, or the mark of its open field.
+// Returns a state with another message number, or another mark, at a level.
 fn at_level(what: u8, k: u64, v: u64, s: State) -> State {
     let mut next = s;
     if 6 < k {
@@ -54,7 +54,7 @@ fn at_level(what: u8, k: u64, v: u64, s: State) -> State {
     next
 }
 
-// A state with another number in one place.
+// Returns a state with one part changed.
 pub fn changed(what: u8, line: &[u8], s: State) -> State {
     let v = input::number(line, 1);
     let mut next = s;

@@ -1,4 +1,4 @@
--- `show::main` ends and stays within its buffers: what is left of the output falls at each turn.
+-- `show::main` ends and stays within its buffers: the octets that remain to be printed decrease with each iteration.
 use Prim.Native.Nat.{_-_, _≤_}
 use mathlib.Core.Path.{_≡_}
 use lib.ListN.{length}
@@ -33,8 +33,8 @@ show-requires c κs = search needs
 loop-holds : tie.Need-loop-holds Inv-loop μ-loop
 loop-holds c = search needs
 
-sub-left : tie.Need-sub-left Inv-loop μ-loop
-sub-left c = search needs
+sub-remaining : tie.Need-sub-remaining Inv-loop μ-loop
+sub-remaining c = search needs
 
 sub-write-all : tie.Need-sub-write-all Inv-loop μ-loop
 sub-write-all c = search needs
@@ -94,7 +94,7 @@ main-spec =
     slice-aggregate-show-2
     show-requires
     loop-holds
-    sub-left
+    sub-remaining
     sub-write-all
     part-write-all-start
     part-write-all-end

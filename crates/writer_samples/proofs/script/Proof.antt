@@ -1,4 +1,4 @@
--- Each turn takes a line, so what is left of the script falls.
+-- Each turn takes a line, so the octets that remain of the script decrease.
 use Prim.Native.Nat.{_-_, _≤_}
 use lib.ListN.{length}
 use borrow.Author.Needs.{needs}

@@ -6,10 +6,10 @@ use Rattle.sample_lines.proofs.line.word.Statement.{statement}
 use Rattle.sample_lines.proofs.line.word.Tie as tie
 
 abbrev Inv-loop : tie.InvT-loop
-Inv-loop s k at₀ left₀ at left = at ≤ length s
+Inv-loop s k at₀ remaining₀ at remaining = at ≤ length s
 
 abbrev μ-loop : tie.MeasureT-loop
-μ-loop s k at₀ left₀ at left = left
+μ-loop s k at₀ remaining₀ at remaining = remaining
 
 loop-holds : tie.Need-loop-holds Inv-loop μ-loop
 loop-holds c = search needs
@@ -32,8 +32,8 @@ returns c = search needs
 add-at : tie.Need-add-at Inv-loop μ-loop
 add-at c = search needs
 
-sub-left : tie.Need-sub-left Inv-loop μ-loop
-sub-left c = search needs
+sub-remaining : tie.Need-sub-remaining Inv-loop μ-loop
+sub-remaining c = search needs
 
 loop-less : tie.Need-loop-less Inv-loop μ-loop
 loop-less c = search needs
@@ -69,7 +69,7 @@ word-spec =
     part-result-end
     returns
     add-at
-    sub-left
+    sub-remaining
     loop-less
     loop-again
     find-requires-2

@@ -1,4 +1,4 @@
--- Each turn compares an octet, so what is left of the first slice falls.
+-- Each turn compares an octet, so the octets that remain decrease.
 use Prim.Native.Nat.{_-_}
 use lib.ListN.{length}
 use borrow.Author.Needs.{needs}

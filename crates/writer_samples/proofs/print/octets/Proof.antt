@@ -1,4 +1,4 @@
--- Each turn prints an octet, so what is left of the slice falls.
+-- Each turn prints an octet, so the octets that remain decrease.
 use Prim.Native.Nat.{_-_}
 use lib.ListN.{length}
 use borrow.Author.Needs.{needs}
