@@ -1,11 +1,11 @@
--- The fields of Tib messages as numbers, as C takes them.
+-- The fields of Tib messages as the numbers that the C functions store.
 use Prim.Native.Nat.{ℕ}
 use mathlib.Core.Bool.{Bool, true, false, not}
 use lib.Dec.{eqb}
 use Rattle.tib_real.specs.declared.types.Real.{Real}
 use Rattle.tib_field.specs.declared.Field.{Field}
 
--- A truth value is 1 or 0; every number but 0 is taken for true.
+-- A truth value is stored as 1 or 0; every number but 0 counts as true.
 unfoldable pub flag : Bool → ℕ
 flag true = 1
 flag false = 0
@@ -39,8 +39,8 @@ parts f =
 pub record Hint : Type 0 where
   pub hinted : ℕ
   pub kind : ℕ
-  pub number : ℕ
+  pub value : ℕ
   pub bits : ℕ
 
 unfoldable pub hint : Field → Hint
-hint f = record { hinted = flag (f .hinted); kind = f .«hint_kind»; number = f .hint; bits = f .real .bits }
+hint f = record { hinted = flag (f .hinted); kind = f .«hint_kind»; value = f .hint; bits = f .real .bits }

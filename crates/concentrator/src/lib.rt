@@ -1,6 +1,5 @@
-// The C library. Each entry hands octets and numbers to the function that does the work, and spreads its answer over the places that the
-// caller lends: the number of the refusal is returned (0 where the call is accepted), all else goes through the parameters.
-// include/crudvim.h has the C prototypes.
+// The C library. Each function passes its arguments to the Rattle function that does the work. It returns the refusal, 0 where the call is
+// accepted, and stores the rest of the result through the pointers that the caller passes. include/crudvim.h has the C prototypes.
 ghost use mathlib.Core.Path.{_≡_};
 ghost use lib.ListN.{length};
 ghost use Rattle.message_calls.specs.Calls.{checkOctets, shortenOctets, shortenBuffer, lookupOctets, lookupLastOctets};
@@ -11,6 +10,7 @@ ghost use Rattle.tib_real.specs.FromOctets.{withBits};
 ghost use Rattle.tib_real.specs.InFractions.{fractionsOf};
 ghost use Rattle.concentrator.specs.Fields.{flag as flag-of, flagged, parts, hint as hint-of};
 
+// Checks a message.
 #[no_mangle]
 pub extern "C" fn crudvim_check(
     table: &[u8],
@@ -29,6 +29,7 @@ pub extern "C" fn crudvim_check(
     checked.refusal
 }
 
+// Writes the shortest form of a message into `out`.
 #[no_mangle]
 pub extern "C" fn crudvim_shorten(
     table: &[u8],
@@ -47,6 +48,7 @@ pub extern "C" fn crudvim_shorten(
     shortened.refusal
 }
 
+// Finds the message in the frame at the front of a buffer.
 #[no_mangle]
 pub extern "C" fn crudvim_frame_read(
     buffer: &[u8],
@@ -63,6 +65,7 @@ pub extern "C" fn crudvim_frame_read(
     read.refusal
 }
 
+// Writes a message in a frame into `out`.
 #[no_mangle]
 pub extern "C" fn crudvim_frame_write(
     message: &[u8],
@@ -79,6 +82,7 @@ pub extern "C" fn crudvim_frame_write(
     written.refusal
 }
 
+// Looks up the k-th field with a tag, from 0.
 #[no_mangle]
 pub extern "C" fn crudvim_lookup(
     table: &[u8],
@@ -106,6 +110,7 @@ pub extern "C" fn crudvim_lookup(
     found.refusal
 }
 
+// Looks up the last field with a tag.
 #[no_mangle]
 pub extern "C" fn crudvim_lookup_last(
     table: &[u8],
@@ -132,6 +137,7 @@ pub extern "C" fn crudvim_lookup_last(
     last.refusal
 }
 
+// Checks a TibMsg message.
 #[no_mangle]
 pub extern "C" fn crudvim_tibmsg_check(
     message: &[u8],
@@ -148,12 +154,14 @@ pub extern "C" fn crudvim_tibmsg_check(
     msg.refusal
 }
 
+// Returns 1 for true and 0 for false.
 fn flag(x: bool) -> u64
     ensures { λ r. ⌜ r ≡ flag-of x ⌝ }
 {
     if x { 1 } else { 0 }
 }
 
+// Returns the k-th field, from 0, of a TibMsg message.
 #[no_mangle]
 pub extern "C" fn crudvim_tibmsg_field(
     message: &[u8],
@@ -170,7 +178,7 @@ pub extern "C" fn crudvim_tibmsg_field(
     real_bits: &mut u64,
 ) -> u64
     ensures { λ r. ⌜ parts (tibmsg-field (now (message .entry)) k) ≡ record { refusal = r; place = now (place .exit); name-start = now («name_start» .exit); name-length = now («name_length» .exit); kind = now (kind .exit); data-start = now («data_start» .exit); data-length = now («data_length» .exit) } ⌝ }
-    ensures { λ _. ⌜ hint-of (tibmsg-field (now (message .entry)) k) ≡ record { hinted = now (hinted .exit); kind = now («hint_kind» .exit); number = now (hint .exit); bits = now («real_bits» .exit) } ⌝ }
+    ensures { λ _. ⌜ hint-of (tibmsg-field (now (message .entry)) k) ≡ record { hinted = now (hinted .exit); kind = now («hint_kind» .exit); value = now (hint .exit); bits = now («real_bits» .exit) } ⌝ }
 {
     let field = tib_msg::field(message, k);
     *place = field.place;
@@ -186,6 +194,7 @@ pub extern "C" fn crudvim_tibmsg_field(
     field.refusal
 }
 
+// Checks a TibrvMsg message.
 #[no_mangle]
 pub extern "C" fn crudvim_tibrv_check(
     message: &[u8],
@@ -202,6 +211,7 @@ pub extern "C" fn crudvim_tibrv_check(
     rv.refusal
 }
 
+// Returns the k-th outermost field, from 0, of a TibrvMsg message.
 #[no_mangle]
 pub extern "C" fn crudvim_tibrv_field(
     message: &[u8],
@@ -225,7 +235,7 @@ pub extern "C" fn crudvim_tibrv_field(
     outer.refusal
 }
 
-// The value of a real is that of its bits.
+// Reads a real in fractions. The real is passed by its bits; `hinted` is 0 where it has no hint.
 #[no_mangle]
 pub extern "C" fn crudvim_fractions(
     real_bits: u64,

@@ -131,7 +131,7 @@ module _ (sc : Schema) (n : ℕ) (s : List ℕ) (check other : ℕ → List ℕ 
 -- A shortener that meets demand 3 answers and stores what the shortener of this library does.
 module _ (check : List ℕ → ℕ → List ℕ → Checked) (shorten : List ℕ → ℕ → List ℕ → List ℕ → Shortened) (buffer : List ℕ → ℕ → List ℕ → List ℕ → List ℕ)
     (meets : Demand3Holds check shorten buffer) (table : List ℕ) (o : Octets table) where
-  -- On every message that has a cut, whatever check stands beside it.
+  -- On every message that has a cut, with any check beside it.
   pub demand-3-fixes-cut : load table .refusal ≡ 0 → (n : ℕ) → n ≤ 15 → (s : List ℕ) → Octets s → length s ≤ messageLimit
       → HasCut (schema (load table .table)) n s → (out : List ℕ)
       → (shorten table n s out ≡ shortenOctets table n s out) × (buffer table n s out ≡ shortenBuffer table n s out)
@@ -164,7 +164,7 @@ module _ (check : List ℕ → ℕ → List ℕ → Checked) (shorten : List ℕ
       let f = demand-3-fixes n s p same out in
       (same, f .0, f .1)
 
--- So no shortener that copies its input meets demand 3, whatever it answers and whatever check stands beside it: the copy of a uint 5 in four
+-- So no shortener that copies its input meets demand 3, with any answer and any check beside it: the copy of a uint 5 in four
 -- octets is not the shortest.
 abbrev long : List ℕ
 long = 0x1d ∷ 0x00 ∷ 0x01 ∷ 0x05 ∷ []

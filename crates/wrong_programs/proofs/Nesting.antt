@@ -64,7 +64,7 @@ pub open-accepts-all : RuledOut (Accepts open-refusal always) openField
 unfolding open-3
 open-accepts-all = accepts open-refusal always open-3 tt (eqb-false 8 0 refl)
 
--- It hands back the state as it was given: no more fields are open than before.
+-- It returns the state unchanged: no more fields are open than before.
 abbrev opened-before-open : OpenCall → ℕ
 opened-before-open x = x .value .state .opened
 
@@ -171,7 +171,7 @@ pub close-tag-ignored : RuledOut (SeesOnly all-but-the-tags buffer-after accepts
 unfolding close-1 close-2
 close-tag-ignored = sees-only all-but-the-tags buffer-after accepts-it close-1 close-2 refl refl refl (differ-at 5 refl)
 
--- It gives each field the same length, or one made from the tag, whatever was stored since the open.
+-- It gives each field the same length, or one made from the tag, and ignores what was stored since the open.
 abbrev all-but-the-octets : CloseCall → Table × List ℕ × List ℕ × List ℕ
 all-but-the-octets x =
     let s = x .value .state in

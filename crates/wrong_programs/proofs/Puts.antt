@@ -130,7 +130,7 @@ module _ (p : Put) where
   unfolding later
   stores-only-the-first = invents buffer-after buffer-before has-octets (later p) tt (differ-at 2 refl)
 
-  -- It hands back the state as it was given, after the first put: the octets stored start where they did.
+  -- After the first put it returns the state unchanged: the stored octets start where they did.
   pub state-unchanged : RuledOut (Invents start-after start-before has-octets) (put p)
   unfolding later
   state-unchanged = invents start-after start-before has-octets (later p) tt (eqb-false 2 4 refl)

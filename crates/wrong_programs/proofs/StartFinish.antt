@@ -128,7 +128,7 @@ pub finish-accepts-all : RuledOut (Accepts refusal always) finish
 unfolding still-open
 finish-accepts-all = accepts refusal always still-open tt (eqb-false 12 0 refl)
 
--- The start of the message, or the state handed back, is the same each time, or is made from the length of the buffer.
+-- The start of the message, or the state that it returns, is the same each time, or is made from the length of the buffer.
 abbrev buffer-length : StateCall → ℕ
 buffer-length x = x .value .length
 

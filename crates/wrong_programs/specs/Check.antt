@@ -1,4 +1,4 @@
--- What a call of the check gives, and the answer that its contract fixes.
+-- The arguments of a call of the check, and the answer that its contract fixes.
 use Prim.Native.Nat.{ℕ}
 use mathlib.Core.Bool.{Bool, _&&_}
 use mathlib.Core.List.{List}

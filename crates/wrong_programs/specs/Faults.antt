@@ -1,4 +1,4 @@
--- Table values and states that no program may accept. Nothing else is said of the program: it may answer any other call as it likes.
+-- Table values and states that no program may accept. Nothing is said of the program's answer to any other call.
 use Prim.Native.Nat.{ℕ, suc, _≤_, _<_}
 use lib.ListN.{getD}
 use Rattle.hproto_table.specs.Load.{Loadable}

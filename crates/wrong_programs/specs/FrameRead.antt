@@ -1,4 +1,4 @@
--- What a call of the frame reader gives, and the answer that its contract fixes.
+-- The arguments of a call of the frame reader, and the answer that its contract fixes.
 use Rattle.hproto_frame.specs.Frame as frames
 use Rattle.hproto_frame.specs.declared.FrameRead.{FrameRead}
 use Rattle.wrong_programs.specs.Kinds.{Given, octets}

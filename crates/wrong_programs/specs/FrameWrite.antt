@@ -1,4 +1,4 @@
--- What a call of the frame writer gives, and the answer and the buffer that its contract fixes.
+-- The arguments of a call of the frame writer, and the answer and the buffer that its contract fixes.
 use mathlib.Core.Bool.{Bool, _&&_}
 use Prim.Native.Nat.{ℕ}
 use mathlib.Core.List.{List}

@@ -1,4 +1,4 @@
--- Kinds of wrong programs, over any entry: A is what a call gives to the program, B is its answer.
+-- Kinds of wrong programs, for any public function: A is the type of its arguments, B that of its answer.
 use Prim.Native.Nat.{ℕ}
 use mathlib.Core.Path.{_≡_}
 use mathlib.Core.Bool.{Bool, true, cond, _&&_}
@@ -19,7 +19,7 @@ always x = Unit {0}
 abbrev pub due : {A B C : Type 0} → (A → B) → (B → C) → C → A → Type 0
 due right part a x = part (right x) ≡ a
 
--- The refusal number of an entry that answers whether it accepts.
+-- The refusal of a function that returns only whether it accepts.
 abbrev pub refusal-of : Bool → ℕ
 refusal-of b = cond b 0 1
 
@@ -35,11 +35,11 @@ Rejects {A} refusal when program = (x : A) → when x → refusal (program x) �
 unfoldable pub Accepts : {A B : Type 0} → (B → ℕ) → (A → Type 0) → (A → B) → Type 0
 Accepts {A} refusal when program = (x : A) → when x → refusal (program x) ≡ 0
 
--- The program accepts a call that has the property: one of them at least, whatever it answers to the others.
+-- The program accepts at least one call that has the property. Nothing is said of the others.
 unfoldable pub AcceptsSome : {A B : Type 0} → (B → ℕ) → (A → Type 0) → (A → B) → Type 0
 AcceptsSome {A} refusal when program = (x : A) × when x × (refusal (program x) ≡ 0)
 
--- A part of the answer is what `invented` says, whatever else the program answers.
+-- A part of the answer is what `invented` says. Nothing is said of the other parts.
 unfoldable pub Invents : {A B C : Type 0} → (B → C) → (A → C) → (A → Type 0) → (A → B) → Type 0
 Invents {A} part invented when program = (x : A) → when x → part (program x) ≡ invented x
 
@@ -55,12 +55,12 @@ SeesOnly {A} seen part when program = (x y : A) → when x → when y → seen x
 unfoldable pub Follows : {A B C D : Type 0} → (B → C) → (B → D) → (A → Type 0) → (A → B) → Type 0
 Follows {A} other part when program = (x y : A) → when x → when y → other (program x) ≡ other (program y) → part (program x) ≡ part (program y)
 
--- What a caller can give: values that pass the test `fits`.
+-- The values that a caller can pass: those for which the test `fits` holds.
 pub record Given {A : Type 0} (fits : A → Bool) : Type 0 where
   pub value : A
   pub in-range : T (fits value)
 
--- Numbers below a limit, and so many of them.
+-- Whether all numbers of a list are below a limit, and whether there are also n of them.
 unfoldable pub below : ℕ → List ℕ → Bool
 below limit [] = true
 below limit (x ∷ s) = ltb x limit && below limit s

@@ -1,4 +1,4 @@
--- What a call of the loader gives, and the answer that its contract fixes.
+-- The arguments of a call of the loader, and the answer that its contract fixes.
 use Rattle.hproto_table.specs.Load as loads
 use Rattle.hproto_table.specs.declared.Loaded.{Loaded}
 use Rattle.wrong_programs.specs.Kinds.{Given, octets}

@@ -1,4 +1,4 @@
--- What a call of a lookup gives, and the answer that its contract fixes.
+-- The arguments of a call of a lookup, and the answer that its contract fixes.
 use Prim.Native.Nat.{ℕ}
 use mathlib.Core.Bool.{Bool, _&&_}
 use Rattle.message_calls.specs.declared.Found.{Found}
@@ -7,7 +7,7 @@ use Rattle.wrong_programs.specs.Kinds.{Given, word}
 use Rattle.wrong_programs.specs.Check as checks
 use Rattle.wrong_programs.specs.Check.{CheckInput}
 
--- A table, a number and a message, as for the check, and what is looked for.
+-- A table, a number and a message, as for the check, and the tag and the k to look up.
 pub record LookupInput : Type 0 where
   pub within : CheckInput
   pub tag : ℕ
@@ -23,6 +23,6 @@ LookupCall = Given fits
 unfoldable pub lookup : LookupCall → Found
 lookup x = lookupOctets (x .value .within .table) (x .value .within .number) (x .value .within .message) (x .value .tag) (x .value .k)
 
--- The contract of crudvim_lookup_last, of which k is no part.
+-- The contract of crudvim_lookup_last, which does not use k.
 unfoldable pub lookupLast : LookupCall → Found
 lookupLast x = lookupLastOctets (x .value .within .table) (x .value .within .number) (x .value .within .message) (x .value .tag)

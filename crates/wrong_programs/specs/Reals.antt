@@ -1,4 +1,4 @@
--- What the calls of tib_real give, and the answers that their contracts fix.
+-- The arguments of the calls of tib_real, and the answers that their contracts fix.
 use Prim.Native.Nat.{ℕ}
 use mathlib.Core.Bool.{Bool, _&&_}
 use mathlib.Core.List.{List}
@@ -36,6 +36,6 @@ fractionsFits x = word (x .bits) && word (x .hint)
 abbrev pub FractionsCall : Type 0
 FractionsCall = Given fractionsFits
 
--- The contract of tib_real::fractions, and of crudvim_fractions, where `hinted` is a number and every one but 0 is taken for true.
+-- The contract of tib_real::fractions, and of crudvim_fractions, where `hinted` is a number and every number but 0 counts as true.
 unfoldable pub fractions : FractionsCall → Fractions
 fractions x = fractionsOf (withBits (x .value .bits) (x .value .hint) (x .value .hinted))

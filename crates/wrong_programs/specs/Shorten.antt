@@ -1,4 +1,4 @@
--- What a call of the shortener gives, and the answer and the buffer that its contract fixes.
+-- The arguments of a call of the shortener, and the answer and the buffer that its contract fixes.
 use Prim.Native.Nat.{ℕ}
 use mathlib.Core.Bool.{Bool, _&&_}
 use mathlib.Core.List.{List}

@@ -1,4 +1,4 @@
--- What a call of show gives, and the answer and the buffer that its contract fixes.
+-- The arguments of a call of show, and the answer and the buffer that its contract fixes.
 use Prim.Native.Nat.{ℕ}
 use mathlib.Core.Bool.{Bool, _&&_}
 use mathlib.Core.List.{List}

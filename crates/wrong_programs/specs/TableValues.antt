@@ -1,4 +1,4 @@
--- What a call gives that is given a table value, not its octets, and the answers that the contracts fix.
+-- The arguments of a call that takes a table value, not the octets of a table, and the answers that the contracts fix.
 use Prim.Native.Nat.{ℕ}
 use mathlib.Core.Bool.{Bool, _&&_}
 use mathlib.Core.List.{List}
@@ -12,7 +12,7 @@ use Rattle.message_calls.specs.declared.Shortened.{Shortened}
 use Rattle.wrong_programs.specs.Kinds.{Given, octets, word}
 use Rattle.wrong_programs.specs.Kinds as kinds
 
--- All that one of the four entries is given. Each contract below is over a part of it: a program that looks at more is ruled out too.
+-- The arguments of all four functions. Each contract below is over some of them: a program that uses others is ruled out too.
 pub record ValueInput : Type 0 where
   pub table : Table
   pub number : ℕ

@@ -1,4 +1,4 @@
--- What the calls of the Tib readers give, and the answers that their contracts fix, for both formats.
+-- The arguments of the calls of the Tib readers, and the answers that their contracts fix, for both formats.
 use Prim.Native.Nat.{ℕ}
 use mathlib.Core.Bool.{Bool, _&&_}
 use mathlib.Core.List.{List}

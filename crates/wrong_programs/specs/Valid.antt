@@ -1,4 +1,4 @@
--- What a call of the test of a table value gives, and the answer that its contract fixes.
+-- The arguments of a call of the test of a table value, and the answer that its contract fixes.
 use mathlib.Core.Bool.{Bool}
 use Rattle.hproto_table.specs.Valid as valids
 use Rattle.wrong_programs.specs.Kinds.{Given, table}

@@ -1,4 +1,4 @@
--- What the calls of the backward writer give, and the answers and buffers that their contracts fix.
+-- The arguments of the calls of the backward writer, and the answers and buffers that their contracts fix.
 use Prim.Native.Nat.{ℕ}
 use mathlib.Core.Bool.{Bool, _&&_}
 use mathlib.Core.List.{List, []}

@@ -1,1 +1,1 @@
-// Wrong programs that the contracts of the entries rule out. Definitions (specs/) and laws (proofs/) only.
+// Proofs that the contracts of the public functions rule out wrong programs. This crate has definitions (specs/) and laws (proofs/) only.
