@@ -9,14 +9,8 @@ use lib.ListN.{length, take, drop, set, length-append, length-take, length-drop,
 use lib.Seq.{sets, length-sets, length-take-le, take-nil, drop-nil, set-out, take-append-le, take-append-add, drop-append-le, drop-append-add, take-all, take-at}
 use lib.Dec.{leb}
 use borrow.Author.Tests.{leb-true, leb-false}
+use Rattle.hproto_store.proofs.Sets.{sets-append}
 use Rattle.text_window.specs.Window.{window, overlay, placed, Printed}
-
--- Two stores, the second one at the end of the first, are one store.
-sets-append : (d : List ℕ) (i : ℕ) (xs ys : List ℕ) → sets d i (xs ++ ys) ≡ sets (sets d i xs) (i + length xs) ys
-sets-append d i [] ys = rw (add-zero i)
-sets-append d i (x ∷ xs) ys =
-    sets-append (set d i x) (suc i) xs ys
-    ∙ ap (λ (k : ℕ). sets (sets (set d i x) (suc i) xs) k ys) (suc-add i (length xs) ∙ sym (add-suc i (length xs)))
 
 sets-nothing : (i : ℕ) (xs : List ℕ) → sets [] i xs ≡ []
 sets-nothing i [] = refl

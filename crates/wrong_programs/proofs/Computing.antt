@@ -87,7 +87,7 @@ writer = Unit {0}
 
 unfoldable pub tib : Type 0
 unfolding kinds.always kinds.below kinds.octets kinds.word tibs.check tibs.fieldFits tibs.field reals.realFits reals.real reals.fractionsFits
-    reals.fractions onAccepted inOrder octets.number answers.counts answers.refusal marks.begins names.nameStep names.named names.closes
+    reals.fractions onAccepted inOrder octets.bigEndian answers.counts answers.refusal marks.begins names.nameStep names.named names.closes
     names.afterName fields.placed kths.fieldOf kths.fieldOrAbsent msgLayout.kind msgLayout.hinted msgLayout.sizeWidth msgLayout.isWidth
     msgLayout.sizeAllowed msgLayout.octets msgReading.typeAllowed msgReading.hintAt msgReading.readHint msgReading.valueHint msgReading.withHint
     msgReading.fromData msgReading.fromSize msgReading.fromType msgReading.nextField msgReading.total msgReading.partsAt msgReading.afterStep
