@@ -5,11 +5,11 @@
 set -euo pipefail
 cd "$(dirname "$0")/.."
 
-archive=${ARCHIVE:-target/staticlib/libconcentrator.a}
+archive=${ARCHIVE:-target/staticlib/libcrudvim.a}
 cc=${CC:-gcc}
 build=target/bench
 if [ ! -f "$archive" ]; then
-    rt staticlib concentrator
+    rt staticlib crudvim
 fi
 mkdir -p "$build"
 # Each side is compiled on its own, so that no call is folded into the loop that times it.

@@ -4,8 +4,8 @@
 set -eu
 prefix=$(realpath -m "${1:-/usr/local}")
 cd "$(dirname "$0")/.."
-archive=target/staticlib/libconcentrator.a
-[ -f "$archive" ] || rt staticlib concentrator
+archive=target/staticlib/libcrudvim.a
+[ -f "$archive" ] || rt staticlib crudvim
 mkdir -p "$prefix/lib/pkgconfig" "$prefix/include"
 cp "$archive" "$prefix/lib/libcrudvim.a"
 cp include/crudvim.h "$prefix/include/crudvim.h"

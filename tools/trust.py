@@ -12,18 +12,18 @@ IMPORT = re.compile(r'use Rattle·(\w+?)(?:·specs\.specs|\.specs)\.((?:internal
 FUNCTION = re.compile(r'^pub (?:extern "C" )?fn (\w+)\(.*?^\{', re.M | re.S)
 ENTRIES = {
     'table_index': 'load',
-    'hproto_frame': 'frame_read frame_write',
-    'hproto_state': 'start finish',
-    'hproto_puts': 'put_uint put_int put_octets',
-    'hproto_nesting': 'open_field close_field',
+    'message_frame': 'frame_read frame_write',
+    'writer_state': 'start finish',
+    'writer_put': 'put_uint put_int put_octets',
+    'writer_nesting': 'open_field close_field',
     'message_calls': 'check shorten lookup lookup_last check_loaded shorten_loaded lookup_loaded lookup_last_loaded',
-    'hproto_print': 'message refusal',
-    'hproto_show': 'show',
+    'text_message': 'message refusal',
+    'text_show': 'show',
     'tib_msg': 'check field',
     'tib_rv': 'check field',
     'tib_real': 'real fractions',
 }
-DEMANDS = {'1': 'message_calls/Demand1', '2': 'hproto_written/Demand2', '3': 'message_calls/Demand3'}
+DEMANDS = {'1': 'message_calls/Demand1', '2': 'writer_laws/Demand2', '3': 'message_calls/Demand3'}
 
 
 def imports(path):

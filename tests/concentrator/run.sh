@@ -1,7 +1,7 @@
 #!/usr/bin/env bash
 # Builds the C example with every warning an error, installs the library into a scratch folder and builds against that, and runs the
 # example on a stored stream with damaged frames, README's program, calls with null pointers under valgrind, and the measurement of the
-# stack; and looks at what the archive needs. It needs target/staticlib/libconcentrator.a, which `rt staticlib concentrator` makes.
+# stack; and looks at what the archive needs. It needs target/staticlib/libcrudvim.a, which `rt staticlib crudvim` makes.
 set -eu
 cd "$(dirname "$0")/../.."
 here=tests/concentrator

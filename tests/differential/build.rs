@@ -4,7 +4,7 @@
 use std::path::Path;
 
 /// The archive is `lib` + this + `.a`.
-const ARCHIVE: &str = "concentrator";
+const ARCHIVE: &str = "crudvim";
 
 fn main() {
     println!("cargo:rerun-if-changed=build.rs");

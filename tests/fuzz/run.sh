@@ -11,7 +11,7 @@ if [ $# -ne 1 ] || [ -z "${CRUDVIM_LIB:-}" ]; then
     exit 2
 fi
 seconds=$1
-archive=concentrator
+archive=crudvim
 CRUDVIM_LIB=$(cd "$CRUDVIM_LIB" && pwd)
 export CRUDVIM_LIB
 cd "$(dirname "$0")"

@@ -8,15 +8,15 @@ use lib.ListN.{length}
 use lib.Dec.{ltb}
 use borrow.Author.Tests.{ltb-false}
 use Rattle.reading.specs.Refusals as refusals
-use Rattle.hproto_table.specs.Schema.{Schema, schema}
-use Rattle.hproto_table.specs.Valid.{valid}
-use Rattle.hproto_table.specs.declared.Table.{Table}
-use Rattle.hproto_message.specs.Cut.{Cut}
+use Rattle.table.specs.Schema.{Schema, schema}
+use Rattle.table.specs.Valid.{valid}
+use Rattle.table.specs.declared.Table.{Table}
+use Rattle.message.specs.Cut.{Cut}
 use Rattle.reading.specs.Reading.{Reading, accepted, refused, messageLimit, lastNumber}
 use Rattle.reading.specs.Checks.{refusal, counts}
 use Rattle.reading.specs.declared.Checked.{Checked}
-use Rattle.hproto_message.specs.Reading.{reading}
-use Rattle.hproto_message.proofs.Refusals.{refusal-positive}
+use Rattle.message.specs.Reading.{reading}
+use Rattle.message.proofs.Refusals.{refusal-positive}
 use Rattle.message_calls.specs.Check.{treeCounts, check, checkUnder}
 
 pub under-passed : (sc : Schema) (n : ℕ) (s : List ℕ) → checkUnder sc n s .refusal ≡ 0

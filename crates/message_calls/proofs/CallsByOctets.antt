@@ -8,12 +8,12 @@ use lib.ListN.{length, replicate}
 use borrow.Author.Tests.{le-ltb, lt-ltb, eq-eqb, ne-eqb}
 use Rattle.reading.specs.Refusals as refusals
 use Rattle.octets.specs.Number.{Octets}
-use Rattle.hproto_table.specs.Schema.{schema}
-use Rattle.hproto_table.specs.Load.{recordAt, wordAt, wellFormed, accepted, refused, load}
-use Rattle.hproto_table.specs.Valid.{valid}
-use Rattle.hproto_table.specs.declared.Table.{Table}
-use Rattle.hproto_table.specs.declared.Loaded.{Loaded}
-use Rattle.hproto_table.proofs.LoadResults.{loaded-valid}
+use Rattle.table.specs.Schema.{schema}
+use Rattle.table.specs.Load.{recordAt, wordAt, wellFormed, accepted, refused, load}
+use Rattle.table.specs.Valid.{valid}
+use Rattle.table.specs.declared.Table.{Table}
+use Rattle.table.specs.declared.Loaded.{Loaded}
+use Rattle.table.proofs.LoadResults.{loaded-valid}
 use Rattle.table_index.specs.internal.Cells.{insertedBefore, prefixEnd, indexed}
 use Rattle.table_index.proofs.IndexLaws.{octets-accepted, octets-refused, octets-schema}
 use Rattle.message_calls.proofs.CheckAnswers.{under-valid}

@@ -6,19 +6,19 @@ use mathlib.Core.List.{List}
 use lib.ListN.{length}
 use borrow.Author.Tests.{le-ltb, lt-ltb}
 use Rattle.reading.specs.Refusals as refusals
-use Rattle.hproto_table.specs.Entry.{innerOf}
-use Rattle.hproto_table.specs.Schema.{Schema, schema}
-use Rattle.hproto_table.specs.Valid.{valid}
-use Rattle.hproto_table.specs.declared.Table.{Table}
-use Rattle.hproto_message.specs.Cut.{Cut}
-use Rattle.hproto_message.specs.Tree as trees
-use Rattle.hproto_message.specs.Tree.{tree}
+use Rattle.table.specs.Entry.{innerOf}
+use Rattle.table.specs.Schema.{Schema, schema}
+use Rattle.table.specs.Valid.{valid}
+use Rattle.table.specs.declared.Table.{Table}
+use Rattle.message.specs.Cut.{Cut}
+use Rattle.message.specs.Tree as trees
+use Rattle.message.specs.Tree.{tree}
 use Rattle.reading.specs.Reading.{Reading, accepted, refused, messageLimit, lastNumber}
 use Rattle.reading.specs.Checks.{refusal, counts}
 use Rattle.reading.specs.internal.Verdicts.{verdictOf, checkedBy}
 use Rattle.reading.specs.declared.Verdict.{Verdict}
-use Rattle.hproto_message.specs.Reading.{reading, messageFrom}
-use Rattle.hproto_message.proofs.Shortened.{tree-depth}
+use Rattle.message.specs.Reading.{reading, messageFrom}
+use Rattle.message.proofs.Shortened.{tree-depth}
 use Rattle.message_calls.specs.internal.Verdicts.{fields, verdict}
 use Rattle.message_calls.specs.Check.{treeCounts, check, checkUnder}
 

@@ -6,18 +6,18 @@ use mathlib.Core.Path.{_≡_, refl, sym, ap, _∙_, subst}
 use mathlib.Core.List.{List}
 use lib.ListN.{length, take, drop, length-append, length-drop}
 use lib.Seq.{drop-drop, length-take-le}
-use Rattle.hproto_table.specs.Schema.{Schema}
-use Rattle.hproto_message.specs.Cut.{Cut, end, leaf, nested, depth, joined, Allowed}
-use Rattle.hproto_message.specs.declared.Step.the-variants as steps
+use Rattle.table.specs.Schema.{Schema}
+use Rattle.message.specs.Cut.{Cut, end, leaf, nested, depth, joined, Allowed}
+use Rattle.message.specs.declared.Step.the-variants as steps
 use Rattle.reading.specs.Reading.{Reading, accepted, refused}
-use Rattle.hproto_message.specs.Reading.{Inner, step, tagAt, afterStep, fieldsFrom, messageFrom}
-use Rattle.hproto_message.proofs.Steps.{StepMeans, step-means}
+use Rattle.message.specs.Reading.{Inner, step, tagAt, afterStep, fieldsFrom, messageFrom}
+use Rattle.message.proofs.Steps.{StepMeans, step-means}
 use Rattle.octets.proofs.ControlPart.{part-size}
-use Rattle.hproto_field.specs.internal.Nexts.{nextAt}
-use Rattle.hproto_field.specs.declared.Next.{Next}
-use Rattle.hproto_field.specs.declared.Next.the-variants.{Done, Fault, Over, Into}
-use Rattle.hproto_field.proofs.Nexts.{OverFrom, IntoFrom, NextFrom, came-from}
-use Rattle.hproto_message.proofs.Accepted.{accepted-good, depth-positive}
+use Rattle.message_field.specs.internal.Nexts.{nextAt}
+use Rattle.message_field.specs.declared.Next.{Next}
+use Rattle.message_field.specs.declared.Next.the-variants.{Done, Fault, Over, Into}
+use Rattle.message_field.proofs.Nexts.{OverFrom, IntoFrom, NextFrom, came-from}
+use Rattle.message.proofs.Accepted.{accepted-good, depth-positive}
 use Rattle.message_calls.specs.internal.Verdicts.{fields, verdict}
 use Rattle.reading.specs.declared.Verdict.{Verdict}
 use Rattle.reading.specs.declared.Verdict.the-variants.{Accepted, Refused}

@@ -8,7 +8,7 @@ use lib.ListN.{getElem?}
 use mathlib.Core.Option.{Option, none, some, Option·map}
 use lib.Dec.{eqb}
 use borrow.Author.Tests.{eqb-true, ne-eqb}
-use Rattle.hproto_message.specs.Items.{Item, itemTag, withTag}
+use Rattle.message.specs.Items.{Item, itemTag, withTag}
 use Rattle.message_calls.specs.Lookup.{lastOr, chosen}
 use Rattle.message_calls.specs.declared.outermost.Occurrence.{Occurrence}
 use Rattle.message_calls.specs.declared.outermost.Occurrence.the-variants.{Nth, Last}

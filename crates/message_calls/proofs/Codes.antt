@@ -5,9 +5,9 @@ use mathlib.Core.Path.{_≡_, refl}
 use mathlib.Core.List.{List}
 use Rattle.table_index.specs.internal.Cells.{codeIn, meaningOf, meaningIn, cellFor, indexed}
 use Rattle.table_index.proofs.Meanings as means
-use Rattle.hproto_message.specs.Tree.{value}
-use Rattle.hproto_message.specs.Shortest.{leastContents}
-use Rattle.hproto_message.proofs.Next.{Plain}
+use Rattle.message.specs.Tree.{value}
+use Rattle.message.specs.Shortest.{leastContents}
+use Rattle.message.proofs.Next.{Plain}
 
 pub plain-code : (code : ℕ) → code < 5 → Plain (meaningOf code)
 unfolding meaningOf Plain

@@ -7,11 +7,11 @@ use mathlib.Core.Path.{_≡_, sym, ap, ap₂, _∙_}
 use mathlib.Core.List.{List, [], _∷_, _++_}
 use lib.ListN.{length, set, take, drop, length-append, take-append-drop}
 use lib.Seq.{sets, drop-drop}
-use Rattle.hproto_store.specs.Store.{stored}
-use Rattle.hproto_store.specs.internal.Moved.{moved}
-use Rattle.hproto_store.proofs.Sets.{set-before-sets, sets-over}
-use Rattle.hproto_store.proofs.Stores.{stored-fits, length-stored, stored-parts, stored-before, part-stored}
-use Rattle.hproto_store.proofs.Moves.{part-length, moved-fits}
+use Rattle.octets_store.specs.Store.{stored}
+use Rattle.octets_store.specs.internal.Moved.{moved}
+use Rattle.octets_store.proofs.Sets.{set-before-sets, sets-over}
+use Rattle.octets_store.proofs.Stores.{stored-fits, length-stored, stored-parts, stored-before, part-stored}
+use Rattle.octets_store.proofs.Moves.{part-length, moved-fits}
 
 -- Octets that are moved by nothing stay.
 pub moved-nowhere : (d : List ℕ) (at n : ℕ) → at + n ≤ length d → moved d at n 0 ≡ d

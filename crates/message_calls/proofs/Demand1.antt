@@ -8,14 +8,14 @@ use lib.ListN.{length}
 use Rattle.reading.specs.Reading.{messageLimit, lastNumber}
 use Rattle.reading.specs.Refusals as refusals
 use Rattle.octets.specs.Number.{Octets}
-use Rattle.hproto_table.specs.Load.{load}
-use Rattle.hproto_table.specs.Schema.{schema}
-use Rattle.hproto_table.specs.Valid.{valid}
-use Rattle.hproto_table.specs.declared.Table.{Table}
-use Rattle.hproto_table.proofs.LoadResults.{loaded-valid, load-refusal}
+use Rattle.table.specs.Load.{load}
+use Rattle.table.specs.Schema.{schema}
+use Rattle.table.specs.Valid.{valid}
+use Rattle.table.specs.declared.Table.{Table}
+use Rattle.table.proofs.LoadResults.{loaded-valid, load-refusal}
 use Rattle.reading.specs.Checks.{refusal, counts}
-use Rattle.hproto_message.proofs.Accepted.{accepted-exactly, good-cut-unique}
-use Rattle.hproto_message.proofs.FirstFault.{refused-exactly, first-fault-unique, cut-or-fault, cut-no-fault}
+use Rattle.message.proofs.Accepted.{accepted-exactly, good-cut-unique}
+use Rattle.message.proofs.FirstFault.{refused-exactly, first-fault-unique, cut-or-fault, cut-no-fault}
 use Rattle.message_calls.specs.Check.{check, treeCounts}
 use Rattle.message_calls.proofs.CheckAnswers as checks
 use Rattle.message_calls.specs.Calls.{checkOctets}

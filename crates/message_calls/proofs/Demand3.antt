@@ -7,12 +7,12 @@ use mathlib.Core.List.{List}
 use lib.ListN.{length}
 use lib.Dec.{ltb, eqb}
 use Rattle.octets.specs.Number.{Octets}
-use Rattle.hproto_table.specs.Load.{load}
-use Rattle.hproto_table.specs.Schema.{schema}
-use Rattle.hproto_table.specs.Valid.{valid}
-use Rattle.hproto_table.specs.declared.Table.{Table}
-use Rattle.hproto_table.specs.declared.Loaded.{Loaded}
-use Rattle.hproto_table.proofs.LoadResults.{loaded-valid}
+use Rattle.table.specs.Load.{load}
+use Rattle.table.specs.Schema.{schema}
+use Rattle.table.specs.Valid.{valid}
+use Rattle.table.specs.declared.Table.{Table}
+use Rattle.table.specs.declared.Loaded.{Loaded}
+use Rattle.table.proofs.LoadResults.{loaded-valid}
 use Rattle.reading.specs.Reading.{messageLimit, lastNumber}
 use Rattle.reading.specs.Checks as answers
 use Rattle.reading.specs.declared.Checked.{Checked}

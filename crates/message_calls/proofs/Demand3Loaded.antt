@@ -8,20 +8,20 @@ use lib.ListN.{length, drop}
 use Rattle.reading.specs.Refusals as refusals
 use Rattle.reading.specs.Reading.{depthLimit, messageLimit, lastNumber}
 use Rattle.reading.specs.internal.Verdicts.{IsAccepted}
-use Rattle.hproto_message.specs.internal.Accepts.{Accepts}
-use Rattle.hproto_message.proofs.Accepted.{accepts-good, accepted-exactly, good-cut-unique}
-use Rattle.hproto_store.specs.Store.{stored}
-use Rattle.hproto_store.proofs.Stores.{stored-parts}
+use Rattle.message.specs.internal.Accepts.{Accepts}
+use Rattle.message.proofs.Accepted.{accepts-good, accepted-exactly, good-cut-unique}
+use Rattle.octets_store.specs.Store.{stored}
+use Rattle.octets_store.proofs.Stores.{stored-parts}
 use Rattle.octets.specs.Number.{Octets}
-use Rattle.hproto_table.specs.Schema.{schema}
-use Rattle.hproto_table.specs.Valid.{valid}
-use Rattle.hproto_table.specs.declared.Table.{Table}
-use Rattle.hproto_message.specs.Cut.{Cut, Good}
-use Rattle.hproto_message.specs.ReadTheSame.{HasCut, IsShortest}
-use Rattle.hproto_message.specs.Tree.{tree}
-use Rattle.hproto_message.specs.Reading.{reading}
-use Rattle.hproto_message.specs.Shortest.{shortest}
-use Rattle.hproto_message.proofs.Shortened.{shortest-no-longer, is-shortest}
+use Rattle.table.specs.Schema.{schema}
+use Rattle.table.specs.Valid.{valid}
+use Rattle.table.specs.declared.Table.{Table}
+use Rattle.message.specs.Cut.{Cut, Good}
+use Rattle.message.specs.ReadTheSame.{HasCut, IsShortest}
+use Rattle.message.specs.Tree.{tree}
+use Rattle.message.specs.Reading.{reading}
+use Rattle.message.specs.Shortest.{shortest}
+use Rattle.message.proofs.Shortened.{shortest-no-longer, is-shortest}
 use Rattle.reading.specs.Checks.{counts}
 use Rattle.reading.specs.declared.Checked.{Checked}
 use Rattle.message_calls.specs.Check.{check, treeCounts}

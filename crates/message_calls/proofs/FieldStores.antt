@@ -16,11 +16,11 @@ use Rattle.octets.specs.declared.Least.{Least}
 use Rattle.octets.specs.Control.{firstFit, leastCode, leastControl}
 use Rattle.octets.proofs.Number.{length-octetsOf, unsigned-is, uint-octets}
 use Rattle.octets.proofs.Integer.{signed-is, int-octets}
-use Rattle.hproto_store.specs.Store.{stored}
-use Rattle.hproto_store.specs.internal.Moved.{moved}
-use Rattle.hproto_store.proofs.Stores.{stored-fits, stored-after}
-use Rattle.hproto_message.specs.Shortest.{field}
-use Rattle.hproto_message.proofs.Fields.{field-length}
+use Rattle.octets_store.specs.Store.{stored}
+use Rattle.octets_store.specs.internal.Moved.{moved}
+use Rattle.octets_store.proofs.Stores.{stored-fits, stored-after}
+use Rattle.message.specs.Shortest.{field}
+use Rattle.message.proofs.Fields.{field-length}
 use Rattle.message_calls.specs.internal.Stores.{Put}
 use Rattle.message_calls.proofs.ControlBefore.{moved-nowhere}
 

@@ -11,18 +11,18 @@ use lib.Dec.{eqb}
 use borrow.Author.Tests.{le-leb, eq-eqb, ne-eqb}
 use Rattle.reading.specs.Refusals as refusals
 use Rattle.octets.specs.internal.Bounded.{unsigned, signed}
-use Rattle.hproto_table.specs.Entry.{kindNumber}
-use Rattle.hproto_table.specs.Schema.{Schema, schema}
-use Rattle.hproto_table.specs.declared.Meaning.{Meaning}
-use Rattle.hproto_table.specs.declared.Meaning.the-variants.{Raw, Uint, Int, String, Text, Message}
-use Rattle.hproto_table.specs.Valid.{valid}
-use Rattle.hproto_table.specs.declared.Table.{Table}
-use Rattle.hproto_message.specs.Cut.{Cut, Contents, Good}
-use Rattle.hproto_message.specs.Tree.{value}
-use Rattle.hproto_message.specs.Items.{Item, itemTag, withTag, kindOf, itemKind, uintOf, intOf}
+use Rattle.table.specs.Entry.{kindNumber}
+use Rattle.table.specs.Schema.{Schema, schema}
+use Rattle.table.specs.declared.Meaning.{Meaning}
+use Rattle.table.specs.declared.Meaning.the-variants.{Raw, Uint, Int, String, Text, Message}
+use Rattle.table.specs.Valid.{valid}
+use Rattle.table.specs.declared.Table.{Table}
+use Rattle.message.specs.Cut.{Cut, Contents, Good}
+use Rattle.message.specs.Tree.{value}
+use Rattle.message.specs.Items.{Item, itemTag, withTag, kindOf, itemKind, uintOf, intOf}
 use Rattle.reading.specs.Reading.{accepted, messageLimit}
-use Rattle.hproto_message.specs.Reading.{reading}
-use Rattle.hproto_message.proofs.Accepted.{accepted-good}
+use Rattle.message.specs.Reading.{reading}
+use Rattle.message.proofs.Accepted.{accepted-good}
 use Rattle.message_calls.specs.Check.{check, checkUnder}
 use Rattle.reading.specs.declared.Checked.{Checked}
 use Rattle.message_calls.specs.Lookup.{ItemSpan, outermost, chosen, refusal, found, foundIn, answer, lookup, lookupLast}

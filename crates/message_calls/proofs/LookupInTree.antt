@@ -7,13 +7,13 @@ use mathlib.Core.Logic.{_↔_}
 use mathlib.Core.Option.{Option, none, some, Option·map}
 use Rattle.reading.specs.Refusals as refusals
 use Rattle.octets.specs.Number.{Octets}
-use Rattle.hproto_table.specs.Schema.{schema}
-use Rattle.hproto_table.specs.declared.Table.{Table}
-use Rattle.hproto_message.specs.Cut.{Cut, Good}
-use Rattle.hproto_message.specs.Tree.{tree}
-use Rattle.hproto_message.specs.Items.{Item, itemTag, withTag}
-use Rattle.hproto_message.specs.Reading.{reading}
-use Rattle.hproto_message.proofs.Accepted.{good-accepted}
+use Rattle.table.specs.Schema.{schema}
+use Rattle.table.specs.declared.Table.{Table}
+use Rattle.message.specs.Cut.{Cut, Good}
+use Rattle.message.specs.Tree.{tree}
+use Rattle.message.specs.Items.{Item, itemTag, withTag}
+use Rattle.message.specs.Reading.{reading}
+use Rattle.message.proofs.Accepted.{good-accepted}
 use Rattle.message_calls.specs.Check.{check}
 use Rattle.message_calls.specs.Lookup.{ItemSpan, outermost, chosen, refusal, found, answer, occurrence}
 use Rattle.message_calls.specs.declared.outermost.Occurrence.{Occurrence}

@@ -6,10 +6,10 @@ use mathlib.Core.List.{List, [], _∷_}
 use mathlib.Core.Option.{Option, none, some}
 use lib.ListN.{length, drop, getElem?, length-drop}
 use borrow.Author.Tests.{eq-eqb, ne-eqb}
-use Rattle.hproto_field.specs.internal.Heads.{headAt}
-use Rattle.hproto_field.specs.declared.Head.{Head}
-use Rattle.hproto_field.specs.declared.Head.the-variants.{End, Fault, Field}
-use Rattle.hproto_field.proofs.Heads.{head-span, Fieldless}
+use Rattle.message_field.specs.internal.Heads.{headAt}
+use Rattle.message_field.specs.declared.Head.{Head}
+use Rattle.message_field.specs.declared.Head.the-variants.{End, Fault, Field}
+use Rattle.message_field.proofs.Heads.{head-span, Fieldless}
 use Rattle.message_calls.specs.Lookup.{lastOr}
 use Rattle.message_calls.specs.internal.Spans.{Span, afterHead, spansFrom, spans, optionalSpan, nthSpan, lastSpan}
 use Rattle.message_calls.specs.declared.outermost.OptionalSpan.{OptionalSpan}

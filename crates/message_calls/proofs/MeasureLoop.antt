@@ -6,31 +6,31 @@ use mathlib.Core.List.{List, [], _++_}
 use lib.ListN.{length, drop, length-append}
 use lib.IntN.{ℤ, pos, negsuc}
 use Rattle.reading.specs.Reading.{messageLimit}
-use Rattle.hproto_message.specs.internal.Accepts.{Accepts}
-use Rattle.hproto_message.proofs.Accepted.{accepts-good}
+use Rattle.message.specs.internal.Accepts.{Accepts}
+use Rattle.message.proofs.Accepted.{accepts-good}
 use Rattle.octets.specs.Number.{Octets, bigEndian}
 use Rattle.octets.specs.Signed.{integer, signedWidth}
 use Rattle.octets.specs.Control.{leastControl}
 use Rattle.octets.specs.internal.Least.{controlWidths}
 use Rattle.octets.proofs.Number.{length-leastUint, width-bound}
 use Rattle.octets.proofs.Integer.{length-leastInt}
-use Rattle.hproto_table.specs.Schema.{Schema}
-use Rattle.hproto_table.specs.declared.Meaning.{Meaning}
-use Rattle.hproto_table.specs.declared.Meaning.the-variants.{Raw, Uint, Int, String, Text, Message}
-use Rattle.hproto_message.specs.Cut.{Contents}
-use Rattle.hproto_message.specs.Tree.{value}
-use Rattle.hproto_message.specs.Shortest.{field, leastContents}
-use Rattle.hproto_message.proofs.Next.{Plain}
-use Rattle.hproto_message.proofs.Shortened.{shortest-no-longer}
-use Rattle.hproto_field.specs.internal.Heads.{headAt}
-use Rattle.hproto_field.specs.declared.Head.{Head}
-use Rattle.hproto_field.specs.declared.Head.the-variants.{Field}
-use Rattle.hproto_field.proofs.Heads.{Fieldless}
-use Rattle.hproto_field.proofs.FieldsByHead.{Ends, ends}
-use Rattle.hproto_put.proofs.Least.{leastControl-size, leastControl-widths}
+use Rattle.table.specs.Schema.{Schema}
+use Rattle.table.specs.declared.Meaning.{Meaning}
+use Rattle.table.specs.declared.Meaning.the-variants.{Raw, Uint, Int, String, Text, Message}
+use Rattle.message.specs.Cut.{Contents}
+use Rattle.message.specs.Tree.{value}
+use Rattle.message.specs.Shortest.{field, leastContents}
+use Rattle.message.proofs.Next.{Plain}
+use Rattle.message.proofs.Shortened.{shortest-no-longer}
+use Rattle.message_field.specs.internal.Heads.{headAt}
+use Rattle.message_field.specs.declared.Head.{Head}
+use Rattle.message_field.specs.declared.Head.the-variants.{Field}
+use Rattle.message_field.proofs.Heads.{Fieldless}
+use Rattle.message_field.proofs.FieldsByHead.{Ends, ends}
+use Rattle.octets_put.proofs.Least.{leastControl-size, leastControl-widths}
 use Rattle.message_calls.specs.internal.Stores.{shortestWithin}
 use Rattle.message_calls.proofs.ShortestPrefix.{Passed, nothing-passed, all-passed, passed-length, field-contents, tag-small, leaf-contents, leaf-passed, nested-passed, shortest-is}
-use Rattle.hproto_message.proofs.Fields.{field-length}
+use Rattle.message.proofs.Fields.{field-length}
 
 signedWidth-bound : (z : ℤ) → signedWidth z ≤ 8
 unfolding signedWidth

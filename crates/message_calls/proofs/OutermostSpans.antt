@@ -11,18 +11,18 @@ use borrow.Author.Tests.{le-leb}
 use Rattle.octets.specs.Number.{Octets}
 use Rattle.octets.proofs.Number.{octets-before, octets-after}
 use Rattle.octets.proofs.ControlPart.{control-nil, part-size, part-bounds}
-use Rattle.hproto_table.specs.Entry.{innerOf}
-use Rattle.hproto_table.specs.Schema.{Schema}
-use Rattle.hproto_message.specs.Cut as cuts
-use Rattle.hproto_message.specs.Cut.{Cut, joined, WholeField, Allowed, Good}
-use Rattle.hproto_message.specs.Tree.{value, tree}
-use Rattle.hproto_message.specs.Items.{Item, items, itemTag, withTag}
-use Rattle.hproto_message.proofs.Steps.{field-control, in-three}
+use Rattle.table.specs.Entry.{innerOf}
+use Rattle.table.specs.Schema.{Schema}
+use Rattle.message.specs.Cut as cuts
+use Rattle.message.specs.Cut.{Cut, joined, WholeField, Allowed, Good}
+use Rattle.message.specs.Tree.{value, tree}
+use Rattle.message.specs.Items.{Item, items, itemTag, withTag}
+use Rattle.message.proofs.Steps.{field-control, in-three}
 use Rattle.message_calls.specs.Lookup.{ItemSpan, outermost}
 use Rattle.message_calls.specs.internal.Spans.{Span, afterHead, spansFrom, spans}
-use Rattle.hproto_field.specs.internal.Heads.{headFrom, headAt}
-use Rattle.hproto_field.specs.declared.Head.the-variants.{Field}
-use Rattle.hproto_field.proofs.Heads.{head-field}
+use Rattle.message_field.specs.internal.Heads.{headFrom, headAt}
+use Rattle.message_field.specs.declared.Head.the-variants.{Field}
+use Rattle.message_field.proofs.Heads.{head-field}
 use Rattle.message_calls.proofs.ChosenElements.{Each, map-withTag}
 use Rattle.message_calls.specs.InTree.{Shows}
 

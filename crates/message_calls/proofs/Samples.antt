@@ -5,13 +5,13 @@ use Rattle.octets.specs.Text as texts
 use Rattle.octets.specs.Control as controls
 use Rattle.reading.specs.Reading.{onAccepted, inOrder}
 use Rattle.reading.specs.Checks as answers
-use Rattle.hproto_table.specs.Entry as entries
-use Rattle.hproto_table.specs.Schema.{schemaOf, schema}
-use Rattle.hproto_table.specs.Load as loads
-use Rattle.hproto_table.specs.Repeat.{distinct}
-use Rattle.hproto_table.specs.Valid as valids
-use Rattle.hproto_message.specs.Tree as trees
-use Rattle.hproto_message.specs.Reading as readings
+use Rattle.table.specs.Entry as entries
+use Rattle.table.specs.Schema.{schemaOf, schema}
+use Rattle.table.specs.Load as loads
+use Rattle.table.specs.Repeat.{distinct}
+use Rattle.table.specs.Valid as valids
+use Rattle.message.specs.Tree as trees
+use Rattle.message.specs.Reading as readings
 use Rattle.message_calls.specs.Check as checks
 use Rattle.message_calls.specs.Calls.{withTable, checkOctets}
 use Rattle.message_calls.specs.Samples as samples

@@ -9,17 +9,17 @@ use lib.Dec.{eqb}
 use borrow.Author.Tests.{le-leb, lt-leb, eq-eqb, ne-eqb}
 use Rattle.reading.specs.Reading.{messageLimit}
 use Rattle.reading.specs.Refusals as refusals
-use Rattle.hproto_message.specs.internal.Accepts.{Accepts}
-use Rattle.hproto_table.specs.Schema.{Schema, schema}
-use Rattle.hproto_table.specs.Valid.{valid}
-use Rattle.hproto_table.specs.declared.Table.{Table}
+use Rattle.message.specs.internal.Accepts.{Accepts}
+use Rattle.table.specs.Schema.{Schema, schema}
+use Rattle.table.specs.Valid.{valid}
+use Rattle.table.specs.declared.Table.{Table}
 use Rattle.reading.specs.internal.Verdicts.{IsAccepted}
-use Rattle.hproto_message.specs.Reading.{reading}
+use Rattle.message.specs.Reading.{reading}
 use Rattle.message_calls.specs.Check.{check, checkUnder}
 use Rattle.reading.specs.declared.Checked.{Checked}
 use Rattle.message_calls.proofs.CheckAnswers.{under-valid}
-use Rattle.hproto_store.specs.Store.{stored}
-use Rattle.hproto_store.proofs.Stores.{stored-fits}
+use Rattle.octets_store.specs.Store.{stored}
+use Rattle.octets_store.proofs.Stores.{stored-fits}
 use Rattle.message_calls.specs.internal.Stores.{shortestWithin}
 use Rattle.message_calls.specs.Shorten.{refusal, shortestUnder, shortestByTable, roomy, shortenResult, resultBuffer, answer, buffer}
 use Rattle.message_calls.specs.internal.ShortenUnder.{shortenUnder, bufferUnder}

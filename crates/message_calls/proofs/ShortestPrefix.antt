@@ -8,21 +8,21 @@ use lib.ListN.{length, take, drop, length-append}
 use Rattle.octets.specs.Number.{Octets}
 use Rattle.octets.proofs.Number.{octets-part}
 use Rattle.octets.proofs.ControlPart.{part-of-control, part-bounds}
-use Rattle.hproto_table.specs.Schema.{Schema}
-use Rattle.hproto_table.specs.declared.Meaning.{Meaning}
-use Rattle.hproto_table.specs.declared.Meaning.the-variants.{Message}
-use Rattle.hproto_message.specs.Cut.{Cut, Contents, Good}
-use Rattle.hproto_message.specs.Tree.{Tree, value, tree}
-use Rattle.hproto_message.specs.internal.Accepts.{Accepts}
-use Rattle.hproto_message.specs.Shortest.{leastContents, field, shortest}
-use Rattle.hproto_message.proofs.Accepted.{good-accepted, accepts-good, good-accepts}
-use Rattle.hproto_message.proofs.Next.{Plain}
-use Rattle.hproto_field.specs.internal.Heads.{headAt}
-use Rattle.hproto_field.specs.declared.Head.{Head}
-use Rattle.hproto_field.specs.declared.Head.the-variants.{Field}
-use Rattle.hproto_field.proofs.Heads.{Fieldless}
-use Rattle.hproto_field.proofs.FieldsByHead as fields
-use Rattle.hproto_field.proofs.FieldsByHead.{Remaining, all-remaining, none-remaining, here, leaf-next, nested-next}
+use Rattle.table.specs.Schema.{Schema}
+use Rattle.table.specs.declared.Meaning.{Meaning}
+use Rattle.table.specs.declared.Meaning.the-variants.{Message}
+use Rattle.message.specs.Cut.{Cut, Contents, Good}
+use Rattle.message.specs.Tree.{Tree, value, tree}
+use Rattle.message.specs.internal.Accepts.{Accepts}
+use Rattle.message.specs.Shortest.{leastContents, field, shortest}
+use Rattle.message.proofs.Accepted.{good-accepted, accepts-good, good-accepts}
+use Rattle.message.proofs.Next.{Plain}
+use Rattle.message_field.specs.internal.Heads.{headAt}
+use Rattle.message_field.specs.declared.Head.{Head}
+use Rattle.message_field.specs.declared.Head.the-variants.{Field}
+use Rattle.message_field.proofs.Heads.{Fieldless}
+use Rattle.message_field.proofs.FieldsByHead as fields
+use Rattle.message_field.proofs.FieldsByHead.{Remaining, all-remaining, none-remaining, here, leaf-next, nested-next}
 use Rattle.message_calls.specs.Written.{shortestOfReading}
 use Rattle.message_calls.specs.internal.Stores.{shortestWithin}
 

@@ -4,27 +4,27 @@ use native.Mathlib.Omega.{arith}
 use mathlib.Core.Path.{_≡_, sym, ap, _∙_, subst}
 use mathlib.Core.List.{List, [], _++_}
 use lib.ListN.{length, drop, length-append}
-use Rattle.hproto_message.specs.internal.Accepts.{Accepts}
+use Rattle.message.specs.internal.Accepts.{Accepts}
 use Rattle.octets.specs.Number.{Octets}
 use Rattle.octets.specs.Control.{leastControl}
-use Rattle.hproto_table.specs.Schema.{Schema}
-use Rattle.hproto_table.specs.declared.Meaning.{Meaning}
-use Rattle.hproto_table.specs.declared.Meaning.the-variants.{Message}
-use Rattle.hproto_message.specs.Cut.{Contents}
-use Rattle.hproto_message.specs.Tree.{value}
-use Rattle.hproto_message.specs.Shortest.{field, leastContents}
-use Rattle.hproto_message.proofs.Next.{Plain}
-use Rattle.hproto_field.specs.internal.Heads.{headAt}
-use Rattle.hproto_field.specs.declared.Head.{Head}
-use Rattle.hproto_field.specs.declared.Head.the-variants.{Field}
-use Rattle.hproto_field.proofs.Heads.{Fieldless}
-use Rattle.hproto_field.proofs.FieldsByHead.{Ends, ends}
-use Rattle.hproto_store.specs.Store.{stored}
-use Rattle.hproto_store.specs.internal.Moved.{moved}
-use Rattle.hproto_store.proofs.Stores.{stored-nothing, stored-after, length-stored}
+use Rattle.table.specs.Schema.{Schema}
+use Rattle.table.specs.declared.Meaning.{Meaning}
+use Rattle.table.specs.declared.Meaning.the-variants.{Message}
+use Rattle.message.specs.Cut.{Contents}
+use Rattle.message.specs.Tree.{value}
+use Rattle.message.specs.Shortest.{field, leastContents}
+use Rattle.message.proofs.Next.{Plain}
+use Rattle.message_field.specs.internal.Heads.{headAt}
+use Rattle.message_field.specs.declared.Head.{Head}
+use Rattle.message_field.specs.declared.Head.the-variants.{Field}
+use Rattle.message_field.proofs.Heads.{Fieldless}
+use Rattle.message_field.proofs.FieldsByHead.{Ends, ends}
+use Rattle.octets_store.specs.Store.{stored}
+use Rattle.octets_store.specs.internal.Moved.{moved}
+use Rattle.octets_store.proofs.Stores.{stored-nothing, stored-after, length-stored}
 use Rattle.message_calls.specs.internal.Stores.{shortestWithin, Put}
 use Rattle.message_calls.proofs.ShortestPrefix.{Passed, nothing-passed, all-passed, passed-length, field-contents, tag-small, leaf-contents, leaf-passed, nested-passed}
-use Rattle.hproto_message.proofs.Fields.{field-length}
+use Rattle.message.proofs.Fields.{field-length}
 use Rattle.message_calls.proofs.FieldStores.{control-some}
 use Rattle.message_calls.proofs.ControlBefore.{stored-behind}
 

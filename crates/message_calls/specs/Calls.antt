@@ -7,9 +7,9 @@ use lib.Dec.{ltb, eqb}
 use Rattle.reading.specs.Refusals as refusals
 use Rattle.reading.specs.Reading.{messageLimit}
 use Rattle.reading.specs.Checks as answers
-use Rattle.hproto_table.specs.Load.{load}
-use Rattle.hproto_table.specs.declared.Table.{Table}
-use Rattle.hproto_table.specs.declared.Loaded.{Loaded}
+use Rattle.table.specs.Load.{load}
+use Rattle.table.specs.declared.Table.{Table}
+use Rattle.table.specs.declared.Loaded.{Loaded}
 use Rattle.message_calls.specs.Check as checks
 use Rattle.reading.specs.declared.Checked.{Checked}
 use Rattle.message_calls.specs.Shorten as shortens

@@ -8,12 +8,12 @@ use Rattle.reading.specs.Refusals as refusals
 use Rattle.reading.specs.Reading.{Reading, messageLimit, lastNumber}
 use Rattle.reading.specs.Checks.{refusal, counts}
 use Rattle.reading.specs.declared.Checked.{Checked}
-use Rattle.hproto_table.specs.Schema.{Schema, schema}
-use Rattle.hproto_table.specs.Valid.{valid}
-use Rattle.hproto_table.specs.declared.Table.{Table}
-use Rattle.hproto_message.specs.Cut.{Cut}
-use Rattle.hproto_message.specs.Tree.{tree, fields, depth}
-use Rattle.hproto_message.specs.Reading.{reading}
+use Rattle.table.specs.Schema.{Schema, schema}
+use Rattle.table.specs.Valid.{valid}
+use Rattle.table.specs.declared.Table.{Table}
+use Rattle.message.specs.Cut.{Cut}
+use Rattle.message.specs.Tree.{tree, fields, depth}
+use Rattle.message.specs.Reading.{reading}
 
 -- A reading's refusal, or the counts of its tree.
 unfoldable pub treeCounts : Schema → ℕ → Reading Cut → Checked

@@ -12,12 +12,12 @@ use Rattle.reading.specs.Reading.{messageLimit, depthLimit, lastNumber}
 use Rattle.reading.specs.Checks.{refusal}
 use Rattle.reading.specs.declared.Checked.{Checked}
 use Rattle.octets.specs.Number.{Octets}
-use Rattle.hproto_table.specs.Load.{load}
-use Rattle.hproto_table.specs.Schema.{Schema, schema}
-use Rattle.hproto_message.specs.Cut.{Cut, Good}
-use Rattle.hproto_message.specs.Tree.{tree, fields, depth}
-use Rattle.hproto_message.specs.ReadTheSame.{HasCut}
-use Rattle.hproto_message.specs.FirstFault.{Fault, FirstFault, HasFault, faultRefusal, faultPlace}
+use Rattle.table.specs.Load.{load}
+use Rattle.table.specs.Schema.{Schema, schema}
+use Rattle.message.specs.Cut.{Cut, Good}
+use Rattle.message.specs.Tree.{tree, fields, depth}
+use Rattle.message.specs.ReadTheSame.{HasCut}
+use Rattle.message.specs.FirstFault.{Fault, FirstFault, HasFault, faultRefusal, faultPlace}
 
 -- The check's answer for a message of a number that is read under a schema.
 pub record Demand1 (sc : Schema) (n : ℕ) (s : List ℕ) (answer : Checked) : Type 0 where

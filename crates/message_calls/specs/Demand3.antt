@@ -10,11 +10,11 @@ use Rattle.reading.specs.Refusals as refusals
 use Rattle.reading.specs.Reading.{messageLimit, depthLimit, lastNumber}
 use Rattle.reading.specs.declared.Checked.{Checked}
 use Rattle.octets.specs.Number.{Octets}
-use Rattle.hproto_table.specs.Load.{load}
-use Rattle.hproto_table.specs.Schema.{Schema, schema}
-use Rattle.hproto_table.specs.declared.Loaded.{Loaded}
-use Rattle.hproto_message.specs.Cut.{Cut, Good}
-use Rattle.hproto_message.specs.ReadTheSame.{HasCut, IsShortest}
+use Rattle.table.specs.Load.{load}
+use Rattle.table.specs.Schema.{Schema, schema}
+use Rattle.table.specs.declared.Loaded.{Loaded}
+use Rattle.message.specs.Cut.{Cut, Good}
+use Rattle.message.specs.ReadTheSame.{HasCut, IsShortest}
 use Rattle.message_calls.specs.declared.Shortened.{Shortened}
 
 -- The schema of a table, and what the calls answer under that table: the check by message number and message, the shortener and the

@@ -5,13 +5,13 @@ use mathlib.Core.List.{List}
 use mathlib.Core.Option.{Option, none, some}
 use lib.ListN.{length, take, drop}
 use Rattle.reading.specs.Refusals as refusals
-use Rattle.hproto_table.specs.Schema.{Schema}
+use Rattle.table.specs.Schema.{Schema}
 use Rattle.message_calls.specs.Lookup.{refusal}
 use Rattle.message_calls.specs.declared.Found.{Found}
-use Rattle.hproto_table.specs.declared.Meaning.the-variants.{Message}
-use Rattle.hproto_message.specs.Cut.{Cut, Contents, Good}
-use Rattle.hproto_message.specs.Tree.{value, tree}
-use Rattle.hproto_message.specs.Items.{Item, itemTag, itemKind, uintOf, intOf}
+use Rattle.table.specs.declared.Meaning.the-variants.{Message}
+use Rattle.message.specs.Cut.{Cut, Contents, Good}
+use Rattle.message.specs.Tree.{value, tree}
+use Rattle.message.specs.Items.{Item, itemTag, itemKind, uintOf, intOf}
 
 -- The octets are the contents of a field of the tree. A field that is no message has the value that they have by the kind of
 -- its tag. A nested message has them as its octets: they are joined from a good cut under the inner number, and its tree is the field's.

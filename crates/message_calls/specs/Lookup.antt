@@ -6,15 +6,15 @@ use mathlib.Core.Option.{Option, none, some}
 use lib.ListN as lists
 use lib.IntN.{pos}
 use lib.Dec.{eqb}
-use Rattle.hproto_table.specs.Entry.{innerOf}
-use Rattle.hproto_table.specs.Schema.{Schema, schema}
-use Rattle.hproto_table.specs.declared.Table.{Table}
-use Rattle.hproto_message.specs.Cut.{Cut, joined}
-use Rattle.hproto_message.specs.Tree.{Tree, value, tree}
-use Rattle.hproto_message.specs.Items.{Item, items, withTag, itemKind, uintOf, intOf}
+use Rattle.table.specs.Entry.{innerOf}
+use Rattle.table.specs.Schema.{Schema, schema}
+use Rattle.table.specs.declared.Table.{Table}
+use Rattle.message.specs.Cut.{Cut, joined}
+use Rattle.message.specs.Tree.{Tree, value, tree}
+use Rattle.message.specs.Items.{Item, items, withTag, itemKind, uintOf, intOf}
 use Rattle.reading.specs.Refusals as refusals
 use Rattle.reading.specs.Reading.{Reading, accepted, refused}
-use Rattle.hproto_message.specs.Reading.{reading}
+use Rattle.message.specs.Reading.{reading}
 use Rattle.message_calls.specs.Check.{check}
 use Rattle.reading.specs.declared.Checked.{Checked}
 use Rattle.message_calls.specs.declared.outermost.Occurrence.{Occurrence}

@@ -5,9 +5,9 @@ use mathlib.Core.List.{List}
 use lib.ListN.{length}
 use lib.Seq.{sets}
 use lib.Dec.{leb, eqb}
-use Rattle.hproto_table.specs.Schema.{Schema, schema}
-use Rattle.hproto_table.specs.declared.Table.{Table}
-use Rattle.hproto_message.specs.Reading.{reading}
+use Rattle.table.specs.Schema.{Schema, schema}
+use Rattle.table.specs.declared.Table.{Table}
+use Rattle.message.specs.Reading.{reading}
 use Rattle.message_calls.specs.Check.{check}
 use Rattle.reading.specs.Refusals as refusals
 use Rattle.reading.specs.declared.Checked.{Checked}

@@ -7,9 +7,9 @@ mod shortest;
 mod sizes;
 mod traversal;
 
-use hproto_table::Table;
 use outermost::Occurrence;
 use reading::Checked;
+use table::Table;
 ghost use mathlib.Core.Path.{_≡_};
 ghost use Rattle.message_calls.specs.Check.{check as check-of};
 ghost use Rattle.message_calls.specs.Lookup.{lookup as lookup-of, lookupLast};

@@ -1,8 +1,8 @@
 // The lookup: finds the k-th or the last of the outermost fields of a message that have a tag.
 use crate::Found;
 use crate::traversal;
-use hproto_field::Head;
-use hproto_table::Table;
+use message_field::Head;
+use table::Table;
 ghost use mathlib.Core.Path.{_≡_};
 ghost use Rattle.message_calls.specs.Lookup.{refusal, answer};
 ghost use Rattle.table_index.specs.internal.Cells.{indexed};
@@ -44,7 +44,7 @@ fn nth(s: &[u8], tag: u64, k: u64) -> OptionalSpan
     let mut i: usize = 0;
     let mut remaining = k;
     loop {
-        match hproto_field::head_at(s, i, s.len()) {
+        match message_field::head_at(s, i, s.len()) {
             Head::Field { tag: t, start, end } => {
                 i = end;
                 if t == tag {
@@ -66,7 +66,7 @@ fn last(s: &[u8], tag: u64) -> OptionalSpan
     let mut i: usize = 0;
     let mut best = OptionalSpan::Absent;
     loop {
-        match hproto_field::head_at(s, i, s.len()) {
+        match message_field::head_at(s, i, s.len()) {
             Head::Field {
                 tag: seen,
                 start: first,

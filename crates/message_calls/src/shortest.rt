@@ -2,7 +2,7 @@
 use crate::Shortened;
 use crate::sizes;
 use crate::traversal;
-use hproto_field::Head;
+use message_field::Head;
 use octets::Control;
 use octets::Least;
 ghost use mathlib.Core.Path.{_≡_};
@@ -11,14 +11,14 @@ ghost use lib.ListN.{length, drop};
 ghost use Rattle.octets.specs.Number.{Octets, bigEndian as number-of, octetsOf, leastUint};
 ghost use Rattle.octets.specs.Signed.{integer, leastInt};
 ghost use Rattle.octets.specs.Control.{leastControl};
-ghost use Rattle.hproto_store.specs.Store.{stored};
-ghost use Rattle.hproto_store.specs.internal.Moved.{moved};
+ghost use Rattle.octets_store.specs.Store.{stored};
+ghost use Rattle.octets_store.specs.internal.Moved.{moved};
 ghost use Rattle.table_index.specs.internal.Cells.{meaningOf, indexed};
-ghost use Rattle.hproto_field.specs.internal.Heads.{headAt};
-ghost use Rattle.hproto_message.specs.Cut.{Contents};
-ghost use Rattle.hproto_message.specs.internal.Accepts.{Accepts};
-ghost use Rattle.hproto_message.specs.Tree.{value};
-ghost use Rattle.hproto_message.specs.Shortest.{field, leastContents};
+ghost use Rattle.message_field.specs.internal.Heads.{headAt};
+ghost use Rattle.message.specs.Cut.{Contents};
+ghost use Rattle.message.specs.internal.Accepts.{Accepts};
+ghost use Rattle.message.specs.Tree.{value};
+ghost use Rattle.message.specs.Shortest.{field, leastContents};
 ghost use Rattle.message_calls.specs.Shorten.{refusal};
 ghost use Rattle.message_calls.specs.internal.ShortenUnder.{shortenUnder, bufferUnder};
 ghost use Rattle.message_calls.specs.internal.Stores.{shortestWithin, Put};
@@ -32,7 +32,7 @@ fn put_digits(out: &mut [u8], at: usize, w: u64, v: u64) -> usize
         out[at] = (v % 256) as u8;
         return at + 1;
     }
-    hproto_put::put_number(out, at, w, v);
+    octets_put::put_number(out, at, w, v);
     at + (w as usize)
 }
 
@@ -51,8 +51,8 @@ fn put_wide_control(tag: u16, n: usize, out: &mut [u8], to: usize) -> usize
     ensures { λ r. ⌜ Put (now (out .entry)) to (leastControl tag n) r (now (out .exit)) ⌝ }
 {
     if tag < 14 || 12 <= n {
-        hproto_put::put_control(out, to, tag, n as u64);
-        return to + hproto_put::control_size(tag, n as u64);
+        octets_put::put_control(out, to, tag, n as u64);
+        return to + octets_put::control_size(tag, n as u64);
     }
     if tag < 256 {
         out[to] = 224 + (n as u8);
@@ -95,7 +95,7 @@ fn put_plain(tag: u16, s: &[u8], out: &mut [u8], to: usize) -> usize
 {
     let n = s.len();
     let a = put_least_control(tag, n, out, to);
-    hproto_store::put_octets(out, a, s);
+    octets_store::put_octets(out, a, s);
     a + n
 }
 
@@ -151,12 +151,12 @@ fn wrap(tag: u16, out: &mut [u8], to: usize, n: usize) -> usize
         out[to] = one_octet(tag, n);
         return to + 1 + n;
     }
-    let size = hproto_put::control_size(tag, n as u64);
-    hproto_store::move_up(out, to + 1, n, size - 1);
+    let size = octets_put::control_size(tag, n as u64);
+    octets_store::move_up(out, to + 1, n, size - 1);
     put_wide_control(tag, n, out, to) + n
 }
 
-// The head of the field at the offset i of a message, as `hproto_field::head_at` returns it. That function has other callers, so the
+// The head of the field at the offset i of a message, as `message_field::head_at` returns it. That function has other callers, so the
 // compiler does not inline it into `write`, and the shortener then takes a fifth to a third longer.
 fn next_field(s: &[u8], i: usize) -> Head
     ensures { λ r. ⌜ r ≡ headAt i (drop i (now (s .entry))) ⌝ }

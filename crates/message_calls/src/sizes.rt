@@ -1,5 +1,5 @@
 // Measures the shortest form of a message without writing it.
-use hproto_field::Head;
+use message_field::Head;
 ghost use mathlib.Core.Path.{_≡_};
 ghost use Prim.Native.Nat.{_≤_};
 ghost use lib.ListN.{length};
@@ -7,10 +7,10 @@ ghost use Rattle.reading.specs.Reading.{messageLimit, depthLimit};
 ghost use Rattle.octets.specs.Number.{Octets, bigEndian as number-of, leastUint};
 ghost use Rattle.octets.specs.Signed.{integer, leastInt};
 ghost use Rattle.table_index.specs.internal.Cells.{meaningOf, indexed};
-ghost use Rattle.hproto_message.specs.Cut.{Contents};
-ghost use Rattle.hproto_message.specs.internal.Accepts.{Accepts};
-ghost use Rattle.hproto_message.specs.Tree.{value};
-ghost use Rattle.hproto_message.specs.Shortest.{field, leastContents};
+ghost use Rattle.message.specs.Cut.{Contents};
+ghost use Rattle.message.specs.internal.Accepts.{Accepts};
+ghost use Rattle.message.specs.Tree.{value};
+ghost use Rattle.message.specs.Shortest.{field, leastContents};
 ghost use lib.Dec.{leb};
 ghost use Rattle.message_calls.specs.internal.Stores.{shortestWithin};
 
@@ -59,7 +59,7 @@ fn value_size(code: u64, tag: u16, s: &[u8]) -> usize
     ensures { λ r. ⌜ r ≡ length (field tag (leastContents (value (meaningOf code) (now (s .entry))))) ⌝ }
 {
     let n = least_size(code, s);
-    hproto_put::control_size(tag, n as u64) + n
+    octets_put::control_size(tag, n as u64) + n
 }
 
 // The length of the shortest form of an accepted message.
@@ -72,7 +72,7 @@ fn measure(cells: &[u32; 128], number: u64, levels: u64, s: &[u8]) -> usize
     let mut i: usize = 0;
     let mut size: usize = 0;
     loop {
-        match hproto_field::head_at(s, i, s.len()) {
+        match message_field::head_at(s, i, s.len()) {
             Head::Field { tag: t, start, end } => {
                 let tag = (t % 65536) as u16;
                 let cell = table_index::cell(cells, number, t);
@@ -82,7 +82,7 @@ fn measure(cells: &[u32; 128], number: u64, levels: u64, s: &[u8]) -> usize
                     i = end;
                 } else {
                     let n = measure(cells, code - 5, levels - 1, &s[start..end]);
-                    size = size + (hproto_put::control_size(tag, n as u64) + n);
+                    size = size + (octets_put::control_size(tag, n as u64) + n);
                     i = end;
                 }
             }

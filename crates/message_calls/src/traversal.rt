@@ -1,5 +1,5 @@
 // The traversal of a message and of the messages nested in it, and the check that rests on it.
-use hproto_field::Next;
+use message_field::Next;
 use reading::Checked;
 use reading::Verdict;
 ghost use mathlib.Core.Path.{_≡_};
@@ -7,7 +7,7 @@ ghost use Prim.Native.Nat.{_+_, _≤_};
 ghost use lib.ListN.{length};
 ghost use Rattle.reading.specs.Reading.{messageLimit, depthLimit};
 ghost use Rattle.table_index.specs.internal.Cells.{indexed};
-ghost use Rattle.hproto_message.specs.Reading.{messageFrom};
+ghost use Rattle.message.specs.Reading.{messageFrom};
 ghost use Rattle.message_calls.specs.Check.{checkUnder};
 ghost use Rattle.message_calls.specs.internal.Verdicts.{verdict as verdict-of};
 
@@ -25,13 +25,13 @@ fn traverse(cells: &[u32; 128], n: u64, levels: u64, from: u64, at: u64, s: &[u8
     let mut fields: u64 = 0;
     let mut depth: u64 = 1;
     loop {
-        let end = hproto_field::quick(cells, n, s, i);
+        let end = message_field::quick(cells, n, s, i);
         if end != 0 {
             i = end;
             fields = fields + 1;
             continue;
         }
-        match hproto_field::step(cells, n, s, i) {
+        match message_field::step(cells, n, s, i) {
             Next::Done => return Verdict::Accepted(fields, depth),
             Next::Fault(k) => return Verdict::Refused(k, at + (i as u64)),
             Next::Over(e) => {

@@ -8,13 +8,13 @@ use lib.ListN.{replicate}
 use lib.Seq.{append-snoc}
 use lib.Dec.{eqb, ltb}
 use borrow.Author.Tests.{eqb-true, eqb-false, eq-eqb, ne-eqb, ltb-true, ltb-false}
-use Rattle.hproto_table.specs.Entry.{entry, find}
-use Rattle.hproto_table.specs.Load.{pair, seen}
-use Rattle.hproto_table.specs.Schema.{schemaOf}
-use Rattle.hproto_table.specs.Repeat.{distinct}
-use Rattle.hproto_table.proofs.Bools.{and-left, and-right}
-use Rattle.hproto_table.proofs.Repeat.{seen-append, seen-one, distinct-snoc}
-use Rattle.hproto_table.proofs.Schemas.{same-schema, find-large}
+use Rattle.table.specs.Entry.{entry, find}
+use Rattle.table.specs.Load.{pair, seen}
+use Rattle.table.specs.Schema.{schemaOf}
+use Rattle.table.specs.Repeat.{distinct}
+use Rattle.table.proofs.Bools.{and-left, and-right}
+use Rattle.table.proofs.Repeat.{seen-append, seen-one, distinct-snoc}
+use Rattle.table.proofs.Schemas.{same-schema, find-large}
 use Rattle.table_index.specs.internal.Cells.{keyOf, wordKey, cellOf, meaningIn, orderIn, search, insertable, insertableAt, prefixEnd, cellFor, indexed}
 use Rattle.table_index.proofs.Meanings.{none}
 use Rattle.table_index.proofs.Words.{Small, cell-some, cell-order, cell-means, key-fits, key-pair}

@@ -9,18 +9,18 @@ use lib.ListN.{length, take, drop, getD, replicate, length-take}
 use lib.Seq.{take-length}
 use lib.Dec.{eqb, leb, ltb}
 use borrow.Author.Tests.{eqb-true, eqb-false, eq-eqb, ne-eqb, leb-true, le-leb, ltb-true, ltb-false}
-use Rattle.hproto_table.specs.Entry.{entry, entries}
-use Rattle.hproto_table.specs.Load.{inRange, recordAt, wordAt, wellFormed, wordsBefore, pair, seen, faulty, accepted, refused, load}
-use Rattle.hproto_table.specs.Repeat.{distinct}
-use Rattle.hproto_table.specs.Schema.{schemaOf, schema}
-use Rattle.hproto_table.specs.Valid.{allInRange, allZero, valid}
-use Rattle.hproto_table.specs.declared.Table.{Table}
-use Rattle.hproto_table.proofs.Bools.{and-both}
-use Rattle.hproto_table.proofs.Lists.{take-more}
-use Rattle.hproto_table.proofs.Load.{load-whole, load-fault, faulty-form, faulty-seen, faulty-late, wellFormed-range}
-use Rattle.hproto_table.proofs.Repeat.{seen-at}
-use Rattle.hproto_table.proofs.Schemas.{words-schema}
-use Rattle.hproto_table.proofs.Valid.{range-at, parts}
+use Rattle.table.specs.Entry.{entry, entries}
+use Rattle.table.specs.Load.{inRange, recordAt, wordAt, wellFormed, wordsBefore, pair, seen, faulty, accepted, refused, load}
+use Rattle.table.specs.Repeat.{distinct}
+use Rattle.table.specs.Schema.{schemaOf, schema}
+use Rattle.table.specs.Valid.{allInRange, allZero, valid}
+use Rattle.table.specs.declared.Table.{Table}
+use Rattle.table.proofs.Bools.{and-both}
+use Rattle.table.proofs.Lists.{take-more}
+use Rattle.table.proofs.Load.{load-whole, load-fault, faulty-form, faulty-seen, faulty-late, wellFormed-range}
+use Rattle.table.proofs.Repeat.{seen-at}
+use Rattle.table.proofs.Schemas.{words-schema}
+use Rattle.table.proofs.Valid.{range-at, parts}
 use Rattle.table_index.specs.internal.Cells.{insertedBefore, prefixEnd, prefixLength, insertedWords, allInserted, indexed}
 use Rattle.table_index.proofs.Words.{Small, small}
 use Rattle.table_index.proofs.AcceptedPrefix.{wordsOf, prefix-few, within, each-good, apart, stopped, prefix-schema}

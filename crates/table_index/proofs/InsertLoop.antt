@@ -8,9 +8,9 @@ use mathlib.Core.List.{List}
 use lib.ListN.{length, take, drop, getD}
 use lib.Dec.{eqb, ltb}
 use borrow.Author.Tests.{eq-eqb, ne-eqb, ltb-true, ltb-false}
-use Rattle.hproto_table.specs.Entry.{entry}
-use Rattle.hproto_table.specs.Load.{inRange, recordAt, wordAt, wellFormed}
-use Rattle.hproto_table.proofs.Load.{wellFormed-range}
+use Rattle.table.specs.Entry.{entry}
+use Rattle.table.specs.Load.{inRange, recordAt, wordAt, wellFormed}
+use Rattle.table.proofs.Load.{wellFormed-range}
 use Rattle.table_index.specs.internal.Record.{recordOf}
 use Rattle.table_index.specs.declared.record.Record.the-variants.{Word, Wrong}
 use Rattle.table_index.proofs.RecordLaws.{place-is, recordOf-word, recordOf-wrong, record-cut}

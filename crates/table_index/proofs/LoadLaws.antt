@@ -12,11 +12,11 @@ use lib.Dec.{ltb}
 use borrow.Author.Count.{below-more}
 use borrow.Author.Tests.{ltb-true, ltb-false}
 use Rattle.octets.specs.Number.{bigEndian}
-use Rattle.hproto_table.specs.Entry.{entry}
-use Rattle.hproto_table.specs.Load.{inRange, wellFormed, recordAt, wordAt, wordsBefore, pair, seen, faulty, refused, accepted, tableOf, load}
-use Rattle.hproto_table.specs.Repeat.{distinct}
-use Rattle.hproto_table.specs.declared.Loaded.{Loaded}
-use Rattle.hproto_table.proofs.Load.{length-words, words-take, words-at, wellFormed-whole, wellFormed-range, faulty-form, faulty-seen, faulty-late, load-whole, load-fault}
+use Rattle.table.specs.Entry.{entry}
+use Rattle.table.specs.Load.{inRange, wellFormed, recordAt, wordAt, wordsBefore, pair, seen, faulty, refused, accepted, tableOf, load}
+use Rattle.table.specs.Repeat.{distinct}
+use Rattle.table.specs.declared.Loaded.{Loaded}
+use Rattle.table.proofs.Load.{length-words, words-take, words-at, wellFormed-whole, wellFormed-range, faulty-form, faulty-seen, faulty-late, load-whole, load-fault}
 use Rattle.table_index.specs.internal.Record.{recordOf}
 use Rattle.table_index.specs.declared.record.Record.the-variants.{Word, Wrong}
 use Rattle.table_index.proofs.RecordLaws.{place-is, recordOf-word, recordOf-wrong, record-cut}

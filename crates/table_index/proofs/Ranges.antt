@@ -5,8 +5,8 @@ use mathlib.Core.Path.{_≡_, refl, sym}
 use mathlib.Core.Bool.{Bool, true, false, cond, _&&_, and-false}
 use lib.Dec.{eqb, leb, ltb}
 use borrow.Author.Tests.{ne-eqb, le-leb, leb-true, leb-false, lt-ltb, le-ltb}
-use Rattle.hproto_table.specs.Entry.{entry}
-use Rattle.hproto_table.specs.Load.{inRange}
+use Rattle.table.specs.Entry.{entry}
+use Rattle.table.specs.Load.{inRange}
 
 -- The test over an entry's numbers.
 abbrev test : ℕ → ℕ → ℕ → Bool

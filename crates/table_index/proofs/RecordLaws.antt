@@ -11,9 +11,9 @@ use lib.Seq.{drop-cons}
 use lib.Dec.{eqb}
 use borrow.Author.Tests.{ne-eqb}
 use Rattle.octets.specs.Number.{bigEndian}
-use Rattle.hproto_table.specs.Entry.{entry}
-use Rattle.hproto_table.specs.Load.{inRange, wellFormed, recordAt}
-use Rattle.hproto_table.proofs.Load.{wellFormed-whole}
+use Rattle.table.specs.Entry.{entry}
+use Rattle.table.specs.Load.{inRange, wellFormed, recordAt}
+use Rattle.table.proofs.Load.{wellFormed-whole}
 use Rattle.table_index.specs.internal.Record.{recordOf}
 use Rattle.table_index.specs.declared.record.Record.{Record}
 use Rattle.table_index.specs.declared.record.Record.the-variants.{Word, Wrong}

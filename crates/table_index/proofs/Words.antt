@@ -5,11 +5,11 @@ use mathlib.Core.Path.{_≡_, refl, sym, ap, _∙_}
 use mathlib.Core.Bool.{Bool, true, false, cond, _&&_}
 use lib.Dec.{eqb, leb, ltb}
 use borrow.Author.Tests.{eqb-true, eqb-false, eq-eqb, ne-eqb, leb-true, ltb-true, ltb-false}
-use Rattle.hproto_table.specs.Entry.{entry, meaning}
-use Rattle.hproto_table.specs.Load.{inRange, pair}
-use Rattle.hproto_table.specs.declared.Meaning.{Meaning}
-use Rattle.hproto_table.specs.declared.Meaning.the-variants.{Raw, Uint, Int, String, Text, Message}
-use Rattle.hproto_table.proofs.Bools.{and-four}
+use Rattle.table.specs.Entry.{entry, meaning}
+use Rattle.table.specs.Load.{inRange, pair}
+use Rattle.table.specs.declared.Meaning.{Meaning}
+use Rattle.table.specs.declared.Meaning.the-variants.{Raw, Uint, Int, String, Text, Message}
+use Rattle.table.proofs.Bools.{and-four}
 use Rattle.table_index.specs.internal.Cells.{keysFrom, keyOf, wordKey, cellOf, codeIn, meaningOf, meaningIn}
 use Rattle.table_index.proofs.Chains.{keys-small, keys-large}
 

@@ -2,18 +2,18 @@
 // A search compares the whole key, so a bucket with several entries is slower but never wrong. The loader finds repeated pairs by an index.
 mod record;
 
-use hproto_table::Loaded;
-use hproto_table::Meaning;
-use hproto_table::Table;
 use record::Record;
+use table::Loaded;
+use table::Meaning;
+use table::Table;
 ghost use mathlib.Core.Path.{_≡_};
 ghost use mathlib.Core.Bool.{true};
 ghost use Prim.Native.Nat.{_<_};
 ghost use lib.Dec.{eqb};
 ghost use lib.ListN.{take, drop};
-ghost use Rattle.hproto_table.specs.Entry.{entry, kindNumber};
-ghost use Rattle.hproto_table.specs.Load.{inRange, recordAt, wordAt, wellFormed, load as load-of, refused as refused-at};
-ghost use Rattle.hproto_table.specs.Valid.{allZero, valid as valid-of};
+ghost use Rattle.table.specs.Entry.{entry, kindNumber};
+ghost use Rattle.table.specs.Load.{inRange, recordAt, wordAt, wellFormed, load as load-of, refused as refused-at};
+ghost use Rattle.table.specs.Valid.{allZero, valid as valid-of};
 ghost use Rattle.table_index.specs.internal.Cells.{keysFrom, wordKey, cellOf, codeIn, meaningIn, orderIn, nextIn, search as search-of, insertable, linked, inserted, insertedBefore, prefixEnd, prefixLength, insertedWords, allInserted, cellFor, indexed};
 
 // Returns the first key of a message number. A search does not test the number, so a loop over fields computes this only once.

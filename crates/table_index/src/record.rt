@@ -1,11 +1,11 @@
 // Reads the records in the octets of a field table.
-use hproto_table::Table;
+use table::Table;
 ghost use mathlib.Core.Path.{_≡_};
 ghost use Prim.Native.Nat.{_+_, _≤_, _<_};
 ghost use lib.ListN.{length, take, drop, getD};
 ghost use Rattle.octets.specs.Number.{bigEndian};
-ghost use Rattle.hproto_table.specs.Entry.{entry};
-ghost use Rattle.hproto_table.specs.Load.{inRange};
+ghost use Rattle.table.specs.Entry.{entry};
+ghost use Rattle.table.specs.Load.{inRange};
 ghost use Rattle.table_index.specs.internal.Pass.{Passed};
 ghost use Rattle.table_index.specs.internal.Record.{recordOf};
 

@@ -9,7 +9,7 @@ use lib.ListN.{length, take, drop, set, length-append, length-take, length-drop,
 use lib.Seq.{sets, length-sets, length-take-le, take-nil, drop-nil, set-out, take-append-le, take-append-add, drop-append-le, drop-append-add, take-all, take-at}
 use lib.Dec.{leb}
 use borrow.Author.Tests.{leb-true, leb-false}
-use Rattle.hproto_store.proofs.Sets.{sets-append}
+use Rattle.octets_store.proofs.Sets.{sets-append}
 use Rattle.text_window.specs.Window.{window, overlay, placed, Printed}
 
 sets-nothing : (i : ℕ) (xs : List ℕ) → sets [] i xs ≡ []

@@ -5,31 +5,31 @@ use Rattle.octets.specs.Signed as signs
 use Rattle.octets.specs.Control as controls
 use Rattle.reading.specs.Reading.{onAccepted, inOrder}
 use Rattle.reading.specs.Checks as answers
-use Rattle.hproto_table.specs.Entry as entries
-use Rattle.hproto_table.specs.Schema as schemas
-use Rattle.hproto_table.specs.Load as loads
-use Rattle.hproto_table.specs.Valid as valids
-use Rattle.hproto_table.specs.Repeat as repeats
-use Rattle.hproto_message.specs.Cut as cuts
-use Rattle.hproto_message.specs.Tree as trees
-use Rattle.hproto_message.specs.Items as items
-use Rattle.hproto_message.specs.Reading as readings
-use Rattle.hproto_message.specs.Shortest as shortests
+use Rattle.table.specs.Entry as entries
+use Rattle.table.specs.Schema as schemas
+use Rattle.table.specs.Load as loads
+use Rattle.table.specs.Valid as valids
+use Rattle.table.specs.Repeat as repeats
+use Rattle.message.specs.Cut as cuts
+use Rattle.message.specs.Tree as trees
+use Rattle.message.specs.Items as items
+use Rattle.message.specs.Reading as readings
+use Rattle.message.specs.Shortest as shortests
 use Rattle.message_calls.specs.Check as checks
 use Rattle.message_calls.specs.Lookup as lookups
 use Rattle.message_calls.specs.Written.{shortestOfReading}
 use Rattle.message_calls.specs.Shorten as shortens
-use Rattle.hproto_store.specs.Store.{stored}
-use Rattle.hproto_frame.specs.Frame as frames
+use Rattle.octets_store.specs.Store.{stored}
+use Rattle.message_frame.specs.Frame as frames
 use Rattle.message_calls.specs.Calls.{checkOctets, shortenOctets, shortenBuffer, lookupOctets, lookupLastOctets, withTable}
 use Rattle.text_window.specs.Ascii.{ascii}
 use Rattle.text_window.specs.Digits as digits
-use Rattle.hproto_print.specs.Text as prints
+use Rattle.text_message.specs.Text as prints
 use Rattle.text_window.specs.Window.{window}
-use Rattle.hproto_show.specs.Output as shows
-use Rattle.hproto_state.specs.Sound as sounds
-use Rattle.hproto_state.specs.Calls as calls
-use Rattle.hproto_state.specs.Answer as writes
+use Rattle.text_show.specs.Output as shows
+use Rattle.writer_state.specs.Sound as sounds
+use Rattle.writer_state.specs.Calls as calls
+use Rattle.writer_state.specs.Answer as writes
 use Rattle.tib_real.specs.Parts as parts
 use Rattle.tib_real.specs.Widened as wide
 use Rattle.tib_real.specs.FromOctets as fromOctets

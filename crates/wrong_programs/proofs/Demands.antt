@@ -15,10 +15,10 @@ use Rattle.reading.specs.Reading.{messageLimit}
 use Rattle.reading.specs.Checks.{refusal}
 use Rattle.reading.specs.declared.Checked.{Checked}
 use Rattle.octets.specs.Number.{Octets}
-use Rattle.hproto_table.specs.Load.{load}
-use Rattle.hproto_table.specs.Schema.{Schema, schema}
-use Rattle.hproto_table.specs.declared.Loaded.{Loaded}
-use Rattle.hproto_message.specs.ReadTheSame.{HasCut, IsShortest, ReadTheSame, OthersMore}
+use Rattle.table.specs.Load.{load}
+use Rattle.table.specs.Schema.{Schema, schema}
+use Rattle.table.specs.declared.Loaded.{Loaded}
+use Rattle.message.specs.ReadTheSame.{HasCut, IsShortest, ReadTheSame, OthersMore}
 use Rattle.message_calls.specs.Demand3.{Demand3Holds, Shortens}
 use Rattle.message_calls.specs.declared.Shortened.{Shortened}
 use Rattle.message_calls.specs.Calls.{checkOctets, shortenOctets, shortenBuffer}

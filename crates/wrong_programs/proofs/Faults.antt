@@ -8,13 +8,13 @@ use lib.ListN.{length, take, getD}
 use lib.Seq.{getD-take}
 use lib.Dec.{leb, eqb}
 use borrow.Author.Tests.{leb-true, eqb-true}
-use Rattle.hproto_table.specs.Valid.{valid}
-use Rattle.hproto_table.specs.declared.Table.{Table}
-use Rattle.hproto_table.proofs.Bools.{and-left, and-right}
-use Rattle.hproto_table.proofs.Valid.{valid-loadable}
-use Rattle.hproto_state.specs.Sound.{falling, small, sound}
-use Rattle.hproto_state.specs.declared.State.{State}
-use Rattle.hproto_state.proofs.SoundStates.{sound-within, sound-few, last-mark}
+use Rattle.table.specs.Valid.{valid}
+use Rattle.table.specs.declared.Table.{Table}
+use Rattle.table.proofs.Bools.{and-left, and-right}
+use Rattle.table.proofs.Valid.{valid-loadable}
+use Rattle.writer_state.specs.Sound.{falling, small, sound}
+use Rattle.writer_state.specs.declared.State.{State}
+use Rattle.writer_state.proofs.SoundStates.{sound-within, sound-few, last-mark}
 use Rattle.wrong_programs.specs.Kinds.{refusal-of}
 use Rattle.wrong_programs.specs.Faults.{BadTableRuledOut, BadStateRuledOut}
 use Rattle.wrong_programs.proofs.RulingOut.{accepts-some}

@@ -5,8 +5,8 @@ use mathlib.Core.List.{[], _∷_}
 use lib.ListN.{length, getD}
 use lib.Dec.{T, ltb}
 use borrow.Author.Tests.{eqb-false}
-use Rattle.hproto_frame.specs.Frame.{readRefused, readAccepted}
-use Rattle.hproto_frame.specs.declared.FrameRead.{FrameRead}
+use Rattle.message_frame.specs.Frame.{readRefused, readAccepted}
+use Rattle.message_frame.specs.declared.FrameRead.{FrameRead}
 use Rattle.wrong_programs.specs.Kinds.{RuledOut, Rejects, Accepts, Invents, SeesOnly, always, due}
 use Rattle.wrong_programs.specs.FrameRead.{FrameReadCall, frameRead}
 use Rattle.wrong_programs.proofs.RulingOut.{Sample, given, rejects, accepts, invents, sees-only}

@@ -6,8 +6,8 @@ use lib.ListN.{getD, replicate}
 use lib.ListN as lists
 use lib.Dec.{T, ltb}
 use borrow.Author.Tests.{eqb-false}
-use Rattle.hproto_frame.specs.Frame.{writeRefused}
-use Rattle.hproto_frame.specs.declared.FrameWritten.{FrameWritten}
+use Rattle.message_frame.specs.Frame.{writeRefused}
+use Rattle.message_frame.specs.declared.FrameWritten.{FrameWritten}
 use Rattle.wrong_programs.specs.Kinds.{RuledOut, Rejects, Accepts, Invents, SeesOnly, always, due}
 use Rattle.wrong_programs.specs.FrameWrite.{FrameWriteInput, FrameWriteCall, frameWrite}
 use Rattle.wrong_programs.proofs.RulingOut.{Sample, given, rejects, accepts, invents, sees-only}

@@ -4,8 +4,8 @@ use mathlib.Core.Path.{_≡_, refl}
 use mathlib.Core.List.{[], _∷_, _++_}
 use lib.ListN.{length, getD}
 use borrow.Author.Tests.{eqb-false}
-use Rattle.hproto_table.specs.Load as loads
-use Rattle.hproto_table.specs.declared.Loaded.{Loaded}
+use Rattle.table.specs.Load as loads
+use Rattle.table.specs.declared.Loaded.{Loaded}
 use Rattle.wrong_programs.specs.Kinds.{RuledOut, Rejects, Accepts, Invents, SeesOnly, always, due}
 use Rattle.wrong_programs.specs.Load.{LoadCall, load}
 use Rattle.wrong_programs.proofs.RulingOut.{Sample, given, rejects, accepts, invents, sees-only}

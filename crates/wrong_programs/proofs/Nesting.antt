@@ -5,9 +5,9 @@ use mathlib.Core.List.{List, [], _∷_}
 use lib.ListN.{getD, take}
 use lib.Dec.{T, ltb}
 use borrow.Author.Tests.{eqb-false}
-use Rattle.hproto_table.specs.declared.Table.{Table}
-use Rattle.hproto_state.specs.declared.State.{State}
-use Rattle.hproto_state.specs.declared.Written.{Written}
+use Rattle.table.specs.declared.Table.{Table}
+use Rattle.writer_state.specs.declared.State.{State}
+use Rattle.writer_state.specs.declared.Written.{Written}
 use Rattle.wrong_programs.specs.Kinds.{RuledOut, Rejects, Accepts, Invents, SeesOnly, always, due}
 use Rattle.wrong_programs.specs.Writer.{OpenInput, OpenCall, CloseInput, CloseCall, Outcome, openField, closeField}
 use Rattle.wrong_programs.proofs.RulingOut.{Sample, given, rejects, accepts, invents, sees-only, differ-at}

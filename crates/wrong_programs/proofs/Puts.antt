@@ -5,9 +5,9 @@ use mathlib.Core.List.{List, [], _∷_}
 use lib.Dec.{T, ltb}
 use lib.IntN.{pos}
 use borrow.Author.Tests.{eqb-false}
-use Rattle.hproto_table.specs.declared.Table.{Table}
-use Rattle.hproto_state.specs.Sound.{sound}
-use Rattle.hproto_state.specs.declared.State.{State}
+use Rattle.table.specs.declared.Table.{Table}
+use Rattle.writer_state.specs.Sound.{sound}
+use Rattle.writer_state.specs.declared.State.{State}
 use Rattle.wrong_programs.specs.Kinds.{RuledOut, Rejects, Accepts, Invents, SeesOnly, always, due}
 use Rattle.wrong_programs.specs.Writer.{Put, uint, int, octets, Value, PutInput, PutCall, Outcome, putFits, put}
 use Rattle.wrong_programs.proofs.RulingOut.{Sample, given, fixes, rejects, accepts, invents, sees-only, differ-at}

@@ -6,18 +6,18 @@ use mathlib.Core.List.{List, []}
 use lib.ListN.{length}
 use lib.Dec.{ltb, eqb}
 use Rattle.reading.specs.Reading.{messageLimit}
-use Rattle.hproto_table.specs.Load.{load}
-use Rattle.hproto_table.specs.declared.Loaded.{Loaded}
+use Rattle.table.specs.Load.{load}
+use Rattle.table.specs.declared.Loaded.{Loaded}
 use Rattle.message_calls.specs.Shorten as shortens
 use Rattle.message_calls.specs.declared.Shortened.{Shortened}
 use Rattle.message_calls.proofs.ShortenAnswers.{refused-leaves}
-use Rattle.hproto_frame.specs.declared.FrameWritten.{FrameWritten}
-use Rattle.hproto_frame.proofs.FrameWriteAnswers.{frame-refused-leaves}
+use Rattle.message_frame.specs.declared.FrameWritten.{FrameWritten}
+use Rattle.message_frame.proofs.FrameWriteAnswers.{frame-refused-leaves}
 use Rattle.message_calls.specs.Calls.{shortenOctets, shortenBuffer, withTable}
-use Rattle.hproto_state.specs.Call.{openField, closeField}
-use Rattle.hproto_state.specs.declared.State.{State}
-use Rattle.hproto_state.specs.declared.Written.{Written}
-use Rattle.hproto_written.proofs.Unchanged.{refused-unchanged}
+use Rattle.writer_state.specs.Call.{openField, closeField}
+use Rattle.writer_state.specs.declared.State.{State}
+use Rattle.writer_state.specs.declared.Written.{Written}
+use Rattle.writer_laws.proofs.Unchanged.{refused-unchanged}
 use Rattle.wrong_programs.specs.Kinds.{RuledOut, Changes, rejectedBy}
 use Rattle.wrong_programs.specs.Shorten as shortener
 use Rattle.wrong_programs.specs.FrameWrite as framer

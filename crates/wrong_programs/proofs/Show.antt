@@ -1,4 +1,4 @@
--- Wrong programs in the place of hproto_show::show.
+-- Wrong programs in the place of text_show::show.
 use Prim.Native.Nat.{ℕ, _+_, _%_}
 use mathlib.Core.Path.{_≡_, refl}
 use mathlib.Core.Bool.{_&&_}

@@ -1,4 +1,4 @@
--- Wrong programs in the place of start and finish, and of hproto_state::sound.
+-- Wrong programs in the place of start and finish, and of writer_state::sound.
 use Prim.Native.Nat.{ℕ}
 use mathlib.Core.Path.{refl}
 use mathlib.Core.Bool.{true}
@@ -6,11 +6,11 @@ use mathlib.Core.List.{List, [], _∷_}
 use lib.ListN.{getD}
 use lib.Dec.{T, ltb}
 use borrow.Author.Tests.{eqb-false}
-use Rattle.hproto_table.specs.declared.Table.{Table}
-use Rattle.hproto_state.specs.Calls.{begun}
-use Rattle.hproto_state.specs.declared.State.{State}
-use Rattle.hproto_state.specs.declared.Written.{Written}
-use Rattle.hproto_state.specs.declared.Finished.{Finished}
+use Rattle.table.specs.declared.Table.{Table}
+use Rattle.writer_state.specs.Calls.{begun}
+use Rattle.writer_state.specs.declared.State.{State}
+use Rattle.writer_state.specs.declared.Written.{Written}
+use Rattle.writer_state.specs.declared.Finished.{Finished}
 use Rattle.wrong_programs.specs.Kinds.{RuledOut, Rejects, Accepts, SeesOnly, always, due, refusal-of}
 use Rattle.wrong_programs.specs.Writer.{StartInput, StartCall, StateCall, start, finish, soundState}
 use Rattle.wrong_programs.proofs.RulingOut.{Sample, given, rejects, accepts, sees-only}

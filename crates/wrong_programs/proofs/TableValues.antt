@@ -11,9 +11,9 @@ use borrow.Author.Tests.{eqb-true}
 use Rattle.reading.specs.Reading.{messageLimit}
 use Rattle.reading.specs.Checks as answers
 use Rattle.reading.specs.declared.Checked.{Checked}
-use Rattle.hproto_table.specs.Schema.{schema}
-use Rattle.hproto_table.specs.Valid.{valid}
-use Rattle.hproto_table.specs.declared.Table.{Table}
+use Rattle.table.specs.Schema.{schema}
+use Rattle.table.specs.Valid.{valid}
+use Rattle.table.specs.declared.Table.{Table}
 use Rattle.message_calls.specs.Check as checks
 use Rattle.message_calls.specs.Lookup as lookups
 use Rattle.message_calls.specs.declared.Found.{Found}

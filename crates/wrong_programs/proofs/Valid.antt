@@ -6,7 +6,7 @@ use mathlib.Core.List.{List, _∷_}
 use lib.ListN.{take, replicate}
 use lib.Dec.{T, ltb}
 use borrow.Author.Tests.{eqb-false}
-use Rattle.hproto_table.specs.declared.Table.{Table}
+use Rattle.table.specs.declared.Table.{Table}
 use Rattle.wrong_programs.specs.Kinds.{RuledOut, Rejects, Accepts, SeesOnly, always, refusal-of}
 use Rattle.wrong_programs.specs.Valid.{ValidCall, valid}
 use Rattle.wrong_programs.proofs.RulingOut.{Sample, given, rejects, accepts, sees-only}

@@ -6,16 +6,16 @@ use mathlib.Core.Bool.{true}
 use lib.ListN.{length}
 use lib.Dec.{eqb}
 use borrow.Author.Tests.{eqb-true}
-use Rattle.hproto_table.specs.Valid.{valid}
-use Rattle.hproto_table.specs.declared.Table.{Table}
-use Rattle.hproto_state.specs.Sound.{sound}
-use Rattle.hproto_state.specs.Answer as writes
-use Rattle.hproto_state.specs.Calls as calls
-use Rattle.hproto_state.specs.Calls.{orRefuse}
-use Rattle.hproto_state.specs.declared.State.{State}
-use Rattle.hproto_state.specs.declared.Written.{Written}
-use Rattle.hproto_state.specs.declared.Finished.{Finished}
-use Rattle.hproto_state.proofs.Conditions.{passed as met, StartMet, start-met}
+use Rattle.table.specs.Valid.{valid}
+use Rattle.table.specs.declared.Table.{Table}
+use Rattle.writer_state.specs.Sound.{sound}
+use Rattle.writer_state.specs.Answer as writes
+use Rattle.writer_state.specs.Calls as calls
+use Rattle.writer_state.specs.Calls.{orRefuse}
+use Rattle.writer_state.specs.declared.State.{State}
+use Rattle.writer_state.specs.declared.Written.{Written}
+use Rattle.writer_state.specs.declared.Finished.{Finished}
+use Rattle.writer_state.proofs.Conditions.{passed as met, StartMet, start-met}
 use Rattle.wrong_programs.specs.Kinds as kinds
 use Rattle.wrong_programs.specs.Kinds.{RuledOut, AcceptsSome, refusal-of}
 use Rattle.wrong_programs.specs.Writer as writing

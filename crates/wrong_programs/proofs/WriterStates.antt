@@ -2,10 +2,10 @@
 use Prim.Native.Nat.{ℕ, _-_}
 use mathlib.Core.List.{List, [], _∷_, _++_}
 use lib.ListN.{length, replicate}
-use Rattle.hproto_table.specs.Load.{load}
-use Rattle.hproto_table.specs.declared.Table.{Table}
-use Rattle.hproto_state.specs.declared.State.{State}
-use Rattle.hproto_state.specs.declared.Written.{Written}
+use Rattle.table.specs.Load.{load}
+use Rattle.table.specs.declared.Table.{Table}
+use Rattle.writer_state.specs.declared.State.{State}
+use Rattle.writer_state.specs.declared.Written.{Written}
 use Rattle.wrong_programs.specs.Writer.{Outcome}
 
 -- The tags 1 and 2 have this kind in messages of the number 0. A message in them has the number 0 too.

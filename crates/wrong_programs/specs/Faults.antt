@@ -1,9 +1,9 @@
 -- Table values and states that no program may accept. Nothing is said of the program's answer to any other call.
 use Prim.Native.Nat.{ℕ, suc, _≤_, _<_}
 use lib.ListN.{getD}
-use Rattle.hproto_table.specs.Load.{Loadable}
-use Rattle.hproto_table.specs.declared.Table.{Table}
-use Rattle.hproto_state.specs.declared.State.{State}
+use Rattle.table.specs.Load.{Loadable}
+use Rattle.table.specs.declared.Table.{Table}
+use Rattle.writer_state.specs.declared.State.{State}
 use Rattle.wrong_programs.specs.Kinds.{RuledOut, AcceptsSome}
 
 -- Programs that accept a table value that the loader cannot give. `table` is the table value in a call.

@@ -1,6 +1,6 @@
 -- The arguments of a call of the frame reader, and the answer that its contract fixes.
-use Rattle.hproto_frame.specs.Frame as frames
-use Rattle.hproto_frame.specs.declared.FrameRead.{FrameRead}
+use Rattle.message_frame.specs.Frame as frames
+use Rattle.message_frame.specs.declared.FrameRead.{FrameRead}
 use Rattle.wrong_programs.specs.Kinds.{Given, octets}
 
 abbrev pub FrameReadCall : Type 0

@@ -3,8 +3,8 @@ use mathlib.Core.Bool.{Bool, _&&_}
 use Prim.Native.Nat.{ℕ}
 use mathlib.Core.List.{List}
 use lib.ListN.{length}
-use Rattle.hproto_frame.specs.Frame.{frameWritten, frameStored}
-use Rattle.hproto_frame.specs.declared.FrameWritten.{FrameWritten}
+use Rattle.message_frame.specs.Frame.{frameWritten, frameStored}
+use Rattle.message_frame.specs.declared.FrameWritten.{FrameWritten}
 use Rattle.wrong_programs.specs.Kinds.{Given, octets}
 
 pub record FrameWriteInput : Type 0 where

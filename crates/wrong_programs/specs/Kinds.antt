@@ -5,7 +5,7 @@ use mathlib.Core.Bool.{Bool, true, cond, _&&_}
 use mathlib.Core.List.{List, [], _∷_}
 use lib.ListN.{length}
 use lib.Dec.{T, eqb, ltb}
-use Rattle.hproto_table.specs.declared.Table.{Table}
+use Rattle.table.specs.declared.Table.{Table}
 
 -- No program of a kind meets the contract that its answer is `right`.
 unfoldable pub RuledOut : {A B : Type 0} → ((A → B) → Type 0) → (A → B) → Type 0

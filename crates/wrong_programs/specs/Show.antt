@@ -4,7 +4,7 @@ use mathlib.Core.Bool.{Bool, _&&_}
 use mathlib.Core.List.{List}
 use lib.ListN.{length}
 use Rattle.text_window.specs.Window.{window}
-use Rattle.hproto_show.specs.Output.{output}
+use Rattle.text_show.specs.Output.{output}
 use Rattle.wrong_programs.specs.Kinds.{Given, octets, word}
 
 pub record ShowInput : Type 0 where
@@ -18,6 +18,6 @@ fits x = octets (x .input) && word (x .from) && octets (x .out)
 abbrev pub ShowCall : Type 0
 ShowCall = Given fits
 
--- The contract of hproto_show::show: the length of the text, and the buffer afterwards.
+-- The contract of text_show::show: the length of the text, and the buffer afterwards.
 unfoldable pub show : ShowCall → ℕ × List ℕ
 show x = (length (output (x .value .input)), window (x .value .out) (x .value .from) (output (x .value .input)))

@@ -3,7 +3,7 @@ use Prim.Native.Nat.{ℕ}
 use mathlib.Core.Bool.{Bool, _&&_}
 use mathlib.Core.List.{List}
 use Rattle.reading.specs.declared.Checked.{Checked}
-use Rattle.hproto_table.specs.declared.Table.{Table}
+use Rattle.table.specs.declared.Table.{Table}
 use Rattle.message_calls.specs.Check as checks
 use Rattle.message_calls.specs.Lookup as lookups
 use Rattle.message_calls.specs.declared.Found.{Found}

@@ -1,6 +1,6 @@
 -- The arguments of a call of the test of a table value, and the answer that its contract fixes.
 use mathlib.Core.Bool.{Bool}
-use Rattle.hproto_table.specs.Valid as valids
+use Rattle.table.specs.Valid as valids
 use Rattle.wrong_programs.specs.Kinds.{Given, table}
 
 abbrev pub ValidCall : Type 0

@@ -5,15 +5,15 @@ use mathlib.Core.List.{List, []}
 use lib.Dec.{ltb}
 use lib.IntN.{ℤ, pos, negsuc}
 use lib.ListN.{length}
-use Rattle.hproto_table.specs.declared.Table.{Table}
-use Rattle.hproto_state.specs.Sound.{sound}
-use Rattle.hproto_state.specs.Call as calls
-use Rattle.hproto_state.specs.Call.{Call, putUint, putInt, putOctets}
-use Rattle.hproto_state.specs.Answer as writes
-use Rattle.hproto_state.specs.Calls.{started, finished}
-use Rattle.hproto_state.specs.declared.State.{State}
-use Rattle.hproto_state.specs.declared.Written.{Written}
-use Rattle.hproto_state.specs.declared.Finished.{Finished}
+use Rattle.table.specs.declared.Table.{Table}
+use Rattle.writer_state.specs.Sound.{sound}
+use Rattle.writer_state.specs.Call as calls
+use Rattle.writer_state.specs.Call.{Call, putUint, putInt, putOctets}
+use Rattle.writer_state.specs.Answer as writes
+use Rattle.writer_state.specs.Calls.{started, finished}
+use Rattle.writer_state.specs.declared.State.{State}
+use Rattle.writer_state.specs.declared.Written.{Written}
+use Rattle.writer_state.specs.declared.Finished.{Finished}
 use Rattle.wrong_programs.specs.Kinds as kinds
 use Rattle.wrong_programs.specs.Kinds.{Given, word, array}
 

@@ -2,7 +2,7 @@
 use Prim.Native.Nat.{ℕ}
 use native.Mathlib.Omega.{arith}
 use mathlib.Core.Path.{_∙_}
-use Rattle.hproto_table.specs.declared.Table.{Table}
+use Rattle.table.specs.declared.Table.{Table}
 use Rattle.message_calls.specs.Shorten.{answer, buffer, refusal}
 use Rattle.octets.proofs.Number.{octets-of-slice}
 use Rattle.table_index.proofs.IndexLaws.{octets-few}

@@ -3,8 +3,8 @@ use Prim.Native.Nat.{ℕ}
 use mathlib.Core.Bool.{cond}
 use mathlib.Core.List.{List}
 use lib.Dec.{eqb}
-use Rattle.hproto_table.specs.Schema.{Schema}
-use Rattle.hproto_message.specs.Reading.{reading}
+use Rattle.table.specs.Schema.{Schema}
+use Rattle.message.specs.Reading.{reading}
 use Rattle.message_calls.specs.Check.{checkUnder}
 use Rattle.message_calls.specs.Lookup.{refusal, foundIn}
 use Rattle.message_calls.specs.declared.outermost.Occurrence.{Occurrence}

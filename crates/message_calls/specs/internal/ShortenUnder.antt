@@ -1,7 +1,7 @@
 -- The shortener under any schema.
 use Prim.Native.Nat.{ℕ}
 use mathlib.Core.List.{List}
-use Rattle.hproto_table.specs.Schema.{Schema}
+use Rattle.table.specs.Schema.{Schema}
 use Rattle.message_calls.specs.Check.{checkUnder}
 use Rattle.message_calls.specs.declared.Shortened.{Shortened}
 use Rattle.message_calls.specs.Shorten.{shortenResult, resultBuffer, shortestUnder}

@@ -8,9 +8,9 @@ use lib.ListN.{length, drop, getElem?}
 use lib.IntN.{ℤ, pos}
 use lib.Dec.{eqb}
 use Rattle.octets.specs.internal.Bounded.{unsigned, signed}
-use Rattle.hproto_field.specs.internal.Heads.{headAt}
-use Rattle.hproto_field.specs.declared.Head.{Head}
-use Rattle.hproto_field.specs.declared.Head.the-variants as head
+use Rattle.message_field.specs.internal.Heads.{headAt}
+use Rattle.message_field.specs.declared.Head.{Head}
+use Rattle.message_field.specs.declared.Head.the-variants as head
 use Rattle.message_calls.specs.Lookup.{lastOr}
 use Rattle.message_calls.specs.declared.outermost.Occurrence.{Occurrence}
 use Rattle.message_calls.specs.declared.outermost.Occurrence.the-variants.{Nth, Last}

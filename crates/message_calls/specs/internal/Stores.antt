@@ -3,9 +3,9 @@ use Prim.Native.Nat.{ℕ, _+_}
 use mathlib.Core.Path.{_≡_}
 use mathlib.Core.List.{List}
 use lib.ListN.{length}
-use Rattle.hproto_store.specs.Store.{stored}
-use Rattle.hproto_table.specs.Schema.{Schema}
-use Rattle.hproto_message.specs.Reading.{messageFrom}
+use Rattle.octets_store.specs.Store.{stored}
+use Rattle.table.specs.Schema.{Schema}
+use Rattle.message.specs.Reading.{messageFrom}
 use Rattle.message_calls.specs.Written.{shortestOfReading}
 
 -- The shortest form of a message of a number, at most `levels` messages deep.

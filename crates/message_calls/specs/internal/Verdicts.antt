@@ -3,7 +3,7 @@ use Prim.Native.Nat.{ℕ, _+_}
 use Rattle.reading.specs.Reading.{Reading}
 use Rattle.reading.specs.internal.Verdicts.{verdictOf}
 use Rattle.reading.specs.declared.Verdict.{Verdict}
-use Rattle.hproto_message.specs.Cut.{Cut, end, leaf, nested, depth}
+use Rattle.message.specs.Cut.{Cut, end, leaf, nested, depth}
 
 -- The count of fields of a cut, at all depths.
 unfoldable pub fields : Cut → ℕ

@@ -1,7 +1,7 @@
 -- `cell_of` returns what its definition says: the key is below 2^21, the code below 32.
 use native.Mathlib.Omega.{arith}
 use Rattle.table_index.specs.internal.Cells.{cellOf}
-use Rattle.hproto_table.specs.Entry.{entry}
+use Rattle.table.specs.Entry.{entry}
 use Rattle.table_index.proofs.Words.{small, key-low}
 use borrow.Author.Needs.{needs}
 use Rattle.table_index.proofs.cell_of.Statement.{statement}

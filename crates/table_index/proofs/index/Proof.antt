@@ -3,7 +3,7 @@ use Prim.Native.Nat.{_-_}
 use native.Mathlib.Omega.{arith}
 use mathlib.Core.Path.{sym, _∙_}
 use borrow.Author.Tests.{not-true, not-false}
-use Rattle.hproto_table.specs.Load.{recordAt, wordAt, wellFormed}
+use Rattle.table.specs.Load.{recordAt, wordAt, wellFormed}
 use Rattle.table_index.proofs.InsertLoop.{InsertLoop, insert-loop-starts, octets-end, insert-loop-bad, insert-loop-repeated, insert-loop-continues, record-wrong, record-formed, record-word, record-range}
 use borrow.Author.Needs.{needs}
 use Rattle.table_index.proofs.index.Statement.{statement}

@@ -4,7 +4,7 @@ use Prim.Native.Nat.{ℕ, _-_, min}
 use mathlib.Core.Path.{_≡_, ap, _∙_}
 use mathlib.Core.List.{List}
 use lib.ListN.{length, take}
-use Rattle.hproto_table.proofs.Lists.{take-min}
+use Rattle.table.proofs.Lists.{take-min}
 use Rattle.table_index.specs.internal.Cells.{prefixLength, insertedWords}
 use borrow.Author.Needs.{needs}
 use Rattle.table_index.proofs.index_words.Statement.{statement}

@@ -1,4 +1,4 @@
-use Rattle.hproto_table.specs.Entry.{kindNumber}
+use Rattle.table.specs.Entry.{kindNumber}
 use borrow.Author.Needs.{needs}
 use Rattle.table_index.proofs.kind_number.Statement.{statement}
 use Rattle.table_index.proofs.kind_number.Tie as tie

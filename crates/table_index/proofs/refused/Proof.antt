@@ -1,5 +1,5 @@
 use mathlib.Core.Path.{refl}
-use Rattle.hproto_table.specs.Load.{refused, tableOf}
+use Rattle.table.specs.Load.{refused, tableOf}
 use Rattle.table_index.proofs.refused.Statement.{statement}
 use Rattle.table_index.proofs.refused.Tie as tie
 

@@ -5,7 +5,7 @@ use mathlib.Core.Path.{_≡_, refl, sym, _∙_}
 use mathlib.Core.Bool.{_&&_}
 use lib.Dec.{eqb}
 use lib.ListN.{length, drop}
-use Rattle.hproto_table.specs.Valid.{allZero}
+use Rattle.table.specs.Valid.{allZero}
 use Rattle.table_index.proofs.Zeros.{zero-ends, zero-moves}
 use Rattle.table_index.proofs.unused.Statement.{statement}
 use Rattle.table_index.proofs.unused.Tie as tie

@@ -7,12 +7,12 @@ use mathlib.Core.Bool.{Bool, cond, _&&_}
 use mathlib.Core.List.{List}
 use lib.ListN.{length, take, drop, getD, set}
 use lib.Dec.{eqb, leb, ltb}
-use Rattle.hproto_table.specs.Entry.{entry}
-use Rattle.hproto_table.specs.Load.{inRange}
-use Rattle.hproto_table.specs.Schema.{Schema}
-use Rattle.hproto_table.specs.Valid.{allZero}
-use Rattle.hproto_table.specs.declared.Meaning.{Meaning}
-use Rattle.hproto_table.specs.declared.Meaning.the-variants.{Raw, Uint, Int, String, Text, Message}
+use Rattle.table.specs.Entry.{entry}
+use Rattle.table.specs.Load.{inRange}
+use Rattle.table.specs.Schema.{Schema}
+use Rattle.table.specs.Valid.{allZero}
+use Rattle.table.specs.declared.Meaning.{Meaning}
+use Rattle.table.specs.declared.Meaning.the-variants.{Raw, Uint, Int, String, Text, Message}
 
 -- The keys of a message number begin here. Numbers are 65,581 apart, more than there are tags. Among the remainders by 64 that were
 -- counted, 45 keeps the chains short both in the bench's full table and in tables whose messages have from 4 to 32 tags in a row. No cell has

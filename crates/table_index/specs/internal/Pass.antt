@@ -4,7 +4,7 @@ use mathlib.Core.Path.{_≡_}
 use mathlib.Core.Bool.{true}
 use mathlib.Core.List.{List, _++_}
 use lib.ListN.{length, replicate}
-use Rattle.hproto_table.specs.Load.{recordAt, wellFormed, wordsBefore, faulty}
+use Rattle.table.specs.Load.{recordAt, wellFormed, wordsBefore, faulty}
 
 -- The first n records are well-formed and `words` are the words of their table. If octets follow them, the next record is faulty.
 pub record Passed (s : List ℕ) (n : ℕ) (words : List ℕ) : Type 0 where

@@ -4,7 +4,7 @@ use mathlib.Core.Bool.{cond}
 use mathlib.Core.List.{List}
 use lib.ListN.{drop}
 use Rattle.octets.specs.Number.{bigEndian}
-use Rattle.hproto_table.specs.Load.{wellFormed}
+use Rattle.table.specs.Load.{wellFormed}
 use Rattle.table_index.specs.declared.record.Record.{Record}
 use Rattle.table_index.specs.declared.record.Record.the-variants.{Word, Wrong}
 

@@ -6,9 +6,9 @@ use mathlib.Core.List.{List}
 use denote.Ref.{now}
 use lib.ListN.{length, drop}
 use lib.Seq.{take-length}
-use Rattle.hproto_field.specs.internal.Heads.{headAt}
-use Rattle.hproto_field.specs.declared.Head.the-variants.{Field}
-use Rattle.hproto_field.proofs.Heads.{fieldless}
+use Rattle.message_field.specs.internal.Heads.{headAt}
+use Rattle.message_field.specs.declared.Head.the-variants.{Field}
+use Rattle.message_field.proofs.Heads.{fieldless}
 use Rattle.message_calls.proofs.LookupLoop.{Onward, onward, Sought, nothing-sought, not-there, other-passed, reached, one-passed}
 use Rattle.message_calls.proofs.outermost.nth.Statement.{statement}
 use Rattle.message_calls.proofs.outermost.nth.Tie as tie

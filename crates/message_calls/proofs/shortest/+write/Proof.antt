@@ -5,18 +5,18 @@ use mathlib.Core.Path.{_≡_, sym, ap, _∙_, subst}
 use mathlib.Core.List.{List}
 use denote.Ref.{now}
 use lib.ListN.{length, take, drop}
-use Rattle.hproto_message.specs.internal.Accepts.{Accepts}
-use Rattle.hproto_message.proofs.Accepted.{accepts-levels}
+use Rattle.message.specs.internal.Accepts.{Accepts}
+use Rattle.message.proofs.Accepted.{accepts-levels}
 use Rattle.octets.specs.Number.{Octets}
 use Rattle.octets.specs.Control.{leastControl}
-use Rattle.hproto_table.specs.Schema.{Schema}
-use Rattle.hproto_table.specs.declared.Meaning.the-variants.{Message}
+use Rattle.table.specs.Schema.{Schema}
+use Rattle.table.specs.declared.Meaning.the-variants.{Message}
 use Rattle.table_index.specs.internal.Cells.{meaningOf, indexed}
 use Rattle.table_index.proofs.Meanings as meaning
-use Rattle.hproto_field.specs.internal.Heads.{headAt}
-use Rattle.hproto_field.specs.declared.Head.the-variants.{Field}
-use Rattle.hproto_field.proofs.Heads.{fieldless}
-use Rattle.hproto_field.proofs.FieldsByHead.{Ends}
+use Rattle.message_field.specs.internal.Heads.{headAt}
+use Rattle.message_field.specs.declared.Head.the-variants.{Field}
+use Rattle.message_field.proofs.Heads.{fieldless}
+use Rattle.message_field.proofs.FieldsByHead.{Ends}
 use Rattle.message_calls.specs.internal.Stores.{shortestWithin, Put}
 use Rattle.octets.proofs.Number.{octets-part}
 use Rattle.message_calls.proofs.Codes.{plain-code, code-means}

@@ -9,8 +9,8 @@ use lib.Seq.{take-all}
 use borrow.Author.Needs.{needs}
 use Rattle.octets.specs.Control.{control}
 use Rattle.octets.specs.declared.Control.the-variants.{Whole}
-use Rattle.hproto_field.proofs.Fields.{size-inside}
-use Rattle.hproto_field.proofs.Heads.{head-none, head-absent, head-partial, head-past, head-field}
+use Rattle.message_field.proofs.Fields.{size-inside}
+use Rattle.message_field.proofs.Heads.{head-none, head-absent, head-partial, head-past, head-field}
 use Rattle.message_calls.proofs.shortest.next_field.Statement.{statement}
 use Rattle.message_calls.proofs.shortest.next_field.Tie as tie
 

@@ -6,7 +6,7 @@ use lib.ListN.{length}
 use Rattle.octets.specs.Number.{octetsOf}
 use Rattle.octets.specs.Control.{leastControl}
 use Rattle.octets.proofs.Number.{length-octetsOf}
-use Rattle.hproto_store.proofs.Stores.{length-stored}
+use Rattle.octets_store.proofs.Stores.{length-stored}
 use Rattle.message_calls.proofs.FieldStores.{number-length, field-put}
 use Rattle.message_calls.proofs.shortest.put_least.Statement.{statement}
 use Rattle.message_calls.proofs.shortest.put_least.Tie as tie

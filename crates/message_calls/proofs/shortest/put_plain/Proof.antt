@@ -4,7 +4,7 @@ use native.Mathlib.Omega.{arith}
 use mathlib.Core.Path.{refl}
 use denote.Ref.{now}
 use lib.ListN.{length}
-use Rattle.hproto_message.proofs.Fields.{field-length}
+use Rattle.message.proofs.Fields.{field-length}
 use Rattle.message_calls.proofs.FieldStores.{field-put}
 use Rattle.message_calls.proofs.shortest.put_plain.Statement.{statement}
 use Rattle.message_calls.proofs.shortest.put_plain.Tie as tie

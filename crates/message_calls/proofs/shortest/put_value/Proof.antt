@@ -3,10 +3,10 @@ use denote.Ref.{now}
 use lib.ListN.{length}
 use Prim.Native.Nat.{ℕ, _+_, _≤_}
 use mathlib.Core.List.{List}
-use Rattle.hproto_table.specs.declared.Meaning.{Meaning}
-use Rattle.hproto_message.specs.Cut.{Contents}
-use Rattle.hproto_message.specs.Tree.{value}
-use Rattle.hproto_message.specs.Shortest.{field, leastContents}
+use Rattle.table.specs.declared.Meaning.{Meaning}
+use Rattle.message.specs.Cut.{Contents}
+use Rattle.message.specs.Tree.{value}
+use Rattle.message.specs.Shortest.{field, leastContents}
 use Rattle.message_calls.specs.internal.Stores.{Put}
 use Rattle.table_index.proofs.Meanings as means
 use Rattle.message_calls.proofs.Codes.{octets-code}

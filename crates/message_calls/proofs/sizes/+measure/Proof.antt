@@ -6,20 +6,20 @@ use mathlib.Core.List.{List}
 use denote.Ref.{now}
 use lib.ListN.{length, take, drop, length-drop, length-take}
 use lib.Seq.{take-length}
-use Rattle.hproto_message.specs.internal.Accepts.{Accepts}
-use Rattle.hproto_message.proofs.Accepted.{accepts-levels}
-use Rattle.hproto_message.specs.Tree.{value}
-use Rattle.hproto_message.specs.Shortest.{field, leastContents}
+use Rattle.message.specs.internal.Accepts.{Accepts}
+use Rattle.message.proofs.Accepted.{accepts-levels}
+use Rattle.message.specs.Tree.{value}
+use Rattle.message.specs.Shortest.{field, leastContents}
 use Rattle.octets.specs.Number.{Octets}
 use Rattle.octets.specs.Control.{leastControl}
-use Rattle.hproto_table.specs.Schema.{Schema}
-use Rattle.hproto_table.specs.declared.Meaning.the-variants.{Message}
+use Rattle.table.specs.Schema.{Schema}
+use Rattle.table.specs.declared.Meaning.the-variants.{Message}
 use Rattle.table_index.specs.internal.Cells.{meaningOf, indexed}
 use Rattle.table_index.proofs.Meanings as meaning
-use Rattle.hproto_field.specs.internal.Heads.{headAt}
-use Rattle.hproto_field.specs.declared.Head.the-variants.{Field}
-use Rattle.hproto_field.proofs.Heads.{fieldless}
-use Rattle.hproto_field.proofs.FieldsByHead.{Ends}
+use Rattle.message_field.specs.internal.Heads.{headAt}
+use Rattle.message_field.specs.declared.Head.the-variants.{Field}
+use Rattle.message_field.proofs.Heads.{fieldless}
+use Rattle.message_field.proofs.FieldsByHead.{Ends}
 use Rattle.message_calls.specs.internal.Stores.{shortestWithin}
 use Rattle.octets.proofs.Number.{octets-part}
 use Rattle.message_calls.proofs.Codes.{plain-code, code-means}
@@ -29,8 +29,8 @@ use borrow.Fn.PlainCycle.{Measures, is, falls, and}
 use Rattle.message_calls.proofs.sizes.measure.Reads as measure
 use Rattle.message_calls.proofs.sizes.measure.Kinds as measure-kinds
 use Rattle.message_calls.proofs.sizes.+measure.Lts-measure as measure-lts
-use Rattle.hproto_field.proofs.head_at.Reads as head-at-reads
-use Rattle.hproto_put.proofs.control_size.Reads as control-size-reads
+use Rattle.message_field.proofs.head_at.Reads as head-at-reads
+use Rattle.octets_put.proofs.control_size.Reads as control-size-reads
 use Rattle.table_index.proofs.code.Reads as code-reads
 use Rattle.message_calls.proofs.sizes.value_size.Reads as value-size-reads
 use Rattle.table_index.proofs.cell.Reads as cell-reads

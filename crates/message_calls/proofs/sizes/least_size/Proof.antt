@@ -1,10 +1,10 @@
 use mathlib.Core.Path.{sym, ap, _∙_, subst}
 use denote.Ref.{now}
 use lib.ListN.{length}
-use Rattle.hproto_table.specs.declared.Meaning.{Meaning}
-use Rattle.hproto_message.specs.Cut.{Contents}
-use Rattle.hproto_message.specs.Tree.{value}
-use Rattle.hproto_message.specs.Shortest.{leastContents}
+use Rattle.table.specs.declared.Meaning.{Meaning}
+use Rattle.message.specs.Cut.{Contents}
+use Rattle.message.specs.Tree.{value}
+use Rattle.message.specs.Shortest.{leastContents}
 use Rattle.table_index.proofs.Meanings as means
 use Rattle.message_calls.proofs.Codes.{octets-code}
 use borrow.Author.Needs.{needs}

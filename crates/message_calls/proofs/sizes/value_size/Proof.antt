@@ -5,9 +5,9 @@ use denote.Ref.{now}
 use lib.ListN.{length}
 use Rattle.octets.specs.Control.{leastControl}
 use Rattle.table_index.specs.internal.Cells.{meaningOf}
-use Rattle.hproto_message.specs.Tree.{value}
-use Rattle.hproto_message.specs.Shortest.{leastContents}
-use Rattle.hproto_message.proofs.Fields.{field-length}
+use Rattle.message.specs.Tree.{value}
+use Rattle.message.specs.Shortest.{leastContents}
+use Rattle.message.proofs.Fields.{field-length}
 use Rattle.message_calls.proofs.MeasureLoop.{control-few, least-few}
 use Rattle.message_calls.proofs.sizes.value_size.Statement.{statement}
 use Rattle.message_calls.proofs.sizes.value_size.Tie as tie

@@ -5,9 +5,9 @@ use mathlib.Core.Path.{_≡_, sym, ap, _∙_}
 use mathlib.Core.List.{List}
 use lib.ListN.{length, take, drop, length-take}
 use denote.Ref.{now}
-use Rattle.hproto_table.specs.Schema.{Schema}
+use Rattle.table.specs.Schema.{Schema}
 use Rattle.table_index.specs.internal.Cells.{indexed}
-use Rattle.hproto_message.specs.Reading.{messageFrom}
+use Rattle.message.specs.Reading.{messageFrom}
 use Rattle.reading.specs.internal.Verdicts.{verdictOf}
 use Rattle.message_calls.specs.internal.Verdicts as verdicts
 use Rattle.message_calls.proofs.CheckLoop.{whole, State, start, at-end, at-fault, over-leaf, leaf-ends, nested-ends, nested-turn, nested-refusal, nested-small, room-open}
@@ -17,8 +17,8 @@ use Rattle.message_calls.proofs.traversal.traverse.Reads as traverse
 use Rattle.message_calls.proofs.traversal.traverse.Kinds as traverse-kinds
 use Rattle.message_calls.proofs.traversal.+traverse.Lts-traverse as traverse-lts
 use Rattle.numbers.proofs.larger.Reads as larger-reads
-use Rattle.hproto_field.proofs.quick.Reads as quick-reads
-use Rattle.hproto_field.proofs.step.Reads as step-reads
+use Rattle.message_field.proofs.quick.Reads as quick-reads
+use Rattle.message_field.proofs.step.Reads as step-reads
 use Rattle.message_calls.proofs.traversal.+traverse.{statement}
 use Rattle.message_calls.proofs.traversal.+traverse.Tie.{close}
 

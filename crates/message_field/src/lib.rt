@@ -1,0 +1,138 @@
+// Reads the field at an offset of a message: its head, or the step over it or into it.
+use octets::Control;
+ghost use mathlib.Core.Path.{_≡_};
+ghost use Prim.Native.Nat.{_-_, _≤_};
+ghost use lib.ListN.{length, take, drop};
+ghost use Rattle.message.specs.Reading.{step as step-of, stepByKind};
+ghost use Rattle.message_field.specs.internal.Heads.{headAt};
+ghost use Rattle.message_field.specs.internal.Nexts.{nextAt, smallCode};
+ghost use Rattle.table_index.specs.internal.Cells.{meaningOf, indexed};
+
+// The head of a field: its tag and the span of its contents. Or there is no field: the message ends there, or it has a fault with this
+// refusal.
+pub enum Head {
+    End,
+    Fault(u64),
+    Field { tag: u64, start: usize, end: usize },
+}
+
+// What a message has at an offset: its end; a fault with a refusal; a field that is no message, with the offset after it; a field that is a
+// message, with its message number and the span of its contents.
+pub enum Next {
+    Done,
+    Fault(u64),
+    Over(usize),
+    Into(u64, usize, usize),
+}
+
+// The step at a whole field, by the code of its tag's kind and the span of its contents. Comparing the code takes less time than a match on
+// the kind, which the compiler makes a jump table.
+fn by_code(code: u64, s: &[u8], a: usize, e: usize) -> Next
+    requires { ⌜ (a ≤ e) × (e ≤ length (now s)) ⌝ }
+    ensures { λ r. ⌜ r ≡ nextAt a (stepByKind (meaningOf code) 0 (take (e - a) (drop a (now (s .entry))))) ⌝ }
+{
+    if 4 < code {
+        return Next::Into(code - 5, a, e);
+    }
+    if code == 4 {
+        if octets_text::text(&s[a..e]) {
+            return Next::Over(e);
+        }
+        return Next::Fault(reading::TEXT);
+    }
+    if 8 < e - a {
+        if code == 1 || code == 2 {
+            return Next::Fault(reading::NUMBER_TOO_WIDE);
+        }
+    }
+    Next::Over(e)
+}
+
+// The step at an offset of a message, under the index of a table. It compares the announced length with the count of octets after the
+// control part, because adding a place to that length could overflow.
+pub fn step(cells: &[u32; 128], number: u64, s: &[u8], i: usize) -> Next
+    ensures { λ r. ⌜ r ≡ nextAt i (step-of (indexed (now (cells .entry))) number (drop i (now (s .entry)))) ⌝ }
+{
+    match octets_read::control_at(s, i) {
+        Control::Absent => Next::Done,
+        Control::Partial => Next::Fault(reading::CUT),
+        Control::Whole { tag, length, size } => {
+            let start = i + (size as usize);
+            let remaining = (s.len() - start) as u64;
+            if remaining < length {
+                return Next::Fault(reading::PAST_THE_END);
+            }
+            let end = start + (length as usize);
+            let cell = table_index::cell(cells, number, tag);
+            by_code(table_index::code(cell), s, start, end)
+        }
+    }
+}
+
+// The code of the kind of the field at an offset, if its control part is one octet and its contents end within the message; else 32.
+fn small_code(cells: &[u32; 128], number: u64, s: &[u8], i: usize) -> u64
+    ensures { λ r. ⌜ r ≡ smallCode (now (cells .entry)) number (now (s .entry)) i ⌝ }
+{
+    if s.len() <= i {
+        return 32;
+    }
+    let c = s[i];
+    let n = (c & 15) as usize;
+    if 224 <= c || 12 <= n || s.len() - (i + 1) < n {
+        return 32;
+    }
+    table_index::code(table_index::cell(cells, number, (c >> 4) as u64))
+}
+
+// Returns the end of the field at an offset, if its control part is one octet, its contents are allowed and end within the message, and it
+// is no message. Most fields are such. Else it returns 0, and the caller calls `step`. A check that calls `step` alone takes a quarter more
+// time.
+pub fn quick(cells: &[u32; 128], number: u64, s: &[u8], i: usize) -> usize
+    ensures { λ r. ⌜ (1 ≤ r → Next.Over r ≡ nextAt i (step-of (indexed (now (cells .entry))) number (drop i (now (s .entry))))) ⌝ }
+{
+    let code = small_code(cells, number, s, i);
+    if 4 < code {
+        return 0;
+    }
+    let n = (s[i] & 15) as usize;
+    let a = i + 1;
+    let e = a + n;
+    if code == 4 {
+        if octets_text::text(&s[a..e]) {
+            return e;
+        }
+        return 0;
+    }
+    if n <= 8 || code == 0 || code == 3 {
+        return e;
+    }
+    0
+}
+
+// Returns the head of the field at the offset i of the message that ends at the offset `end` of s. `step` does not call this function but
+// reads the control part itself: this function has other callers, so the compiler does not inline it, and the check then takes up to 1.6
+// times as long.
+pub fn head_at(s: &[u8], i: usize, end: usize) -> Head
+    ensures { λ r. ⌜ r ≡ headAt i (drop i (take end (now (s .entry)))) ⌝ }
+{
+    let stop = numbers::smaller(end, s.len());
+    if stop <= i {
+        return Head::End;
+    }
+    match octets_read::control(&s[i..stop]) {
+        Control::Absent => Head::End,
+        Control::Partial => Head::Fault(reading::CUT),
+        Control::Whole { tag, length, size } => {
+            let start = i + (size as usize);
+            let rest = (stop - start) as u64;
+            if rest < length {
+                return Head::Fault(reading::PAST_THE_END);
+            }
+            Head::Field {
+                tag,
+                start,
+                end: start + (length as usize),
+            }
+        }
+    }
+}
