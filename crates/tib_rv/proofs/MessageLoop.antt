@@ -92,8 +92,8 @@ module _ (inner : Inner) (at : ℕ) (s : List ℕ) where
       abbrev message-held : Reading Fields
       message-held = inner (at + i) (at + i + lead z) (partsAt (drop i s) z .contents)
 
-      inner-walk : w ≡ verdictOf count depth message-held
-      inner-walk = let y : at + i + lead z ≡ at + a = omega arith in rw (y, data-part s i z, ← p, ← q) o
+      inner-verdict : w ≡ verdictOf count depth message-held
+      inner-verdict = let y : at + i + lead z ≡ at + a = omega arith in rw (y, data-part s i z, ← p, ← q) o
 
       pub over-nested : (g h m : ℕ) → w ≡ Accepted g h → g ≤ e - a → m ≡ max d (h + 1) → State e (f + (1 + g)) m
       unfolding fieldsFrom afterStep nestedOf count depth
@@ -103,13 +103,13 @@ module _ (inner : Inner) (at : ℕ) (s : List ℕ) where
           let l₀ = l .0 in
           let l₁ = l .1 in
           traversal.into count depth (fieldsFrom inner) at 8 s i f d now (total z) e (x .0) (x .1) q (at + i + total z) (omega arith)
-          (nestedOf (partsAt (drop i s) z)) (λ x y. refl) (λ x y. refl) message-held w g h m (rw k) inner-walk v (omega arith) n
+          (nestedOf (partsAt (drop i s) z)) (λ x y. refl) (λ x y. refl) message-held w g h m (rw k) inner-verdict v (omega arith) n
 
       pub refused-nested : (number place : ℕ) → w ≡ Refused number place → Refused number place ≡ whole
       unfolding fieldsFrom afterStep
       refused-nested number place v =
           traversal.at-nested-fault count depth (fieldsFrom inner) at 8 s i f d now (nestedOf (partsAt (drop i s) z)) message-held
-          (fieldsFrom inner (now .fuel - 1) (at + i + total z) (drop (total z) (drop i s))) w number place (rw k) inner-walk v
+          (fieldsFrom inner (now .fuel - 1) (at + i + total z) (drop (total z) (drop i s))) w number place (rw k) inner-verdict v
 
 -- A message has no more fields than octets.
 holder-length : (name m : List ℕ) → 1 + length m ≤ length (octets (holder name m))

@@ -80,7 +80,7 @@ module _ (t : ℕ) (c : After-step t) where
   abbrev bounds : (args .at + length octets ≤ 65536) × (args .levels ≤ 8)
   bounds = c .before .before .before .before .before .before .pre .1
 
-  -- What the whole message comes to, in terms of its fields.
+  -- The verdict on the whole message, by its fields.
   opened : whole sc (messageFrom sc (args .levels - 1)) (args .n) (args .at) octets
       ≡ verdicts.verdict (messageFrom sc (args .levels) (args .n) (args .from) (args .at) octets)
   opened = room-open sc (args .levels) (args .n) (args .from) (args .at) octets room-left
