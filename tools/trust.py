@@ -1,7 +1,7 @@
 #!/usr/bin/env python3
 """Checks what a reader has to believe, and prints what the demands rest on: python3 tools/trust.py, at the project's root.
 
-A definition that only serves private functions stands in a folder `internal` under specs/. The check fails where a definition outside such a
+A definition that no entry and no demand uses stands in a folder `internal` under specs/. The check fails where a definition outside such a
 folder, or the contract of an entry, cites one that is inside. The table is the one of docs/TRUST.md: the files that the statement of a demand cites,
 each with its lines without imports and blank lines."""
 import pathlib

@@ -1,4 +1,4 @@
-// The C library. Each function passes its arguments to the Rattle function that does the work. It returns the refusal, 0 where the call is
+// The C library. Each function passes its arguments to the Rattle function that does the work. It returns the refusal, 0 if the call is
 // accepted, and stores the rest of the result through the pointers that the caller passes. include/crudvim.h has the C prototypes.
 ghost use mathlib.Core.Path.{_≡_};
 ghost use lib.ListN.{length};
@@ -235,7 +235,7 @@ pub extern "C" fn crudvim_tibrv_field(
     outer.refusal
 }
 
-// Reads a real in fractions. The real is passed by its bits; `hinted` is 0 where it has no hint.
+// Reads a real in fractions. The real is passed by its bits; `hinted` is 0 if it has no hint.
 #[no_mangle]
 pub extern "C" fn crudvim_fractions(
     real_bits: u64,

@@ -16,14 +16,14 @@ ghost use Rattle.message_calls.specs.Lookup.{lookup as lookup-of, lookup
 ghost use Rattle.message_calls.specs.Shorten.{answer, buffer};
 ghost use Rattle.message_calls.specs.Calls.{checkOctets, shortenOctets, shortenBuffer, lookupOctets, lookupLastOctets};
 
-// The shortener's answer: a refusal number (0 where the message was shortened), the place of the fault, and the length written.
+// The shortener's answer: a refusal number (0 if the message was shortened), the place of the fault, and the length written.
 pub struct Shortened {
     pub refusal: u64,
     pub place: u64,
     pub length: u64,
 }
 
-// The lookup's answer: a refusal number (0 where a field was found) and the place of the fault; of the field found its kind, the value of a
+// The lookup's answer: a refusal number (0 if a field was found) and the place of the fault; of the field found its kind, the value of a
 // uint, the value of an int, and where its contents start in the lent buffer and how long they are.
 pub struct Found {
     pub refusal: u64,

@@ -5,7 +5,7 @@ ghost use Prim.Native.Nat.{_-_, _≤_};
 ghost use lib.ListN.{length, take, drop};
 ghost use Rattle.message.specs.Reading.{step as step-of, stepByKind};
 ghost use Rattle.message_field.specs.internal.Heads.{headAt};
-ghost use Rattle.message_field.specs.internal.Nexts.{nextAt, smallCode};
+ghost use Rattle.message_field.specs.internal.Nexts.{nextAt};
 ghost use Rattle.table_index.specs.internal.Cells.{meaningOf, indexed};
 
 // The head of a field: its tag and the span of its contents. Or there is no field: the message ends there, or it has a fault with this
@@ -67,46 +67,6 @@ pub fn step(cells: &[u32; 128], number: u64, s: &[u8], i: usize) -> Next
             by_code(table_index::code(cell), s, start, end)
         }
     }
-}
-
-// The code of the kind of the field at an offset, if its control part is one octet and its contents end within the message; else 32.
-fn small_code(cells: &[u32; 128], number: u64, s: &[u8], i: usize) -> u64
-    ensures { λ r. ⌜ r ≡ smallCode (now (cells .entry)) number (now (s .entry)) i ⌝ }
-{
-    if s.len() <= i {
-        return 32;
-    }
-    let c = s[i];
-    let n = (c & 15) as usize;
-    if 224 <= c || 12 <= n || s.len() - (i + 1) < n {
-        return 32;
-    }
-    table_index::code(table_index::cell(cells, number, (c >> 4) as u64))
-}
-
-// Returns the end of the field at an offset, if its control part is one octet, its contents are allowed and end within the message, and it
-// is no message. Most fields are such. Else it returns 0, and the caller calls `step`. A check that calls `step` alone takes a quarter more
-// time.
-pub fn quick(cells: &[u32; 128], number: u64, s: &[u8], i: usize) -> usize
-    ensures { λ r. ⌜ (1 ≤ r → Next.Over r ≡ nextAt i (step-of (indexed (now (cells .entry))) number (drop i (now (s .entry))))) ⌝ }
-{
-    let code = small_code(cells, number, s, i);
-    if 4 < code {
-        return 0;
-    }
-    let n = (s[i] & 15) as usize;
-    let a = i + 1;
-    let e = a + n;
-    if code == 4 {
-        if octets_text::text(&s[a..e]) {
-            return e;
-        }
-        return 0;
-    }
-    if n <= 8 || code == 0 || code == 3 {
-        return e;
-    }
-    0
 }
 
 // Returns the head of the field at the offset i of the message that ends at the offset `end` of s. `step` does not call this function but

@@ -7,7 +7,7 @@ ghost use Rattle.octets.specs.Control.{following, coded};
 ghost use Rattle.message_frame.specs.Frame.{frameCode, readRefused, writeRefused, frameRead, frameWritten, frameStored};
 ghost use Rattle.message_frame.specs.internal.Lead.{LeastPrefix};
 
-// The frame reader's answer: a refusal number (0 where the frame is accepted), its place, and where it is accepted the places where the
+// The frame reader's answer: a refusal number (0 if the frame is accepted), its place, and where it is accepted the places where the
 // message starts and ends.
 pub struct FrameRead {
     pub refusal: u64,
@@ -16,7 +16,7 @@ pub struct FrameRead {
     pub end: u64,
 }
 
-// The frame writer's answer: a refusal number (0 where the frame is written), its place, and how many octets are written.
+// The frame writer's answer: a refusal number (0 if the frame is written), its place, and how many octets are written.
 pub struct FrameWritten {
     pub refusal: u64,
     pub place: u64,

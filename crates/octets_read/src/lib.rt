@@ -192,7 +192,7 @@ pub fn control(s: &[u8]) -> Control
     after_leads(t, l, &s[1..])
 }
 
-// Reads the control part at an offset. Callers have already handled control parts of one octet, so there is no test for them.
+// Reads the control part at an offset. The check passes most control parts of one octet without it, so a test for them would not pay here.
 pub fn control_at(s: &[u8], i: usize) -> Control
     ensures { λ r. ⌜ r ≡ control-of (drop i (now (s .entry))) ⌝ }
 {

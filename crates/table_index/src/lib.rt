@@ -159,7 +159,7 @@ fn insert_words(words: &[u64], cells: &mut [u32; 128]) -> usize
 }
 
 // Does the same for the first `count` words. If all words are in range, the first one that is not inserted repeats an earlier pair.
-pub fn index_words(words: &[u64], count: usize, cells: &mut [u32; 128]) -> usize
+fn index_words(words: &[u64], count: usize, cells: &mut [u32; 128]) -> usize
     ensures { λ r. ⌜ r ≡ prefixLength (take count (now (words .entry))) (now (cells .entry)) ⌝ }
     ensures { λ r. ⌜ now (cells .exit) ≡ insertedWords (take count (now (words .entry))) (now (cells .entry)) ⌝ }
 {

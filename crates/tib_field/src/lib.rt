@@ -11,7 +11,7 @@ ghost use Rattle.tib_field.specs.internal.Zeros.{ZeroIn, Far, nameFault}
 ghost use Rattle.tib_field.specs.Refused.{noReal, refusedField};
 ghost use Rattle.tib_field.specs.Mark.{begins as begins-with};
 
-// What is found where a field may begin: the end of the message, a name that is refused with this refusal, or a name of this many octets
+// What is found where a field may begin: the end of the message, a bad name with its refusal, or a name of this many octets
 // after the octet of its size.
 pub enum NameStep {
     End,
@@ -19,7 +19,7 @@ pub enum NameStep {
     Name(usize),
 }
 
-// A refusal and its place, or 0, 0 and a field of a message: the place and the length of its name, with the closing zero (length 0 where it
+// A refusal and its place, or 0, 0 and a field of a message: the place and the length of its name, with the closing zero (length 0 if it
 // has no name); its type; the place and the length of its data; whether it has a hint, the hint's type and value; and the value of a real.
 // Places count from the start of the lent buffer.
 pub struct Field {
@@ -190,7 +190,7 @@ fn zero_inside(s: &[u8], n: u8) -> bool
     zero_far(s, end)
 }
 
-// Returns the refusal of the name at the front of octets, 0 where the name is good or there are no octets. A name that is cut is refused
+// Returns the refusal of the name at the front of octets, 0 if the name is good or there are no octets. A name that is cut is refused
 // before its octets are tested. The last octet of a name of n octets stands at the place n, after the octet of its size; where n is 0, that
 // is the size octet itself, and zero. The octets are passed on as a slice of their own: the compiler then keeps their address in registers.
 pub fn name_fault(s: &[u8]) -> u64

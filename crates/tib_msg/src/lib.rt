@@ -104,7 +104,7 @@ fn find(s: &[u8], k: u64) -> Kth
     }
 }
 
-// Returns the first octet, 0 where there is none.
+// Returns the first octet, 0 if there is none.
 fn first(s: &[u8]) -> u64
     ensures { λ r. ⌜ r ≡ getD (now (s .entry)) 0 0 ⌝ }
 {

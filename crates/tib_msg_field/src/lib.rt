@@ -15,7 +15,7 @@ pub struct Sizes {
     pub hint: usize,
 }
 
-// What is found where a field may begin: the end of the message, a field that is refused with this refusal, or a field.
+// What is found where a field may begin: the end of the message, a bad field with its refusal, or a field.
 pub enum Step {
     Done,
     Fault(u64),

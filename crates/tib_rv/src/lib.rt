@@ -27,7 +27,7 @@ enum Kth {
     Absent,
 }
 
-// Returns the refusal of a header, 0 where the header is good.
+// Returns the refusal of a header, 0 if the header is good.
 fn header_fault(s: &[u8]) -> u64
     ensures { λ r. ⌜ r ≡ headerFault (now (s .entry)) ⌝ }
 {

@@ -18,7 +18,7 @@ pub struct Sizes {
     pub contents: usize,
 }
 
-// What is found where a field may begin: the end of the message, a field that is refused with this refusal, a field, or a field that holds
+// What is found where a field may begin: the end of the message, a bad field with its refusal, a field, or a field that holds
 // a message.
 pub enum Step {
     Done,

@@ -38,8 +38,7 @@ pub struct Finished {
     pub state: State,
 }
 
-// A tag looked up in the innermost open message: the refusal (0 if there is none). If there is none, also the number of its kind, and
-// the message number of its contents.
+// A tag looked up in the innermost open message: the refusal, or 0 with the number of its kind and the message number of its contents.
 pub struct Tagged {
     pub refusal: u64,
     pub kind: u64,

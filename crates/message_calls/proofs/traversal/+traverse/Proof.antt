@@ -17,7 +17,7 @@ use Rattle.message_calls.proofs.traversal.traverse.Reads as traverse
 use Rattle.message_calls.proofs.traversal.traverse.Kinds as traverse-kinds
 use Rattle.message_calls.proofs.traversal.+traverse.Lts-traverse as traverse-lts
 use Rattle.numbers.proofs.larger.Reads as larger-reads
-use Rattle.message_field.proofs.quick.Reads as quick-reads
+use Rattle.message_calls.proofs.traversal.quick.Reads as quick-reads
 use Rattle.message_field.proofs.step.Reads as step-reads
 use Rattle.message_calls.proofs.traversal.+traverse.{statement}
 use Rattle.message_calls.proofs.traversal.+traverse.Tie.{close}

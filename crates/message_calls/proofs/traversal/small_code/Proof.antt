@@ -8,10 +8,10 @@ use lib.ListN.{length, getD}
 use Prim.Native.Nat.{_+_, _-_}
 use borrow.Author.Tests.{leb-true, leb-false, ltb-true, ltb-false}
 use Rattle.table_index.specs.internal.Cells.{codeIn}
 use Rattle.message_field.proofs.Nexts.{none-past, none-by-tag, none-by-length, none-by-end, code-found}
 use borrow.Author.Needs.{needs}
-use Rattle.message_field.proofs.small_code.Statement.{statement}
-use Rattle.message_field.proofs.small_code.Tie as tie
+use Rattle.message_calls.proofs.traversal.small_code.Statement.{statement}
+use Rattle.message_calls.proofs.traversal.small_code.Tie as tie
 
 returns : tie.Need-returns
 returns c =

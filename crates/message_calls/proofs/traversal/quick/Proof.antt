@@ -8,10 +8,10 @@ use mathlib.Core.Path.{_≡_}
 use lib.Bits.{bitAnd, mask-lt}
 use lib.ListN.{length, getD}
 use borrow.Author.Tests.{eqb-true}
 use Rattle.message_field.proofs.Nexts.{small-inside, small-text, small-plain}
 use borrow.Author.Needs.{needs}
-use Rattle.message_field.proofs.quick.Statement.{statement}
-use Rattle.message_field.proofs.quick.Tie as tie
+use Rattle.message_calls.proofs.traversal.quick.Statement.{statement}
+use Rattle.message_calls.proofs.traversal.quick.Tie as tie
 
 below-four : {code : ℕ} → code ≤ 4 → (code ≡ 4 → ⊥) → code < 4
 below-four h d = omega (arith, d)
