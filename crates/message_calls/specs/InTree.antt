@@ -1,10 +1,11 @@
 -- The answer of a lookup, stated of the tree of a message.
-use Prim.Native.Nat.{ℕ, _+_, _≤_}
+use Prim.Native.Nat.{ℕ, _+_, _≤_, _-_}
 use mathlib.Core.Path.{_≡_}
 use mathlib.Core.List.{List}
 use mathlib.Core.Option.{Option, none, some}
 use lib.ListN.{length, take, drop}
 use Rattle.reading.specs.Refusals as refusals
+use Rattle.reading.specs.Reading.{depthLimit}
 use Rattle.table.specs.Schema.{Schema}
 use Rattle.message_calls.specs.Lookup.{refusal}
 use Rattle.message_calls.specs.declared.Found.{Found}
@@ -30,7 +31,7 @@ pub record Gives (sc : Schema) (n : ℕ) (s : List ℕ) (tag : ℕ) (i : Item) (
   pub value : r .value ≡ uintOf i
   pub signed : r .signed ≡ intOf i
   pub inside : r .start + r .length ≤ length s
-  pub contents : Shows sc 7 n (take (r .length) (drop (r .start) s)) i
+  pub contents : Shows sc (depthLimit - 1) n (take (r .length) (drop (r .start) s)) i
 
 -- The answer by the field that the tree has, if any; without one the field is absent.
 unfoldable pub Answers : Schema → ℕ → List ℕ → ℕ → Option Item → Found → Type 0

@@ -1,6 +1,7 @@
 -- Table values and states that no program may accept. Nothing is said of the program's answer to any other call.
 use Prim.Native.Nat.{ℕ, suc, _≤_, _<_}
 use lib.ListN.{getD}
+use Rattle.reading.specs.Reading.{messageLimit, lastNumber}
 use Rattle.table.specs.Load.{Loadable}
 use Rattle.table.specs.declared.Table.{Table}
 use Rattle.writer_state.specs.declared.State.{State}
@@ -13,7 +14,7 @@ BadTableRuledOut {A} right refusal table = RuledOut (AcceptsSome refusal (λ (x 
 -- Programs that accept a state with one of the faults that document 01 lists. `state` is the state in a call. A mark and a message number
 -- count where they are in use: with k fields open, k marks and k + 1 numbers are.
 pub record BadStateRuledOut {A B : Type 0} (right : A → B) (refusal : B → ℕ) (state : A → State) : Type 0 where
-  pub accepts-long-buffer : RuledOut (AcceptsSome refusal (λ (x : A). 65536 < state x .length)) right
+  pub accepts-long-buffer : RuledOut (AcceptsSome refusal (λ (x : A). messageLimit < state x .length)) right
   pub accepts-start-beyond-length : RuledOut (AcceptsSome refusal (λ (x : A). state x .length < state x .start)) right
   pub accepts-eight-open : RuledOut (AcceptsSome refusal (λ (x : A). 7 < state x .opened)) right
   pub accepts-mark-below-start :
@@ -25,4 +26,4 @@ pub record BadStateRuledOut {A B : Type 0} (right : A → B) (refusal : B → �
       (AcceptsSome refusal (λ (x : A). (i : ℕ) × (suc i < state x .opened) × (getD (state x .marks) i 0 < getD (state x .marks) (suc i) 0)))
       right
   pub accepts-number-over-15 :
-      RuledOut (AcceptsSome refusal (λ (x : A). (i : ℕ) × (i ≤ state x .opened) × (15 < getD (state x .numbers) i 0))) right
+      RuledOut (AcceptsSome refusal (λ (x : A). (i : ℕ) × (i ≤ state x .opened) × (lastNumber < getD (state x .numbers) i 0))) right
