@@ -18,7 +18,7 @@ use Rattle.octets.proofs.Number.{length-octetsOf, unsigned-is, uint-octets}
 use Rattle.octets.proofs.Integer.{signed-is, int-octets}
 use Rattle.octets_store.specs.Store.{stored}
 use Rattle.octets_store.specs.internal.Moved.{moved}
-use Rattle.octets_store.proofs.Stores.{stored-fits, stored-after}
+use Rattle.octets_store.proofs.Stores.{stored-fits, stored-nothing, stored-after}
 use Rattle.message.specs.Shortest.{field}
 use Rattle.message.proofs.Fields.{field-length}
 use Rattle.message_calls.specs.internal.Stores.{Put}
@@ -89,6 +89,11 @@ two-put d to tag n a b h k =
     let i : to + 1 ≡ suc to = omega arith in
     let j : to + 2 ≡ suc (suc to) = omega arith in
     record { place = rw e; buffer = rw (e, i, j) (sym (stored-fits d to ((240 + n) ∷ (tag / 256) ∷ (tag % 256) ∷ []) (omega arith))) }
+
+-- A number of no octets.
+pub no-digit : (d : List ℕ) (at w v : ℕ) → w ≡ 0 → Put d at (octetsOf w v) at d
+unfolding octetsOf
+no-digit d at w v e = record { place = rw e (omega arith); buffer = rw e (sym (stored-nothing d at)) }
 
 -- A number of one octet.
 pub one-digit : (d : List ℕ) (at w v : ℕ) → w ≡ 1 → at + length (octetsOf w v) ≤ length d → Put d at (octetsOf w v) (at + 1) (set d at (v % 256))

@@ -23,12 +23,15 @@ ghost use Rattle.message_calls.specs.Shorten.{refusal};
 ghost use Rattle.message_calls.specs.internal.ShortenUnder.{shortenUnder, bufferUnder};
 ghost use Rattle.message_calls.specs.internal.Stores.{shortestWithin, Put};
 
-// Stores the octets of a number and returns the place after them. Most numbers take one octet.
+// Stores the octets of a number and returns the place after them. Most numbers take at most one octet, which needs no loop.
 fn put_digits(out: &mut [u8], at: usize, w: u64, v: u64) -> usize
     requires { ⌜ at + length (octetsOf w v) ≤ length (now out) ⌝ }
     ensures { λ r. ⌜ Put (now (out .entry)) at (octetsOf w v) r (now (out .exit)) ⌝ }
 {
-    if w == 1 {
+    if w < 2 {
+        if w == 0 {
+            return at;
+        }
         out[at] = (v % 256) as u8;
         return at + 1;
     }

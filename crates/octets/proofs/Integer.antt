@@ -18,15 +18,9 @@ use Rattle.octets.specs.Number.{Octets, bigEndian, octetsOf, width, widt
 use Rattle.octets.specs.Signed.{lowest, withSign, integer, signedWidth, signedBits, leastInt}
 use Rattle.octets.specs.internal.Least.{intWidthBits}
 use Rattle.octets.specs.internal.Bounded.{signed}
-use Rattle.octets.proofs.Number.{power-positive, power-grows, number-below, number-octetsOf, octets-octetsOf, length-octetsOf, number-injective, width-least, width-holds}
+use Rattle.octets.proofs.Number.{two-to-eights, power-positive, power-grows, number-below, number-octetsOf, octets-octetsOf, length-octetsOf, number-injective, width-least, width-holds}
 use Rattle.octets.proofs.Shorter.{no-shorter-self}
 use Rattle.octets.specs.NoShorter.{NoShorter}
-
-two-to-eights : (n : ℕ) → 2 ^ (8 * n) ≡ 256 ^ n
-two-to-eights zero = refl
-two-to-eights (suc n) =
-    let e : 8 * suc n ≡ 8 * n + 8 = omega arith in
-    rw (e, pow-add 2 (8 * n) 8, two-to-eights n, pow-suc 256 n)
 
 -- Half of what n octets can hold.
 pub lowest-half : (n : ℕ) → lowest (suc n) ≡ 128 * 256 ^ n

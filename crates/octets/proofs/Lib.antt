@@ -2,6 +2,7 @@ pub mod Slices
 pub mod Number
 pub mod Shorter
 pub mod Integer
+pub mod LeadingZeros
 pub mod Codes
 pub mod ControlPart
 pub mod Text

@@ -22,6 +22,13 @@ power-positive (suc n) = let h = power-positive n in rw pow-suc (omega arith)
 pub power-grows : (n m : ℕ) → n ≤ m → 256 ^ n ≤ 256 ^ m
 power-grows n m h = pow-le-pow-right (omega arith) h
 
+-- An octet has eight bits.
+pub two-to-eights : (n : ℕ) → 2 ^ (8 * n) ≡ 256 ^ n
+two-to-eights zero = refl
+two-to-eights (suc n) =
+    let e : 8 * suc n ≡ 8 * n + 8 = omega arith in
+    rw (e, pow-add 2 (8 * n) 8, two-to-eights n, pow-suc 256 n)
+
 pub octets-append : (s t : List ℕ) → Octets s → Octets t → Octets (s ++ t)
 unfolding Octets
 octets-append [] t a b = b

@@ -7,3 +7,4 @@ pub mod Control
 pub mod CutControl
 pub mod internal
 pub mod NoShorter
+pub mod LeastLength

@@ -1,3 +1,2 @@
-pub mod Widths
 pub mod Signs
 pub mod Forms

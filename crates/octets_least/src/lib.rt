@@ -10,35 +10,11 @@ ghost use Rattle.octets.specs.Signed.{lowest};
 ghost use Rattle.octets.specs.ControlPart.{tagCode, lengthCode};
 ghost use Rattle.octets_least.specs.internal.Lead.{LeastLead};
 
-// Returns how many octets a number needs.
+// Returns how many octets a number needs: its bits without the leading zeros, in groups of eight.
 fn width(v: u64) -> u64
     ensures { λ r. ⌜ r ≡ width-of v ⌝ }
 {
-    if v < 1 {
-        return 0;
-    }
-    if v < 0x100 {
-        return 1;
-    }
-    if v < 0x1_0000 {
-        return 2;
-    }
-    if v < 0x100_0000 {
-        return 3;
-    }
-    if v < 0x1_0000_0000 {
-        return 4;
-    }
-    if v < 0x100_0000_0000 {
-        return 5;
-    }
-    if v < 0x1_0000_0000_0000 {
-        return 6;
-    }
-    if v < 0x100_0000_0000_0000 {
-        return 7;
-    }
-    8
+    ((71 - u64::leading_zeros(v)) / 8) as u64
 }
 
 // Returns the least octets of an unsigned number.

@@ -1,18 +1,16 @@
--- Storing the octets of a number, from the last one back or from the first on.
-use Prim.Native.Nat.{ℕ, zero, suc, _+_, _*_, _-_, _/_, _%_, _^_, _≤_, _<_}
+-- Storing the octets of a number, from the last one back.
+use Prim.Native.Nat.{ℕ, suc, _+_, _-_, _/_, _%_, _^_, _≤_, _<_}
 use native.Mathlib.Nat.{pow-suc, div-div-eq-div-mul, div-one}
 use native.Mathlib.Numerals.{add-one}
 use native.Mathlib.Omega.{arith}
-use mathlib.Core.Path.{_≡_, refl, sym, ap, _∙_}
+use mathlib.Core.Path.{_≡_, refl, sym, _∙_}
 use mathlib.Core.List.{List}
-use lib.ListN.{length, getD, set}
-use lib.Seq.{take-all}
+use lib.ListN.{length, set}
 use Rattle.octets.specs.Number.{octetsOf}
 use Rattle.octets.proofs.Number.{length-octetsOf}
-use Rattle.octets_least.proofs.Widths.{power-digits}
 use Rattle.octets_store.specs.Store.{stored}
 use Rattle.octets_store.proofs.Stores.{stored-too-long}
-use Rattle.octets_store.proofs.StoreLoops.{Written, written-length, written-stored, none-written, one-before, CopiedUp, copy-begun, copy-step, copy-ended}
+use Rattle.octets_store.proofs.StoreLoops.{Written, written-length, written-stored, none-written, one-before}
 
 -- The last k octets of v are stored at the end of the place for n, and `rest` is v without them.
 pub record NumberDown (d : List ℕ) (at n v : ℕ) (out : List ℕ) (rest k : ℕ) : Type 0 where
@@ -52,24 +50,3 @@ number-ended d at n v out rest k h p =
 
 pub number-too-long : (d : List ℕ) (at n v : ℕ) → length d < at + n → d ≡ stored d at (octetsOf n v)
 number-too-long d at n v h = let l = length-octetsOf n v in sym (stored-too-long d at (octetsOf n v) (omega arith))
-
--- The octet at index k has as many after it as the power says.
-octet-at : (n k v : ℕ) → k < n → getD (octetsOf n v) k 0 ≡ v / 256 ^ (n - 1 - k) % 256
-unfolding octetsOf
-octet-at zero k v h = absurd (omega arith)
-octet-at (suc n) zero v h = let e : suc n - 1 - 0 ≡ n = omega arith in rw e
-octet-at (suc n) (suc k) v h = let e : suc n - 1 - suc k ≡ n - 1 - k = omega arith in rw e (octet-at n k v (omega arith))
-
-pub few-begun : (d : List ℕ) (at n v : ℕ) → at + n ≤ length d → CopiedUp d at (octetsOf n v) n d 0
-few-begun d at n v h = copy-begun d at (octetsOf n v) n h (omega (arith, length-octetsOf n v))
-
-pub few-step : (d : List ℕ) (at n v : ℕ) (out : List ℕ) (k : ℕ) → k < n → CopiedUp d at (octetsOf n v) n out k
-    → CopiedUp d at (octetsOf n v) n (set out (at + k) (v / 2 ^ (8 * (n - 1 - k)) % 256)) (k + 1)
-few-step d at n v out k h p =
-    rw (← power-digits (n - 1 - k), ← octet-at n k v h) (copy-step d at (octetsOf n v) n out k h p)
-
-pub few-ended : (d : List ℕ) (at n v : ℕ) (out : List ℕ) (k : ℕ) → n ≤ k → CopiedUp d at (octetsOf n v) n out k
-    → out ≡ stored d at (octetsOf n v)
-few-ended d at n v out k h p =
-    copy-ended d at (octetsOf n v) n out k h p
-    ∙ ap (stored d at) (take-all n (octetsOf n v) (omega (arith, length-octetsOf n v)))

@@ -6,21 +6,9 @@ ghost use Rattle.octets.specs.Number.{octetsOf};
 ghost use Rattle.octets.specs.Control.{leastControl};
 ghost use Rattle.octets_store.specs.Store.{stored};
 
-// Stores the last n octets of v, the most significant first. No store depends on another.
-fn put_few(out: &mut [u8], at: usize, n: usize, v: u64)
-    requires { ⌜ at + n ≤ length-of (now out) ⌝ }
-    requires { ⌜ n ≤ 8 ⌝ }
-    ensures { λ _. ⌜ now (out .exit) ≡ stored (now (out .entry)) at (octetsOf n v) ⌝ }
-{
-    let mut k = 0;
-    while k < n {
-        out[at + k] = ((v >> (8 * (n - 1 - k))) % 256) as u8;
-        k += 1;
-    }
-}
-
-// The same for any n: the octets above the last eight are zeros. The loop stores the last octet first; k octets are stored so far.
-fn put_many(out: &mut [u8], at: usize, n: usize, v: u64)
+// Stores the last n octets of v, the most significant first; those above the last eight are zeros. The loop stores the last octet first, and
+// k octets are stored so far.
+fn put_big_endian(out: &mut [u8], at: usize, n: usize, v: u64)
     requires { ⌜ at + n ≤ length-of (now out) ⌝ }
     ensures { λ _. ⌜ now (out .exit) ≡ stored (now (out .entry)) at (octetsOf n v) ⌝ }
 {
@@ -39,11 +27,7 @@ pub fn put_number(out: &mut [u8], at: usize, width: u64, v: u64)
 {
     let n = width as usize;
     if octets_store::has_room(out.len(), at, n) {
-        if n <= 8 {
-            put_few(out, at, n, v);
-        } else {
-            put_many(out, at, n, v);
-        }
+        put_big_endian(out, at, n, v);
     }
 }
 

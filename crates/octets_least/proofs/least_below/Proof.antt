@@ -4,8 +4,7 @@ use native.Mathlib.Omega.{arith}
 use Rattle.octets.specs.Signed.{lowest}
 use Rattle.octets.proofs.Number.{width-bound}
 use Rattle.octets.proofs.Integer.{lowest-bounds}
-use Rattle.octets_least.proofs.Widths.{width-some}
-use Rattle.octets_least.proofs.Signs.{masked-fits, below-is}
+use Rattle.octets_least.proofs.Signs.{width-some, masked-fits, below-is}
 use borrow.Author.Needs.{needs}
 use Rattle.octets_least.proofs.least_below.Statement.{statement}
 use Rattle.octets_least.proofs.least_below.Tie as tie

@@ -15,11 +15,8 @@ fits c = room _ _ _ _ (c .before .has-room .ensures) (c .if1 .taken)
 has-room-requires : tie.Need-has-room-requires
 has-room-requires c κs = search needs
 
-put-few-requires : tie.Need-put-few-requires
-put-few-requires c κs = (fits (c .before .before), c .before .if2 .taken)
-
-put-many-requires : tie.Need-put-many-requires
-put-many-requires c κs = fits (c .before .before)
+put-big-endian-requires : tie.Need-put-big-endian-requires
+put-big-endian-requires c κs = fits (c .before)
 
 same-length : tie.Need-same-length
 same-length c = search needs
@@ -27,14 +24,8 @@ same-length c = search needs
 returns : tie.Need-returns
 returns c = search needs
 
-same-length-2 : tie.Need-same-length-2
-same-length-2 c = search needs
-
 returns-2 : tie.Need-returns-2
-returns-2 c = search needs
-
-returns-3 : tie.Need-returns-3
-returns-3 c =
+returns-2 c =
     let a = c .before .before .before .args in
     number-too-long (a .out .now) (a .at) (a .width) (a .v) (no-room _ _ _ _ (c .before .has-room .ensures) (c .if1 .left))
 
@@ -43,10 +34,7 @@ put-number-spec =
     tie.close
     (tie.spec
     has-room-requires
-    put-few-requires
-    put-many-requires
+    put-big-endian-requires
     same-length
     returns
-    same-length-2
-    returns-2
-    returns-3)
+    returns-2)

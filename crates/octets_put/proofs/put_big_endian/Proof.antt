@@ -1,9 +1,9 @@
--- `octets_put::put_many` meets its contract: at each turn the last octets of the number are stored.
+-- `octets_put::put_big_endian` meets its contract: at each turn the last octets of the number are stored.
 use Prim.Native.Nat.{_-_}
 use native.Mathlib.Omega.{arith}
 use Rattle.octets_put.proofs.Digits.{NumberDown, number-begun, number-step, number-ended}
-use Rattle.octets_put.proofs.put_many.Statement.{statement}
-use Rattle.octets_put.proofs.put_many.Tie as tie
+use Rattle.octets_put.proofs.put_big_endian.Statement.{statement}
+use Rattle.octets_put.proofs.put_big_endian.Tie as tie
 
 abbrev Inv-loop : tie.InvT-loop
 Inv-loop out₀ at n v rest₀ k₀ out rest k = NumberDown out₀ at n v out rest k
@@ -47,8 +47,8 @@ returns c =
     let l = c .before .loop in
     number-ended (a .out .now) (a .at) (a .n) (a .v) (l .out) (l .rest) (l .k) (c .loop-test .left) (l .inv)
 
-pub put-many-spec : {M : Type 1} → statement M
-put-many-spec =
+pub put-big-endian-spec : {M : Type 1} → statement M
+put-big-endian-spec =
     tie.close
     (tie.spec
     Inv-loop
