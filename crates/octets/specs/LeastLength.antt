@@ -8,16 +8,19 @@ use lib.Count.{leadingZeros}
 use Rattle.octets.specs.Number.{Octets}
 use Rattle.octets.specs.Signed.{leastInt}
 
--- By a way to read octets as numbers: n octets hold x, and fewer octets do not.
+-- n is the least number of octets that hold x, where `value` reads octets as a number.
 pub record LeastLength {A : Type 0} (value : List ℕ → A) (x : A) (n : ℕ) : Type 0 where
   pub held : (s : List ℕ) × Octets s × (length s ≡ n) × (value s ≡ x)
   pub least : (s : List ℕ) → Octets s → value s ≡ x → n ≤ length s
 
--- A signed number with a bit for its sign, as an unsigned one: 0, -1, 1, -2, 2 become 0, 1, 2, 3, 4. Signed numbers of 64 bits become those
--- below 2 ^ 64.
+-- A signed number as an unsigned one, with its sign as the lowest bit: 0, -1, 1, -2, 2 become 0, 1, 2, 3, 4.
 unfoldable pub zigzag : ℤ → ℕ
 zigzag (pos v) = 2 * v
 zigzag (negsuc k) = 2 * k + 1
+
+-- The octets that the bits of a number of 64 bits take after its leading zeros; adding 7 rounds up to whole octets.
+unfoldable pub octetsByZeros : ℕ → ℕ
+octetsByZeros v = (71 - leadingZeros 64 v) / 8
 
 -- Ints and their least octets: 0, -128, 128, -129 and the lowest int of 64 bits.
 unfoldable pub samples : List (ℤ × List ℕ)
@@ -29,7 +32,7 @@ samples =
     ∷ (negsuc 0x7fff_ffff_ffff_ffff, 0x80 ∷ 0 ∷ 0 ∷ 0 ∷ 0 ∷ 0 ∷ 0 ∷ 0 ∷ [])
     ∷ []
 
--- Every sample has those least octets, and as many as the count of leading zeros says.
+-- Every sample has those least octets, as many as the leading zeros say.
 unfoldable pub Hold : List (ℤ × List ℕ) → Type 0
 Hold [] = Unit {0}
-Hold ((z, s) ∷ xs) = ((leastInt z ≡ s) × ((71 - leadingZeros 64 (zigzag z)) / 8 ≡ length s)) × Hold xs
+Hold ((z, s) ∷ xs) = ((leastInt z ≡ s) × (octetsByZeros (zigzag z) ≡ length s)) × Hold xs

@@ -10,7 +10,7 @@ ghost use Rattle.octets.specs.Signed.{lowest};
 ghost use Rattle.octets.specs.ControlPart.{tagCode, lengthCode};
 ghost use Rattle.octets_least.specs.internal.Lead.{LeastLead};
 
-// Returns how many octets a number needs: its bits without the leading zeros, in groups of eight.
+// Returns how many octets a number needs. It has 64 bits less its leading zeros; adding 7 rounds up to whole octets.
 fn width(v: u64) -> u64
     ensures { λ r. ⌜ r ≡ width-of v ⌝ }
 {
@@ -35,7 +35,8 @@ fn sign_bit(n: u64) -> u64
     1u64 << (8 * n - 1)
 }
 
-// Returns the least octets of the negative number with the magnitude k + 1. The mask clears the magnitude if it equals the sign bit.
+// Returns the least octets of the negative number with the magnitude k + 1. Doubling makes room for the sign bit: k has to fit beside it, not
+// k + 1, because n octets also hold minus 2 ^ (8 * n - 1). The mask clears the magnitude if it equals the sign bit.
 fn least_below(k: u64) -> Least
     requires { ⌜ k < 2 ^ 63 ⌝ }
     ensures { λ r. ⌜ r ≡ intWidthBits (negsuc k) ⌝ }
@@ -48,7 +49,7 @@ fn least_below(k: u64) -> Least
     }
 }
 
-// Returns the least octets of a signed number.
+// Returns the least octets of a signed number. Doubling makes room for the sign bit.
 pub fn int_least(z: i64) -> Least
     ensures { λ r. ⌜ r ≡ intWidthBits z ⌝ }
 {

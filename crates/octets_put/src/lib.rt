@@ -6,8 +6,8 @@ ghost use Rattle.octets.specs.Number.{octetsOf};
 ghost use Rattle.octets.specs.Control.{leastControl};
 ghost use Rattle.octets_store.specs.Store.{stored};
 
-// Stores the last n octets of v, the most significant first; those above the last eight are zeros. The loop stores the last octet first, and
-// k octets are stored so far.
+// Stores the last n octets of v in big-endian order; octets above the last eight are zeros. The loop runs from the last octet back, and k counts
+// the octets stored.
 fn put_big_endian(out: &mut [u8], at: usize, n: usize, v: u64)
     requires { ⌜ at + n ≤ length-of (now out) ⌝ }
     ensures { λ _. ⌜ now (out .exit) ≡ stored (now (out .entry)) at (octetsOf n v) ⌝ }
