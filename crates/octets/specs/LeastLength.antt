@@ -18,7 +18,7 @@ unfoldable pub zigzag : ℤ → ℕ
 zigzag (pos v) = 2 * v
 zigzag (negsuc k) = 2 * k + 1
 
--- The octets that the bits of a number of 64 bits take after its leading zeros; adding 7 rounds up to whole octets.
+-- How many octets a number of 64 bits takes without its leading zero bits. Adding 7 rounds up to whole octets.
 unfoldable pub octetsByZeros : ℕ → ℕ
 octetsByZeros v = (71 - leadingZeros 64 v) / 8
 
