@@ -11,7 +11,7 @@ use lib.Dec.{leb, eqb}
 use borrow.Author.Tests.{leb-true, leb-false, lt-leb}
 use Rattle.octets.specs.Number.{Octets}
 use Rattle.octets.specs.Text.{text}
-use Rattle.octets.specs.Groups.{IsText}
+use Rattle.octets.specs.Utf8.{IsText}
 use Rattle.octets.specs.Control.{control}
 use Rattle.octets.specs.declared.Control.{Control}
 use Rattle.octets.specs.declared.Control.the-variants.{Absent, Partial, Whole}

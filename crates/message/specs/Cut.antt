@@ -4,7 +4,7 @@ use mathlib.Core.Path.{_≡_}
 use mathlib.Core.List.{List, [], _++_}
 use lib.ListN.{length}
 use Rattle.octets.specs.ControlPart.{ControlPart}
-use Rattle.octets.specs.Groups.{IsText}
+use Rattle.octets.specs.Utf8.{IsText}
 use Rattle.table.specs.Schema.{Schema}
 use Rattle.table.specs.declared.Meaning.{Meaning}
 use Rattle.table.specs.declared.Meaning.the-variants.{Raw, Uint, Int, String, Text, Message}

@@ -9,7 +9,7 @@ use Rattle.reading.specs.Refusals as refusals
 use Rattle.reading.specs.Reading.{depthLimit}
 use Rattle.octets.specs.ControlPart.{ControlPart}
 use Rattle.octets.specs.CutControl.{CutControl}
-use Rattle.octets.specs.Groups.{IsText}
+use Rattle.octets.specs.Utf8.{IsText}
 use Rattle.table.specs.Schema.{Schema}
 use Rattle.table.specs.declared.Meaning.the-variants.{Uint, Int, Text}
 use Rattle.message.specs.Cut.{Cut, joined, WholeField, LeafField, NestedField, Good}

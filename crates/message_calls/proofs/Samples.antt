@@ -1,6 +1,7 @@
 -- The samples hold: each side of each equation computes to the same.
 use mathlib.Core.Path.{refl}
 use Rattle.octets.specs.Number.{bigEndian}
+use Rattle.octets.specs.Utf8.{grammar}
 use Rattle.octets.specs.Text as texts
 use Rattle.octets.specs.Control as controls
 use Rattle.reading.specs.Reading.{onAccepted, inOrder}
@@ -24,5 +25,5 @@ unfolding samples.Hold samples.samples samples.accepts samples.refuses samples.r
     schema schemaOf entries.entry entries.entries entries.find entries.meaning entries.innerOf
     readings.reading readings.messageFrom readings.fieldsFrom readings.afterStep readings.step readings.stepFrom readings.stepByKind readings.tagAt
     readings.tagOf onAccepted inOrder trees.tree trees.value trees.fields trees.depth
-    bigEndian texts.text texts.textAfter texts.followers texts.follower controls.control controls.controlOf controls.following controls.coded
-samples-hold = (refl, (refl, (refl, (refl, (refl, (refl, (refl, (refl, (refl, (refl, (refl, (refl, (refl, (refl, (refl, (refl, tt))))))))))))))))
+    bigEndian texts.text texts.textAfter texts.after texts.within grammar controls.control controls.controlOf controls.following controls.coded
+samples-hold = (refl, (refl, (refl, (refl, (refl, (refl, (refl, (refl, (refl, (refl, (refl, (refl, (refl, (refl, (refl, (refl, (refl, (refl, (refl, (refl, (refl, tt)))))))))))))))))))))

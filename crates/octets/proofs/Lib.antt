@@ -6,4 +6,5 @@ pub mod LeadingZeros
 pub mod Codes
 pub mod ControlPart
 pub mod Text
+pub mod Scalars
 pub mod CutControl

@@ -1,149 +1,171 @@
--- Just the text of Groups.antt passes the test for text.
-use Prim.Native.Nat.{ℕ, zero, suc}
+-- Just the text of Utf8.antt passes the test for text.
+use Prim.Native.Nat.{ℕ, suc, _≤_, _<_}
 use native.Mathlib.Omega.{arith}
 use mathlib.Core.Path.{_≡_, refl, ap, _∙_, subst}
-use mathlib.Core.Bool.{Bool, true, false, cond, _&&_}
+use mathlib.Core.Bool.{Bool, true, false, cond, _&&_, false≢true}
 use mathlib.Core.List.{List, [], _∷_, _++_}
-use mathlib.Core.Logic.{_↔_}
+use mathlib.Core.Logic.{_↔_, _⊎_, inl, inr}
 use mathlib.Core.Option.{Option, none, some}
-use lib.Dec.{leb, ltb}
-use borrow.Author.Tests.{leb-true, le-leb, ltb-true, ltb-false, lt-ltb, le-ltb}
-use Rattle.octets.specs.Groups as groups
-use Rattle.octets.specs.Groups.{Between, Tail, Group, one, two, three, four, IsText}
-use Rattle.octets.specs.Text.{followers, follower, textAfter, text}
+use lib.Dec.{leb}
+use borrow.Author.Tests.{leb-true, leb-false, le-leb, lt-leb}
+use borrow.Author.Needs.{needs}
+use Rattle.octets.specs.Utf8 as utf8
+use Rattle.octets.specs.Utf8.{Range, grammar, Fits, FitsOne, IsText}
+use Rattle.octets.specs.Text.{within, after, textAfter, text}
+
+-- ---- an octet and a range
+
+-- By cases at a number.
+pub up-to : {A : Type 0} (v n : ℕ) → (v ≤ n → A) → (n < v → A) → A
+up-to {A} v n a b = go (leb v n) refl
+  where
+    go : (t : Bool) → leb v n ≡ t → A
+    go true e = a (leb-true v n e)
+    go false e = b (leb-false v n e)
+
+pub in-range : (r : Range) (x : ℕ) → r .low ≤ x → x ≤ r .high → within r x ≡ true
+unfolding within
+in-range r x l h = rw (le-leb (r .low) x l, le-leb x (r .high) h)
+
+pub below-range : (r : Range) (x : ℕ) → x < r .low → within r x ≡ false
+unfolding within
+below-range r x h = rw (lt-leb (r .low) x h)
+
+pub above-range : (r : Range) (x : ℕ) → r .high < x → within r x ≡ false
+unfolding within
+above-range r x h = rw (lt-leb x (r .high) h) (and-false (leb (r .low) x))
+  where
+    and-false : (t : Bool) → (t && false) ≡ false
+    and-false true = refl
+    and-false false = refl
+
+range-of : (r : Range) (x : ℕ) → within r x ≡ true → (r .low ≤ x) × (x ≤ r .high)
+unfolding within
+range-of r x e = go (leb (r .low) x) refl (leb x (r .high)) refl e
+  where
+    go : (a : Bool) → leb (r .low) x ≡ a → (b : Bool) → leb x (r .high) ≡ b → (a && b) ≡ true → (r .low ≤ x) × (x ≤ r .high)
+    go true p true q e = (leb-true (r .low) x p, leb-true x (r .high) q)
+    go true p false q e = absurd (false≢true e)
+    go false p b q e = absurd (false≢true e)
+
+-- ---- the rows of the grammar
+
+-- No row is empty, and the leads of each row are above those of the rows before it; the first one's are n or more.
+unfoldable pub Ascending : ℕ → List (List Range) → Type 0
+Ascending n [] = Unit {0}
+Ascending n ([] ∷ rows) = ⊥
+Ascending n ((r ∷ rs) ∷ rows) = ((n ≤ r .low) × (r .low ≤ r .high)) × Ascending (suc (r .high)) rows
+
+pub grammar-ascending : Ascending 0 grammar
+unfolding Ascending grammar
+grammar-ascending = search needs
+
+-- A lead that fits a row fits no row before it: the octets to come are those of its own row.
+record Lead (n : ℕ) (rows : List (List Range)) (x : ℕ) (g : List ℕ) : Type 0 where
+  rest : List Range
+  found : after rows x ≡ some rest
+  fits : Fits rest g
+  least : n ≤ x
+
+lead-of : (n : ℕ) (rows : List (List Range)) (x : ℕ) (g : List ℕ) → Ascending n rows → FitsOne rows (x ∷ g) → Lead n rows x g
+unfolding Ascending FitsOne Fits after
+lead-of n [] x g a f = absurd f
+lead-of n ([] ∷ rows) x g a f = absurd a
+lead-of n ((r ∷ rs) ∷ rows) x g a (inl f) =
+    record { rest = rs; found = rw (in-range r x (f .0 .0) (f .0 .1)); fits = f .1; least = omega (arith, a .0 .0, f .0 .0) }
+lead-of n ((r ∷ rs) ∷ rows) x g a (inr f) =
+    let l = lead-of (suc (r .high)) rows x g (a .1) f in
+    record { rest = l .rest; found = rw (above-range r x (l .least)) (l .found); fits = l .fits; least = omega (arith, a .0 .0, a .0 .1, l .least) }
+
+no-lead : (n : ℕ) (rows : List (List Range)) → Ascending n rows → FitsOne rows [] → ⊥
+unfolding Ascending FitsOne Fits
+no-lead n [] a f = f
+no-lead n ([] ∷ rows) a f = a
+no-lead n ((r ∷ rs) ∷ rows) a (inl f) = f
+no-lead n ((r ∷ rs) ∷ rows) a (inr f) = no-lead (suc (r .high)) rows (a .1) f
+
+row-of : (rows : List (List Range)) (x : ℕ) (rs : List Range) (g : List ℕ) → after rows x ≡ some rs → Fits rs g → FitsOne rows (x ∷ g)
+unfolding FitsOne Fits after
+row-of [] x rs g e f = let z : _≡_ {A = ℕ} 0 1 = cc in absurd (omega arith)
+row-of ([] ∷ rows) x rs g e f = inr (row-of rows x rs g e f)
+row-of ((r ∷ qs) ∷ rows) x rs g e f = go (within r x) refl e (λ e. row-of rows x rs g e f)
+  where
+    go : (t : Bool) → within r x ≡ t → cond t (some qs) (after rows x) ≡ some rs → (after rows x ≡ some rs → FitsOne rows (x ∷ g))
+        → FitsOne ((r ∷ qs) ∷ rows) (x ∷ g)
+    go true p e later = let q : rs ≡ qs = cc in inl (range-of r x p, subst (λ (rs : List Range). Fits rs g) q f)
+    go false p e later = inr (later e)
 
 -- ---- text passes
 
-module _ (a : ℕ) where
-  alone : Between 0x00 0x7f a → followers a ≡ some 0
-  unfolding followers Between
-  alone h = let k = h .1 in rw (lt-ltb a 0x80 (omega arith))
-
-  takes-one : Between 0xc0 0xdf a → followers a ≡ some 1
-  unfolding followers Between
-  takes-one h = let k = h .0 in let l = h .1 in rw (le-ltb a 0x80 (omega arith), le-ltb a 0xc0 (omega arith), lt-ltb a 0xe0 (omega arith))
-
-  takes-two : Between 0xe0 0xef a → followers a ≡ some 2
-  unfolding followers Between
-  takes-two h =
-      let k = h .0 in
-      let l = h .1 in
-      rw (le-ltb a 0x80 (omega arith), le-ltb a 0xc0 (omega arith), le-ltb a 0xe0 (omega arith), lt-ltb a 0xf0 (omega arith))
-
-  takes-three : Between 0xf0 0xf7 a → followers a ≡ some 3
-  unfolding followers Between
-  takes-three h =
-      let k = h .0 in
-      let l = h .1 in
-      rw (le-ltb a 0x80 (omega arith), le-ltb a 0xc0 (omega arith), le-ltb a 0xe0 (omega arith), le-ltb a 0xf0 (omega arith), lt-ltb a 0xf8 (omega arith))
-
-  follows : Tail a → follower a ≡ true
-  unfolding follower Between
-  follows h = let k = h .0 in let l = h .1 in rw (le-leb 0x80 a k, lt-ltb a 0xc0 (omega arith))
-
-pub lead-passed : (x n : ℕ) (s : List ℕ) → followers x ≡ some n → textAfter 0 (x ∷ s) ≡ textAfter n s
+pub lead-passed : (x : ℕ) (rs : List Range) (s : List ℕ) → after grammar x ≡ some rs → textAfter [] (x ∷ s) ≡ textAfter rs s
 unfolding textAfter
-lead-passed x n s e = ap (λ (o : Option ℕ). elim o [ none ↦ false | some n ↦ textAfter n s ]) e
+lead-passed x rs s e = ap (λ (o : Option (List Range)). elim o [ none ↦ false | some rs ↦ textAfter rs s ]) e
 
-tail-passed : (x n : ℕ) (s : List ℕ) → Tail x → textAfter (suc n) (x ∷ s) ≡ textAfter n s
+rest-passed : (rs : List Range) (g s : List ℕ) → Fits rs g → textAfter rs (g ++ s) ≡ textAfter [] s
+unfolding Fits textAfter
+rest-passed [] [] s f = refl
+rest-passed [] (x ∷ g) s f = absurd f
+rest-passed (r ∷ rs) [] s f = absurd f
+rest-passed (r ∷ rs) (x ∷ g) s f = rw (in-range r x (f .0 .0) (f .0 .1)) (rest-passed rs g s (f .1))
+
+character-passed : (g s : List ℕ) → FitsOne grammar g → textAfter [] (g ++ s) ≡ textAfter [] s
+character-passed [] s f = absurd (no-lead 0 grammar grammar-ascending f)
+character-passed (x ∷ g) s f =
+    let l = lead-of 0 grammar x g grammar-ascending f in
+    lead-passed x (l .rest) (g ++ s) (l .found) ∙ rest-passed (l .rest) g s (l .fits)
+
+text-passes : (s : List ℕ) → IsText s → textAfter [] s ≡ true
 unfolding textAfter
-tail-passed x n s h = ap (λ (t : Bool). t && textAfter n s) (follows x h)
-
--- A group at the front is passed over.
-group-passed : (g rest : List ℕ) → Group g → textAfter 0 (g ++ rest) ≡ textAfter 0 rest
-group-passed g rest (one a h) = lead-passed a 0 rest (alone a h)
-group-passed g rest (two a b h x) = lead-passed a 1 (b ∷ rest) (takes-one a h) ∙ tail-passed b 0 rest x
-group-passed g rest (three a b c h x y) =
-    lead-passed a 2 (b ∷ c ∷ rest) (takes-two a h) ∙ tail-passed b 1 (c ∷ rest) x ∙ tail-passed c 0 rest y
-group-passed g rest (four a b c d h x y z) =
-    lead-passed a 3 (b ∷ c ∷ d ∷ rest) (takes-three a h) ∙ tail-passed b 2 (c ∷ d ∷ rest) x ∙ tail-passed c 1 (d ∷ rest) y ∙ tail-passed d 0 rest z
-
-text-passes : (s : List ℕ) → IsText s → textAfter 0 s ≡ true
-unfolding textAfter
-text-passes s groups.none = refl
-text-passes s (groups.more g rest h t) = group-passed g rest h ∙ text-passes rest t
+text-passes s utf8.none = refl
+text-passes s (utf8.more g rest f t) = character-passed g rest f ∙ text-passes rest t
 
 -- ---- what passes is text
 
--- A lead that takes n octets.
-Lead : ℕ → ℕ → Type 0
-Lead x zero = Between 0x00 0x7f x
-Lead x (suc zero) = Between 0xc0 0xdf x
-Lead x (suc (suc zero)) = Between 0xe0 0xef x
-Lead x (suc (suc (suc zero))) = Between 0xf0 0xf7 x
-Lead x (suc (suc (suc (suc n)))) = ⊥
+-- The rest of a character, and text after it.
+record Begun (rs : List Range) (s : List ℕ) : Type 0 where
+  front : List ℕ
+  rest : List ℕ
+  fits : Fits rs front
+  good : IsText rest
+  joined : front ++ rest ≡ s
 
-lead-of : (x n : ℕ) → followers x ≡ some n → Lead x n
-unfolding followers Lead Between
-lead-of x n e = go (ltb x 0x80) refl (ltb x 0xc0) refl (ltb x 0xe0) refl (ltb x 0xf0) refl (ltb x 0xf8) refl n e
+led : (x : ℕ) (rs : List Range) (s : List ℕ) → after grammar x ≡ some rs → Begun rs s → IsText (x ∷ s)
+led x rs s e b =
+    subst (λ (s : List ℕ). IsText (x ∷ s)) (b .joined) (utf8.more (x ∷ b .front) (b .rest) (row-of grammar x rs (b .front) e (b .fits)) (b .good))
+
+passed-text : (s : List ℕ) (rs : List Range) → textAfter rs s ≡ true → Begun rs s
+unfolding textAfter Fits
+passed-text [] [] e = record { front = []; rest = []; fits = tt; good = utf8.none; joined = refl }
+passed-text [] (r ∷ rs) e = absurd (false≢true e)
+passed-text (x ∷ s) [] e = record { front = []; rest = x ∷ s; fits = tt; good = go (after grammar x) refl e (passed-text s); joined = refl }
   where
-    which : (k n : ℕ) → Lead x k → some k ≡ some n → Lead x n
-    which k n h e = let q : k ≡ n = cc in subst (Lead x) q h
-
-    go : (a : Bool) → ltb x 0x80 ≡ a → (b : Bool) → ltb x 0xc0 ≡ b → (c : Bool) → ltb x 0xe0 ≡ c → (d : Bool) → ltb x 0xf0 ≡ d
-        → (f : Bool) → ltb x 0xf8 ≡ f → (n : ℕ)
-        → cond a (some 0) (cond b none (cond c (some 1) (cond d (some 2) (cond f (some 3) none)))) ≡ some n → Lead x n
-    go true p b q c r d s f t n e = let h = ltb-true x 0x80 p in which 0 n (omega arith, omega arith) e
-    go false p true q c r d s f t n e = let z : _≡_ {A = ℕ} 0 1 = cc in absurd (omega arith)
-    go false p false q true r d s f t n e =
-        let h = ltb-false x 0xc0 q in
-        let k = ltb-true x 0xe0 r in
-        which 1 n (h, omega arith) e
-    go false p false q false r true s f t n e =
-        let h = ltb-false x 0xe0 r in
-        let k = ltb-true x 0xf0 s in
-        which 2 n (h, omega arith) e
-    go false p false q false r false s true t n e =
-        let h = ltb-false x 0xf0 s in
-        let k = ltb-true x 0xf8 t in
-        which 3 n (h, omega arith) e
-    go false p false q false r false s false t n e = let z : _≡_ {A = ℕ} 0 1 = cc in absurd (omega arith)
-
-tail-of : (x : ℕ) → leb 0x80 x ≡ true → ltb x 0xc0 ≡ true → Tail x
-unfolding Between
-tail-of x p q = let h = leb-true 0x80 x p in let k = ltb-true x 0xc0 q in (h, omega arith)
-
--- Text after n octets that are still to come of a group.
-After : ℕ → List ℕ → Type 0
-After zero s = IsText s
-After (suc n) [] = ⊥
-After (suc n) (x ∷ s) = Tail x × After n s
-
--- A lead and the octets that it takes are a group.
-led : (x n : ℕ) (s : List ℕ) → Lead x n → After n s → IsText (x ∷ s)
-unfolding Lead After
-led x zero s l t = groups.more (x ∷ []) s (one x l) t
-led x (suc zero) [] l t = absurd t
-led x (suc zero) (b ∷ s) l t = groups.more (x ∷ b ∷ []) s (two x b l (t .0)) (t .1)
-led x (suc (suc zero)) [] l t = absurd t
-led x (suc (suc zero)) (b ∷ []) l t = absurd (t .1)
-led x (suc (suc zero)) (b ∷ c ∷ s) l t = groups.more (x ∷ b ∷ c ∷ []) s (three x b c l (t .0) (t .1 .0)) (t .1 .1)
-led x (suc (suc (suc zero))) [] l t = absurd t
-led x (suc (suc (suc zero))) (b ∷ []) l t = absurd (t .1)
-led x (suc (suc (suc zero))) (b ∷ c ∷ []) l t = absurd (t .1 .1)
-led x (suc (suc (suc zero))) (b ∷ c ∷ d ∷ s) l t =
-    groups.more (x ∷ b ∷ c ∷ d ∷ []) s (four x b c d l (t .0) (t .1 .0) (t .1 .1 .0)) (t .1 .1 .1)
-led x (suc (suc (suc (suc n)))) s l t = absurd l
-
-passed-text : (s : List ℕ) (n : ℕ) → textAfter n s ≡ true → After n s
-unfolding textAfter follower After
-passed-text [] zero e = groups.none
-passed-text [] (suc n) e = let z : _≡_ {A = ℕ} 0 1 = cc in absurd (omega arith)
-passed-text (x ∷ s) zero e = go (followers x) refl e (passed-text s)
+    go : (o : Option (List Range)) → after grammar x ≡ o → elim o [ none ↦ false | some rs ↦ textAfter rs s ] ≡ true
+        → ((rs : List Range) → textAfter rs s ≡ true → Begun rs s) → IsText (x ∷ s)
+    go none f e later = absurd (false≢true e)
+    go (some rs) f e later = led x rs s f (later rs e)
+passed-text (x ∷ s) (r ∷ rs) e = go (within r x) refl e (passed-text s rs)
   where
-    go : (o : Option ℕ) → followers x ≡ o → elim o [ none ↦ false | some n ↦ textAfter n s ] ≡ true
-        → ((n : ℕ) → textAfter n s ≡ true → After n s) → IsText (x ∷ s)
-    go none f e later = let z : _≡_ {A = ℕ} 0 1 = cc in absurd (omega arith)
-    go (some n) f e later = led x n s (lead-of x n f) (later n e)
-passed-text (x ∷ s) (suc n) e = go (leb 0x80 x) refl (ltb x 0xc0) refl e (passed-text s n)
+    go : (t : Bool) → within r x ≡ t → (t && textAfter rs s) ≡ true → (textAfter rs s ≡ true → Begun rs s) → Begun (r ∷ rs) (x ∷ s)
+    go true p e later =
+        let b = later e in
+        record {
+          front = x ∷ b .front;
+          rest = b .rest;
+          fits = (range-of r x p, b .fits);
+          good = b .good;
+          joined = ap (λ (s : List ℕ). x ∷ s) (b .joined);
+        }
+    go false p e later = absurd (false≢true e)
+
+text-of : (s : List ℕ) → Begun [] s → IsText s
+unfolding Fits
+text-of s b = go (b .front) (b .fits) (b .joined)
   where
-    go : (a : Bool) → leb 0x80 x ≡ a → (b : Bool) → ltb x 0xc0 ≡ b → a && b && textAfter n s ≡ true → (textAfter n s ≡ true → After n s)
-        → Tail x × After n s
-    go true p true q e later = (tail-of x p q, later e)
-    go true p false q e later = let z : _≡_ {A = ℕ} 0 1 = cc in absurd (omega arith)
-    go false p b q e later = let z : _≡_ {A = ℕ} 0 1 = cc in absurd (omega arith)
+    go : (front : List ℕ) → Fits [] front → front ++ b .rest ≡ s → IsText s
+    go [] f e = subst IsText e (b .good)
+    go (x ∷ g) f e = absurd f
 
 -- Octets pass the test exactly where they are text.
 pub text-exactly : (s : List ℕ) → (text s ≡ true) ↔ IsText s
-unfolding text After
-text-exactly s = (passed-text s 0, text-passes s)
+unfolding text
+text-exactly s = (λ e. text-of s (passed-text s [] e), text-passes s)

@@ -1,8 +1,9 @@
 pub mod Number
 pub mod Signed
 pub mod ControlPart
-pub mod Groups
+pub mod Utf8
 pub mod Text
+pub mod Scalars
 pub mod Control
 pub mod CutControl
 pub mod internal

@@ -1,30 +1,28 @@
--- Testing octets for text, from the left. proofs/Text.antt shows that just the text of Groups.antt passes.
-use Prim.Native.Nat.{ℕ, zero, suc}
+-- Testing octets for text, one after the other. proofs/Text.antt shows that just the text of Utf8.antt passes.
+use Prim.Native.Nat.{ℕ}
 use mathlib.Core.Bool.{Bool, true, false, cond, _&&_}
 use mathlib.Core.List.{List, [], _∷_}
 use mathlib.Core.Option.{Option, none, some}
-use lib.Dec.{leb, ltb}
+use lib.Dec.{leb}
+use Rattle.octets.specs.Utf8.{Range, grammar}
 
--- How many octets follow a lead octet in its group; nothing where an octet is no lead.
-unfoldable pub followers : ℕ → Option ℕ
-followers x =
-    cond (ltb x 0x80) (some 0)
-    (cond (ltb x 0xc0) none
-    (cond (ltb x 0xe0) (some 1)
-    (cond (ltb x 0xf0) (some 2)
-    (cond (ltb x 0xf8) (some 3) none))))
+-- Whether an octet is in a range.
+unfoldable pub within : Range → ℕ → Bool
+within r x = leb (r .low) x && leb x (r .high)
 
--- Whether an octet follows a lead in a group.
-unfoldable pub follower : ℕ → Bool
-follower x = leb 0x80 x && ltb x 0xc0
+-- The ranges of the octets that come after a lead octet, by the first row that it fits; nothing where it fits none.
+unfoldable pub after : List (List Range) → ℕ → Option (List Range)
+after [] x = none
+after ([] ∷ rows) x = after rows x
+after ((r ∷ rs) ∷ rows) x = cond (within r x) (some rs) (after rows x)
 
--- Whether octets are text after a group of which n octets are still to come.
-unfoldable pub textAfter : ℕ → List ℕ → Bool
-textAfter zero [] = true
-textAfter (suc n) [] = false
-textAfter zero (x ∷ s) = elim (followers x) [ none ↦ false | some n ↦ textAfter n s ]
-textAfter (suc n) (x ∷ s) = follower x && textAfter n s
+-- Whether octets are text, where the octets to come of a character that has begun have these ranges.
+unfoldable pub textAfter : List Range → List ℕ → Bool
+textAfter [] [] = true
+textAfter (r ∷ rs) [] = false
+textAfter [] (x ∷ s) = elim (after grammar x) [ none ↦ false | some rs ↦ textAfter rs s ]
+textAfter (r ∷ rs) (x ∷ s) = within r x && textAfter rs s
 
 -- Whether octets are text.
 unfoldable pub text : List ℕ → Bool
-text s = textAfter 0 s
+text s = textAfter [] s

@@ -1,3 +1,5 @@
-pub mod Groups
-pub mod Lasts
-pub mod Sizes
+pub mod Leads
+pub mod Plain
+pub mod Judging
+pub mod Turns
+pub mod Characters

@@ -1,2 +1,3 @@
-pub mod Last
-pub mod Group
+pub mod Plain
+pub mod Pending
+pub mod Character

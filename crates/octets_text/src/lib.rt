@@ -1,20 +1,50 @@
-// Testing octets for text: single octets below 0x80, and groups of a lead octet and the octets that follow it.
+// Testing octets for text, which is UTF-8: octets below 0x80, and characters of a lead octet and one to three more.
 ghost use mathlib.Core.Path.{_≡_};
-ghost use mathlib.Core.Bool.{cond, false};
+ghost use mathlib.Core.Bool.{cond, false, not, _||_};
 ghost use mathlib.Core.List.{List, _∷_};
-ghost use Prim.Native.Nat.{ℕ, _<_, _≤_};
-ghost use lib.Dec.{ltb};
-ghost use lib.ListN.{length, drop};
-ghost use Rattle.octets.specs.Text.{text as text-of, textAfter};
-ghost use Rattle.octets_text.specs.internal.Last.{toCome};
-ghost use Rattle.octets_text.specs.internal.Group.{follow, groupSize};
+ghost use Prim.Native.Nat.{ℕ, _+_, _-_, _<_, _≤_, max};
+ghost use lib.Dec.{leb, ltb};
+ghost use lib.ListN.{length, drop, getD};
+ghost use Rattle.octets.specs.Utf8.{tail};
+ghost use Rattle.octets.specs.Text.{text as text-of, textAfter, within};
+ghost use Rattle.octets_text.specs.internal.Plain.{Passed, anyOf};
+ghost use Rattle.octets_text.specs.internal.Pending.{toCome, second, pending};
+ghost use Rattle.octets_text.specs.internal.Character.{follow, characterSize};
 
-// Returns a number of leading octets that are all below 0x80, tested eight at a time. Most texts have no other octets.
-fn plain_front(s: &[u8]) -> usize
-    ensures { λ r. ⌜ r ≤ length (now (s .entry)) ⌝ }
-    ensures { λ r. ⌜ text-of (now (s .entry)) ≡ textAfter 0 (drop r (now (s .entry))) ⌝ }
+// Returns the bits that are set in any of the 64 octets from `from` on.
+fn any_of_64(s: &[u8], from: usize) -> u8
+    requires { ⌜ from + 64 ≤ length (now s) ⌝ }
+    ensures { λ r. ⌜ r ≡ anyOf (now (s .entry)) from 64 ⌝ }
+{
+    let mut any: u8 = 0;
+    let mut i = from;
+    while i < from + 64 {
+        any = any | s[i];
+        i += 1;
+    }
+    any
+}
+
+// Returns a number of leading octets that are all below 0x80, tested 64 at a time.
+fn plain_blocks(s: &[u8]) -> usize
+    ensures { λ r. ⌜ Passed (now (s .entry)) r ⌝ }
 {
     let mut i = 0;
+    while 64 <= s.len() - i {
+        if 0x80 <= any_of_64(s, i) {
+            return i;
+        }
+        i += 64;
+    }
+    i
+}
+
+// Returns the end of octets from `from` on that are all below 0x80, tested eight at a time.
+fn plain_front(s: &[u8], from: usize) -> usize
+    requires { ⌜ Passed (now s) from ⌝ }
+    ensures { λ r. ⌜ Passed (now (s .entry)) r ⌝ }
+{
+    let mut i = from;
     while 8 <= s.len() - i {
         let a = s[i] | s[i + 1] | s[i + 2] | s[i + 3];
         let b = s[i + 4] | s[i + 5] | s[i + 6] | s[i + 7];
@@ -26,12 +56,12 @@ fn plain_front(s: &[u8]) -> usize
     i
 }
 
-// Returns the number of leading octets that are below 0x80. Most short texts have no other octets.
-fn plain_run(s: &[u8]) -> usize
-    ensures { λ r. ⌜ r ≤ length (now (s .entry)) ⌝ }
-    ensures { λ r. ⌜ text-of (now (s .entry)) ≡ textAfter 0 (drop r (now (s .entry))) ⌝ }
+// Returns the offset of the first octet from `from` on that is not below 0x80. Most short texts have none.
+fn plain_run(s: &[u8], from: usize) -> usize
+    requires { ⌜ Passed (now s) from ⌝ }
+    ensures { λ r. ⌜ Passed (now (s .entry)) r ⌝ }
 {
-    let mut i = plain_front(s);
+    let mut i = plain_front(s, from);
     while i < s.len() {
         if 0x80 <= s[i] {
             return i;
@@ -41,117 +71,206 @@ fn plain_run(s: &[u8]) -> usize
     i
 }
 
-// Returns whether a group is incomplete after the octets a, b and c, the last three so far: one of them leads a group that extends past c.
+// Returns v if t is true, otherwise 0.
+fn when(t: bool, v: u8) -> u8
+    ensures { λ r. ⌜ r ≡ cond t v 0 ⌝ }
+{
+    if t {
+        return v;
+    }
+    0
+}
+
+// Returns x - y, 0 if y is larger.
+fn over(x: u8, y: u8) -> u8
+    ensures { λ r. ⌜ r ≡ x - y ⌝ }
+{
+    if x <= y {
+        return 0;
+    }
+    x - y
+}
+
+// Returns the larger of two octets.
+fn larger(x: u8, y: u8) -> u8
+    ensures { λ r. ⌜ r ≡ max x y ⌝ }
+{
+    if x <= y {
+        return y;
+    }
+    x
+}
+
+// Returns whether a character is incomplete after the octets a, b and c, the last three so far: one of them is a lead that takes octets past c.
 fn wanting(a: u8, b: u8, c: u8) -> bool
     ensures { λ r. ⌜ r ≡ ltb 0 (toCome a b c) ⌝ }
 {
-    (0xc0 <= c) | (0xe0 <= b) | (0xf0 <= a)
+    0 < (over(c, 0xbf) | over(b, 0xdf) | over(a, 0xef))
 }
 
-// Returns whether x is not allowed after the octets a, b and c.
-fn wrong(a: u8, b: u8, c: u8, x: u8) -> bool
-    ensures { λ r. ⌜ ((s : List ℕ) → textAfter (toCome a b c) (x ∷ s) ≡ cond r false (textAfter (toCome b c x) s)) ⌝ }
+// Returns 0 if x, an octet from 0x80 on, is not below the range of the octet after c, otherwise another number. Returns 0 for c below 0xe0.
+fn too_low(c: u8, x: u8) -> u8
+    ensures { λ r. ⌜ (0x80 ≤ x → ltb 0 r ≡ ltb x (second c .low)) ⌝ }
+    ensures { λ r. ⌜ (c < 0xe0 → r ≡ 0) ⌝ }
 {
-    let follows = (0x80 <= x) & (x < 0xc0);
-    (wanting(a, b, c) ^ follows) | (0xf8 <= x)
+    over(when(c == 0xe0, 0xa0) | when(c == 0xf0, 0x90), x)
 }
 
-// Returns whether octets are text, given that those before `from` are whole groups. Each octet is tested against the three before it only,
+// Returns 0 if x, an octet from 0x80 to 0xbf, is not above the range of the octet after c, otherwise another number: the bits of x that show it.
+// Returns 0 for c below 0xe0.
+fn too_high(c: u8, x: u8) -> u8
+    ensures { λ r. ⌜ (0x80 ≤ x → x ≤ 0xbf → ltb 0 r ≡ ltb (second c .high) x) ⌝ }
+    ensures { λ r. ⌜ (c < 0xe0 → r ≡ 0) ⌝ }
+{
+    x & (when(c == 0xed, 0x20) | when(c == 0xf4, 0x30))
+}
+
+// Returns 0 if x is allowed after the octets a, b and c, otherwise another number. Octets from 0xf5 on are never allowed; they are left to the
+// caller, who tests the largest octet once.
+fn wrong(a: u8, b: u8, c: u8, x: u8) -> u8
+    ensures { λ r. ⌜ ((s : List ℕ) → textAfter (pending (toCome a b c) c) (x ∷ s) ≡ cond (ltb 0 r || leb 0xf5 x) false (textAfter (pending (toCome b c x) x) s)) ⌝ }
+{
+    let follows = (0x80 <= x) & (x <= 0xbf);
+    let overlong = (x == 0xc0) | (x == 0xc1);
+    when((wanting(a, b, c) ^ follows) | overlong, 0xff) | (too_low(c, x) | too_high(c, x))
+}
+
+// Returns whether octets are text, given that those before `from` are whole characters. Each octet is tested against the three before it only,
 // and the loop has no early exit, so that the compiler can vectorize it.
 fn long_text(s: &[u8], from: usize) -> bool
-    requires { ⌜ from ≤ length (now s) ⌝ }
-    requires { ⌜ text-of (now s) ≡ textAfter 0 (drop from (now s)) ⌝ }
+    requires { ⌜ Passed (now s) from ⌝ }
+    requires { ⌜ from + 3 ≤ length (now s) ⌝ }
     ensures { λ r. ⌜ r ≡ text-of (now (s .entry)) ⌝ }
 {
-    let mut i = from;
-    let mut a: u8 = 0;
-    let mut b: u8 = 0;
-    let mut c: u8 = 0;
-    let mut bad = false;
+    let x = s[from];
+    let y = s[from + 1];
+    let z = s[from + 2];
+    let mut bad = wrong(0, 0, 0, x) | wrong(0, 0, x, y) | wrong(0, x, y, z);
+    let mut largest = larger(larger(x, y), z);
+    let mut i = from + 3;
     while i < s.len() {
-        let x = s[i];
-        bad = bad | wrong(a, b, c, x);
-        a = b;
-        b = c;
-        c = x;
+        let d = s[i];
+        bad = bad | wrong(s[i - 3], s[i - 2], s[i - 1], d);
+        largest = larger(largest, d);
         i += 1;
     }
-    !(bad | wanting(a, b, c))
+    !((0 < bad) | (0xf5 <= largest) | wanting(s[i - 3], s[i - 2], s[i - 1]))
 }
 
-// Returns whether the octet at i may follow a lead.
-fn one_follows(s: &[u8], i: usize) -> bool
-    ensures { λ r. ⌜ r ≡ follow 1 (drop i (now (s .entry))) ⌝ }
+// Returns whether x is in the range of every octet of a character but the first and the second.
+fn is_tail(x: u8) -> bool
+    ensures { λ r. ⌜ r ≡ within tail x ⌝ }
 {
-    if s.len() <= i {
+    (0x80 <= x) & (x <= 0xbf)
+}
+
+// Returns the least octet that may follow the lead c.
+fn least_second(c: u8) -> u8
+    ensures { λ r. ⌜ r ≡ second c .low ⌝ }
+{
+    if c == 0xe0 {
+        return 0xa0;
+    }
+    if c == 0xf0 {
+        return 0x90;
+    }
+    0x80
+}
+
+// Returns the greatest octet that may follow the lead c.
+fn greatest_second(c: u8) -> u8
+    ensures { λ r. ⌜ r ≡ second c .high ⌝ }
+{
+    if c == 0xed {
+        return 0x9f;
+    }
+    if c == 0xf4 {
+        return 0x8f;
+    }
+    0xbf
+}
+
+// Returns whether x may follow the lead c.
+fn is_second(c: u8, x: u8) -> bool
+    ensures { λ r. ⌜ r ≡ within (second c) x ⌝ }
+{
+    (least_second(c) <= x) & (x <= greatest_second(c))
+}
+
+// Returns whether one octet may follow the lead at i and is there.
+fn one_follows(s: &[u8], i: usize) -> bool
+    requires { ⌜ i < length (now s) ⌝ }
+    ensures { λ r. ⌜ r ≡ follow (pending 1 (getD (now (s .entry)) i 0)) (drop (i + 1) (now (s .entry))) ⌝ }
+{
+    if s.len() - i < 2 {
         return false;
     }
-    let x = s[i];
-    (0x80 <= x) & (x < 0xc0)
+    is_second(s[i], s[i + 1])
 }
 
-// Returns whether the two octets from i on may follow a lead.
+// The same for two octets.
 fn two_follow(s: &[u8], i: usize) -> bool
-    ensures { λ r. ⌜ r ≡ follow 2 (drop i (now (s .entry))) ⌝ }
-{
-    if one_follows(s, i) {
-        return one_follows(s, i + 1);
-    }
-    false
-}
-
-// Returns whether the three octets from i on may follow a lead.
-fn three_follow(s: &[u8], i: usize) -> bool
-    ensures { λ r. ⌜ r ≡ follow 3 (drop i (now (s .entry))) ⌝ }
-{
-    if one_follows(s, i) {
-        return two_follow(s, i + 1);
-    }
-    false
-}
-
-// Returns how many octets the group at i has, 0 if no group starts there.
-fn group(s: &[u8], i: usize) -> usize
     requires { ⌜ i < length (now s) ⌝ }
-    ensures { λ r. ⌜ r ≡ groupSize (drop i (now (s .entry))) ⌝ }
+    ensures { λ r. ⌜ r ≡ follow (pending 2 (getD (now (s .entry)) i 0)) (drop (i + 1) (now (s .entry))) ⌝ }
+{
+    if s.len() - i < 3 {
+        return false;
+    }
+    is_second(s[i], s[i + 1]) & is_tail(s[i + 2])
+}
+
+// The same for three octets.
+fn three_follow(s: &[u8], i: usize) -> bool
+    requires { ⌜ i < length (now s) ⌝ }
+    ensures { λ r. ⌜ r ≡ follow (pending 3 (getD (now (s .entry)) i 0)) (drop (i + 1) (now (s .entry))) ⌝ }
+{
+    if s.len() - i < 4 {
+        return false;
+    }
+    is_second(s[i], s[i + 1]) & is_tail(s[i + 2]) & is_tail(s[i + 3])
+}
+
+// Returns how many octets the character at i has, 0 if no character starts there.
+fn character(s: &[u8], i: usize) -> usize
+    requires { ⌜ i < length (now s) ⌝ }
+    ensures { λ r. ⌜ r ≡ characterSize (drop i (now (s .entry))) ⌝ }
 {
     let x = s[i];
     if x < 0x80 {
         return 1;
     }
-    if x < 0xc0 {
+    if x < 0xc2 {
         return 0;
     }
     if x < 0xe0 {
-        if one_follows(s, i + 1) {
+        if one_follows(s, i) {
             return 2;
         }
         return 0;
     }
     if x < 0xf0 {
-        if two_follow(s, i + 1) {
+        if two_follow(s, i) {
             return 3;
         }
         return 0;
     }
-    if 0xf8 <= x {
+    if 0xf5 <= x {
         return 0;
     }
-    if three_follow(s, i + 1) {
+    if three_follow(s, i) {
         return 4;
     }
     0
 }
 
-// The same as `long_text`, group by group, which is faster when few octets remain.
+// The same as `long_text`, character by character, which is faster when few octets remain.
 fn short_text(s: &[u8], from: usize) -> bool
-    requires { ⌜ from ≤ length (now s) ⌝ }
-    requires { ⌜ text-of (now s) ≡ textAfter 0 (drop from (now s)) ⌝ }
+    requires { ⌜ Passed (now s) from ⌝ }
     ensures { λ r. ⌜ r ≡ text-of (now (s .entry)) ⌝ }
 {
-    let mut i = from;
+    let mut i = plain_run(s, from);
     while i < s.len() {
-        let n = group(s, i);
+        let n = character(s, i);
         if n == 0 {
             return false;
         }
@@ -160,14 +279,11 @@ fn short_text(s: &[u8], from: usize) -> bool
     true
 }
 
-// Returns whether octets are text. If all octets are below 0x80, the first run reads them all.
+// Returns whether octets are text.
 pub fn text(s: &[u8]) -> bool
     ensures { λ r. ⌜ r ≡ text-of (now (s .entry)) ⌝ }
 {
-    let i = plain_run(s);
-    if i == s.len() {
-        return true;
-    }
+    let i = plain_blocks(s);
     if s.len() - i < 64 {
         return short_text(s, i);
     }

@@ -4,6 +4,7 @@ use mathlib.Core.List.{[], _∷_, _++_}
 use Rattle.octets.specs.Number as octets
 use Rattle.octets.specs.Signed as signs
 use Rattle.octets.specs.Control as controls
+use Rattle.octets.specs.Utf8.{grammar}
 use Rattle.octets.specs.Text as texts
 use Rattle.table.specs.Entry as entries
 use Rattle.table.specs.Schema as schemas
@@ -48,6 +49,6 @@ unfolding input output shows.firstText shows.tableText shows.secondText prints.m
     readings.step readings.stepFrom readings.stepByKind trees.tree readings.tagAt readings.tagOf entries.innerOf trees.value trees.fields trees.depth
     schemas.schema schemas.schemaOf entries.find entries.meaning entries.entries entries.entry loads.load loads.loadFrom loads.accepted loads.refused loads.tableOf loads.faulty
     loads.seen loads.pair loads.wordsBefore loads.wellFormed loads.wordAt loads.recordAt loads.inRange valids.valid valids.allInRange valids.allZero
-    repeats.distinct texts.text texts.textAfter texts.follower texts.followers octets.bigEndian signs.integer signs.withSign signs.lowest
+    repeats.distinct texts.text texts.textAfter texts.after texts.within grammar octets.bigEndian signs.integer signs.withSign signs.lowest
     controls.control controls.controlOf controls.following controls.coded
 samples-hold = (refl, refl, refl, refl, refl, refl, refl, refl)

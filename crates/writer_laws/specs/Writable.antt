@@ -4,7 +4,7 @@ use Prim.Native.Nat.{ℕ, _^_, _<_}
 use mathlib.Core.Path.{_≡_}
 use mathlib.Core.List.{List}
 use lib.Signed.{mag}
-use Rattle.octets.specs.Groups.{IsText}
+use Rattle.octets.specs.Utf8.{IsText}
 use Rattle.table.specs.Schema.{Schema}
 use Rattle.table.specs.declared.Meaning.{Meaning}
 use Rattle.table.specs.declared.Meaning.the-variants.{Uint, Int, String, Text, Message}

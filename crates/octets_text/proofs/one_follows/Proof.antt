@@ -1,17 +1,43 @@
 -- `octets_text::one_follows` meets its contract.
 use borrow.Author.Needs.{needs}
-use Rattle.octets_text.proofs.Sizes.{follows-none, follows-one}
+use native.Mathlib.Omega.{arith}
+use mathlib.Core.Path.{_∙_}
+use lib.ListN.{getD}
+use Rattle.octets_text.proofs.Characters.{too-few, one-is}
 use Rattle.octets_text.proofs.one_follows.Statement.{statement}
 use Rattle.octets_text.proofs.one_follows.Tie as tie
 
-returns : tie.Need-returns
-returns c = let b = c .before in follows-none (b .args .s .now) (b .args .i) (c .if1 .taken)
+sub-if1 : tie.Need-sub-if1
+sub-if1 c = search needs
 
-shared-slice-read-x : tie.Need-shared-slice-read-x
-shared-slice-read-x c = search needs
+returns : tie.Need-returns
+returns c = let b = c .before .before in too-few (getD (b .args .s .now) (b .args .i) 0) (b .args .s .now) (b .args .i) 1 (b .pre) (omega (arith, c .if1 .taken))
+
+shared-slice-read-is-second : tie.Need-shared-slice-read-is-second
+shared-slice-read-is-second c = search needs
+
+add-is-second : tie.Need-add-is-second
+add-is-second c = search needs
+
+shared-slice-read-is-second-2 : tie.Need-shared-slice-read-is-second-2
+shared-slice-read-is-second-2 c = search needs
+
+is-second-requires : tie.Need-is-second-requires
+is-second-requires c κs = search needs
 
 returns-2 : tie.Need-returns-2
-returns-2 c = let b = c .before .before in follows-one (b .args .s .now) (b .args .i) (c .before .if1 .left)
+returns-2 c =
+    let b = c .before .before .before .before .before in
+    c .is-second .ensures ∙ one-is (getD (b .args .s .now) (b .args .i) 0) (b .args .s .now) (b .args .i) (omega (arith, c .before .before .before .if1 .left))
 
 pub one-follows-spec : {M : Type 1} → statement M
-one-follows-spec = tie.close (tie.spec returns shared-slice-read-x returns-2)
+one-follows-spec =
+    tie.close
+    (tie.spec
+    sub-if1
+    returns
+    shared-slice-read-is-second
+    add-is-second
+    shared-slice-read-is-second-2
+    is-second-requires
+    returns-2)

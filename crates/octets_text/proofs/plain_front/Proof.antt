@@ -1,20 +1,21 @@
--- `octets_text::plain_front` meets its contract: the octets passed stand alone, so that the rest decides.
-use Prim.Native.Nat.{_-_}
+-- `octets_text::plain_front` meets its contract: the octets passed are below 0x80, so that the rest decides.
 use borrow.Author.Needs.{needs}
 use native.Mathlib.Omega.{arith}
+use Prim.Native.Nat.{_-_}
 use lib.ListN.{length}
-use Rattle.octets_text.proofs.Groups.{Here, start, eight-plain}
+use Rattle.octets_text.specs.internal.Plain.{Passed}
+use Rattle.octets_text.proofs.Plain.{eight-plain}
 use Rattle.octets_text.proofs.plain_front.Statement.{statement}
 use Rattle.octets_text.proofs.plain_front.Tie as tie
 
 abbrev Inv-loop : tie.InvT-loop
-Inv-loop s i₀ i = Here s i
+Inv-loop s from i₀ i = Passed s i
 
 abbrev μ-loop : tie.MeasureT-loop
-μ-loop s i₀ i = length s - i
+μ-loop s from i₀ i = length s - i
 
 loop-holds : tie.Need-loop-holds Inv-loop μ-loop
-loop-holds c = start (c .args .s .now)
+loop-holds c = c .pre
 
 sub-loop : tie.Need-sub-loop Inv-loop μ-loop
 sub-loop c = search needs
@@ -65,9 +66,7 @@ shared-slice-read-b-4 : tie.Need-shared-slice-read-b-4 Inv-loop μ-loop
 shared-slice-read-b-4 c = search needs
 
 returns : tie.Need-returns Inv-loop μ-loop
-returns c =
-    let b = c .before .before .before .before .before .before .before .before .before .before in
-    (b .loop .inv .inside, b .loop .inv .same)
+returns c = c .before .before .before .before .before .before .before .before .before .before .loop .inv
 
 add-i : tie.Need-add-i Inv-loop μ-loop
 add-i c = search needs
@@ -81,7 +80,7 @@ loop-again c =
     eight-plain (b .before .before .args .s .now) (b .before .loop .i) (b .before .loop .inv) (b .loop-test .taken) (c .if1 .left)
 
 returns-2 : tie.Need-returns-2 Inv-loop μ-loop
-returns-2 c = (c .before .loop .inv .inside, c .before .loop .inv .same)
+returns-2 c = c .before .loop .inv
 
 pub plain-front-spec : {M : Type 1} → statement M
 plain-front-spec =

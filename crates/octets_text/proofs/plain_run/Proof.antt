@@ -1,29 +1,30 @@
--- `octets_text::plain_run` meets its contract: the octets passed stand alone, so that the rest decides.
-use Prim.Native.Nat.{_-_}
+-- `octets_text::plain_run` meets its contract: the octets passed are below 0x80, so that the rest decides.
 use borrow.Author.Needs.{needs}
 use native.Mathlib.Omega.{arith}
+use Prim.Native.Nat.{_-_}
 use lib.ListN.{length}
-use Rattle.octets_text.proofs.Groups.{Here, plain}
+use Rattle.octets_text.specs.internal.Plain.{Passed}
+use Rattle.octets_text.proofs.Plain.{plain}
 use Rattle.octets_text.proofs.plain_run.Statement.{statement}
 use Rattle.octets_text.proofs.plain_run.Tie as tie
 
 abbrev Inv-loop : tie.InvT-loop
-Inv-loop s i₀ i = Here s i
+Inv-loop s from i₀ i = Passed s i
 
 abbrev μ-loop : tie.MeasureT-loop
-μ-loop s i₀ i = length s - i
+μ-loop s from i₀ i = length s - i
 
 plain-front-requires : tie.Need-plain-front-requires Inv-loop μ-loop
-plain-front-requires c κs = search needs
+plain-front-requires c κs = c .before .pre
 
 loop-holds : tie.Need-loop-holds Inv-loop μ-loop
-loop-holds c = record { inside = c .plain-front .ensures .0; same = c .plain-front .ensures .1 }
+loop-holds c = c .plain-front .ensures
 
 shared-slice-read-if1 : tie.Need-shared-slice-read-if1 Inv-loop μ-loop
 shared-slice-read-if1 c = search needs
 
 returns : tie.Need-returns Inv-loop μ-loop
-returns c = let p = c .before .before .before .loop .inv in (p .inside, p .same)
+returns c = c .before .before .before .loop .inv
 
 add-i : tie.Need-add-i Inv-loop μ-loop
 add-i c = search needs
@@ -37,7 +38,7 @@ loop-again c =
     plain (b .before .before .before .args .s .now) (b .loop .i) (b .loop .inv) (c .before .before .loop-test .taken) (c .if1 .left)
 
 returns-2 : tie.Need-returns-2 Inv-loop μ-loop
-returns-2 c = let p = c .before .loop .inv in (p .inside, p .same)
+returns-2 c = c .before .loop .inv
 
 pub plain-run-spec : {M : Type 1} → statement M
 plain-run-spec =

@@ -1,36 +1,40 @@
--- `octets_text::short_text` meets its contract: the octets passed are whole groups, so that the rest decides.
-use Prim.Native.Nat.{_+_, _-_}
+-- `octets_text::short_text` meets its contract: the octets passed are whole characters, so that the rest decides.
 use native.Mathlib.Omega.{arith}
+use Prim.Native.Nat.{_+_, _-_}
 use lib.ListN.{length}
-use Rattle.octets_text.proofs.Groups.{Here}
-use Rattle.octets_text.proofs.Sizes.{stopped, passed, at-end}
+use Rattle.octets_text.specs.internal.Plain.{Passed}
+use Rattle.octets_text.proofs.Plain.{at-end}
+use Rattle.octets_text.proofs.Characters.{stopped, passed}
 use Rattle.octets_text.proofs.short_text.Statement.{statement}
 use Rattle.octets_text.proofs.short_text.Tie as tie
 
 abbrev Inv-loop : tie.InvT-loop
-Inv-loop s from i₀ i = Here s i
+Inv-loop s from i₀ i = Passed s i
 
 abbrev μ-loop : tie.MeasureT-loop
 μ-loop s from i₀ i = length s - i
 
--- What is known after a group.
-next : (c : tie.Else1 Inv-loop μ-loop) → Here (c .before .before .before .before .before .args .s .now) (c .before .before .before .loop .i + c .before .group .result)
+-- What is known after a character.
+next : (c : tie.Else1 Inv-loop μ-loop) → Passed (c .before .before .before .before .before .before .args .s .now) (c .before .before .before .loop .i + c .before .character .result)
 next c =
     let k = c .before .before .before in
-    passed (k .before .before .args .s .now) (k .loop .i) (c .before .group .result) (k .loop .inv) (c .before .before .loop-test .taken)
-    (c .before .group .ensures) (c .if1 .left)
+    passed (k .before .before .before .args .s .now) (k .loop .i) (c .before .character .result) (k .loop .inv) (c .before .before .loop-test .taken)
+    (c .before .character .ensures) (c .if1 .left)
+
+plain-run-requires : tie.Need-plain-run-requires Inv-loop μ-loop
+plain-run-requires c κs = c .before .pre
 
 loop-holds : tie.Need-loop-holds Inv-loop μ-loop
-loop-holds c = record { inside = c .before .pre .0; same = c .before .pre .1 }
+loop-holds c = c .plain-run .ensures
 
-group-requires : tie.Need-group-requires Inv-loop μ-loop
-group-requires c κs = c .loop-test .taken
+character-requires : tie.Need-character-requires Inv-loop μ-loop
+character-requires c κs = c .loop-test .taken
 
 returns : tie.Need-returns Inv-loop μ-loop
 returns c =
     let k = c .before .before .before in
-    stopped (k .before .before .args .s .now) (k .loop .i) (c .before .group .result) (k .loop .inv) (c .before .before .loop-test .taken)
-    (c .before .group .ensures) (c .if1 .taken)
+    stopped (k .before .before .before .args .s .now) (k .loop .i) (c .before .character .result) (k .loop .inv) (c .before .before .loop-test .taken)
+    (c .before .character .ensures) (c .if1 .taken)
 
 add-i : tie.Need-add-i Inv-loop μ-loop
 add-i c = omega (arith, next c .inside)
@@ -42,7 +46,7 @@ loop-again : tie.Need-loop-again Inv-loop μ-loop
 loop-again c = next c
 
 returns-2 : tie.Need-returns-2 Inv-loop μ-loop
-returns-2 c = let k = c .before in at-end (k .before .before .args .s .now) (k .loop .i) (k .loop .inv) (c .loop-test .left)
+returns-2 c = let k = c .before in at-end (k .before .before .before .args .s .now) (k .loop .i) (k .loop .inv) (c .loop-test .left)
 
 pub short-text-spec : {M : Type 1} → statement M
 short-text-spec =
@@ -50,8 +54,9 @@ short-text-spec =
     (tie.spec
     Inv-loop
     μ-loop
+    plain-run-requires
     loop-holds
-    group-requires
+    character-requires
     returns
     add-i
     loop-less

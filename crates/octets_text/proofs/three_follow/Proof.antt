@@ -1,34 +1,67 @@
 -- `octets_text::three_follow` meets its contract.
-use native.Mathlib.Omega.{arith}
-use mathlib.Core.Path.{sym, _∙_}
 use borrow.Author.Needs.{needs}
-use Rattle.octets_text.proofs.Sizes.{follow-then, follow-not, follow-inside}
+use native.Mathlib.Omega.{arith}
+use lib.ListN.{getD}
+use Rattle.octets_text.proofs.Characters.{too-few, three-is}
 use Rattle.octets_text.proofs.three_follow.Statement.{statement}
 use Rattle.octets_text.proofs.three_follow.Tie as tie
 
-one-follows-requires : tie.Need-one-follows-requires
-one-follows-requires c κs = search needs
-
-add-two-follow : tie.Need-add-two-follow
-add-two-follow c =
-    let b = c .before .before .before in
-    omega (arith, follow-inside (b .args .s .now) (b .args .i) (sym (c .if1 .taken) ∙ c .before .one-follows .ensures))
-
-two-follow-requires : tie.Need-two-follow-requires
-two-follow-requires c κs = search needs
+sub-if1 : tie.Need-sub-if1
+sub-if1 c = search needs
 
 returns : tie.Need-returns
-returns c =
-    let k = c .before .before in
-    let b = k .before .before in
-    c .two-follow .ensures ∙ follow-then 2 (b .args .s .now) (b .args .i) (sym (c .before .if1 .taken) ∙ k .one-follows .ensures)
+returns c = let b = c .before .before in too-few (getD (b .args .s .now) (b .args .i) 0) (b .args .s .now) (b .args .i) 3 (b .pre) (omega (arith, c .if1 .taken))
+
+shared-slice-read-is-second : tie.Need-shared-slice-read-is-second
+shared-slice-read-is-second c = search needs
+
+add-is-second : tie.Need-add-is-second
+add-is-second c = search needs
+
+shared-slice-read-is-second-2 : tie.Need-shared-slice-read-is-second-2
+shared-slice-read-is-second-2 c = search needs
+
+is-second-requires : tie.Need-is-second-requires
+is-second-requires c κs = search needs
+
+add-is-tail : tie.Need-add-is-tail
+add-is-tail c = search needs
+
+shared-slice-read-is-tail : tie.Need-shared-slice-read-is-tail
+shared-slice-read-is-tail c = search needs
+
+is-tail-requires : tie.Need-is-tail-requires
+is-tail-requires c κs = search needs
+
+add-is-tail-2 : tie.Need-add-is-tail-2
+add-is-tail-2 c = search needs
+
+shared-slice-read-is-tail-2 : tie.Need-shared-slice-read-is-tail-2
+shared-slice-read-is-tail-2 c = search needs
+
+is-tail-requires-2 : tie.Need-is-tail-requires-2
+is-tail-requires-2 c κs = search needs
 
 returns-2 : tie.Need-returns-2
 returns-2 c =
-    let b = c .before .before .before in
-    follow-not 2 (b .args .s .now) (b .args .i) (sym (c .if1 .left) ∙ c .before .one-follows .ensures)
+    let b = c .before .before .before .before .before .before .before .before .before in
+    rw (c .is-tail2 .ensures, c .before .before .is-tail .ensures, c .before .before .before .before .is-second .ensures)
+    (three-is (getD (b .args .s .now) (b .args .i) 0) (b .args .s .now) (b .args .i) (omega (arith, c .before .before .before .before .before .before .before .if1 .left)))
 
 pub three-follow-spec : {M : Type 1} → statement M
 three-follow-spec =
     tie.close
-    (tie.spec one-follows-requires add-two-follow two-follow-requires returns returns-2)
+    (tie.spec
+    sub-if1
+    returns
+    shared-slice-read-is-second
+    add-is-second
+    shared-slice-read-is-second-2
+    is-second-requires
+    add-is-tail
+    shared-slice-read-is-tail
+    is-tail-requires
+    add-is-tail-2
+    shared-slice-read-is-tail-2
+    is-tail-requires-2
+    returns-2)
