@@ -78,6 +78,10 @@ case('ninth_level', LEVELS + '08 17 16 15 14 13 12 11 10', 'refused 5 at 7')
 case('nine_octets', UINT + '0a c9 00 00 00 00 00 00 00 00 00', 'refused 6 at 0')
 case('nine_octets_second', INT + '0b c0 c9 00 00 00 00 00 00 00 00 00', 'refused 6 at 1')
 case('not_text', TEXT + '02 c1 ff', 'refused 7 at 0')
+case('overlong_text', TEXT + '04 c0 c2 c0 80', 'refused 7 at 1')
+case('surrogate', TEXT + '04 c3 ed a0 80', 'refused 7 at 0')
+case('above_10ffff', TEXT + '05 c4 f4 90 80 80', 'refused 7 at 0')
+case('10ffff', TEXT + '05 c4 f4 8f bf bf', HEADING + '1 000c text f48fbfbf\nfields 1 octets 5')
 case('inner_text_first',
      '18 01 00 05 00 00 01 05 00 01 00 05 00 00 02 01 00 01 00 05 00 00 03 04 00 04 12 31 ff 29', 'refused 7 at 1')
 

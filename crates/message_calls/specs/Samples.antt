@@ -58,6 +58,12 @@ samples =
     refuses messages (0x12 ∷ 0x00 ∷ 0xf1 ∷ []) 3 2 ∷
     -- `reading`: 7, the text in the inner message is looked at before the next outer field, whose contents are missing.
     refuses threeKinds (0x12 ∷ 0x31 ∷ 0xff ∷ 0x29 ∷ []) 7 1 ∷
+    -- `grammar`: 7, an overlong text, a surrogate, a value above 10ffff. That value itself is good, and so is a text of no octets.
+    refuses threeKinds (0x32 ∷ 0xc0 ∷ 0x80 ∷ []) 7 0 ∷
+    refuses threeKinds (0x20 ∷ 0x33 ∷ 0xed ∷ 0xa0 ∷ 0x80 ∷ []) 7 1 ∷
+    refuses threeKinds (0x34 ∷ 0xf4 ∷ 0x90 ∷ 0x80 ∷ 0x80 ∷ []) 7 0 ∷
+    accepts threeKinds (0x34 ∷ 0xf4 ∷ 0x8f ∷ 0xbf ∷ 0xbf ∷ []) 1 1 ∷
+    accepts threeKinds (0x30 ∷ []) 1 1 ∷
     -- `depthLimit`: eight messages, each in the one before; and 5, a ninth, though it is empty. 4 comes before 5: the ninth is not whole.
     accepts messages (0x16 ∷ 0x15 ∷ 0x14 ∷ 0x13 ∷ 0x12 ∷ 0x11 ∷ 0x10 ∷ []) 7 8 ∷
     refuses messages (0x17 ∷ 0x16 ∷ 0x15 ∷ 0x14 ∷ 0x13 ∷ 0x12 ∷ 0x11 ∷ 0x10 ∷ []) 5 7 ∷
