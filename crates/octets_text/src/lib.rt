@@ -39,12 +39,15 @@ fn plain_blocks(s: &[u8]) -> usize
     i
 }
 
-// Returns the end of octets from `from` on that are all below 0x80, tested eight at a time.
-fn plain_front(s: &[u8], from: usize) -> usize
-    requires { ⌜ Passed (now s) from ⌝ }
+// Returns a number of leading octets that are all below 0x80, tested 64 and then eight at a time. Most texts have no other octets, and many
+// are shorter than eight octets.
+fn plain_front(s: &[u8]) -> usize
     ensures { λ r. ⌜ Passed (now (s .entry)) r ⌝ }
 {
-    let mut i = from;
+    if s.len() < 8 {
+        return 0;
+    }
+    let mut i = plain_blocks(s);
     while 8 <= s.len() - i {
         let a = s[i] | s[i + 1] | s[i + 2] | s[i + 3];
         let b = s[i + 4] | s[i + 5] | s[i + 6] | s[i + 7];
@@ -56,12 +59,11 @@ fn plain_front(s: &[u8], from: usize) -> usize
     i
 }
 
-// Returns the offset of the first octet from `from` on that is not below 0x80. Most short texts have none.
-fn plain_run(s: &[u8], from: usize) -> usize
-    requires { ⌜ Passed (now s) from ⌝ }
+// Returns the number of leading octets that are below 0x80.
+fn plain_run(s: &[u8]) -> usize
     ensures { λ r. ⌜ Passed (now (s .entry)) r ⌝ }
 {
-    let mut i = plain_front(s, from);
+    let mut i = plain_front(s);
     while i < s.len() {
         if 0x80 <= s[i] {
             return i;
@@ -268,7 +270,7 @@ fn short_text(s: &[u8], from: usize) -> bool
     requires { ⌜ Passed (now s) from ⌝ }
     ensures { λ r. ⌜ r ≡ text-of (now (s .entry)) ⌝ }
 {
-    let mut i = plain_run(s, from);
+    let mut i = from;
     while i < s.len() {
         let n = character(s, i);
         if n == 0 {
@@ -279,11 +281,14 @@ fn short_text(s: &[u8], from: usize) -> bool
     true
 }
 
-// Returns whether octets are text.
+// Returns whether octets are text. If all octets are below 0x80, the first run reads them all.
 pub fn text(s: &[u8]) -> bool
     ensures { λ r. ⌜ r ≡ text-of (now (s .entry)) ⌝ }
 {
-    let i = plain_blocks(s);
+    let i = plain_run(s);
+    if i == s.len() {
+        return true;
+    }
     if s.len() - i < 64 {
         return short_text(s, i);
     }

@@ -4,18 +4,24 @@ use native.Mathlib.Omega.{arith}
 use Prim.Native.Nat.{_-_}
 use lib.ListN.{length}
 use Rattle.octets_text.specs.internal.Plain.{Passed}
-use Rattle.octets_text.proofs.Plain.{eight-plain}
+use Rattle.octets_text.proofs.Plain.{start, eight-plain}
 use Rattle.octets_text.proofs.plain_front.Statement.{statement}
 use Rattle.octets_text.proofs.plain_front.Tie as tie
 
 abbrev Inv-loop : tie.InvT-loop
-Inv-loop s from i₀ i = Passed s i
+Inv-loop s i₀ i = Passed s i
 
 abbrev μ-loop : tie.MeasureT-loop
-μ-loop s from i₀ i = length s - i
+μ-loop s i₀ i = length s - i
+
+returns : tie.Need-returns Inv-loop μ-loop
+returns c = start (c .before .before .args .s .now)
+
+plain-blocks-requires : tie.Need-plain-blocks-requires Inv-loop μ-loop
+plain-blocks-requires c κs = search needs
 
 loop-holds : tie.Need-loop-holds Inv-loop μ-loop
-loop-holds c = c .pre
+loop-holds c = c .plain-blocks .ensures
 
 sub-loop : tie.Need-sub-loop Inv-loop μ-loop
 sub-loop c = search needs
@@ -65,8 +71,8 @@ add-b-4 c = search needs
 shared-slice-read-b-4 : tie.Need-shared-slice-read-b-4 Inv-loop μ-loop
 shared-slice-read-b-4 c = search needs
 
-returns : tie.Need-returns Inv-loop μ-loop
-returns c = c .before .before .before .before .before .before .before .before .before .before .loop .inv
+returns-2 : tie.Need-returns-2 Inv-loop μ-loop
+returns-2 c = c .before .before .before .before .before .before .before .before .before .before .loop .inv
 
 add-i : tie.Need-add-i Inv-loop μ-loop
 add-i c = search needs
@@ -77,10 +83,10 @@ loop-less c = omega arith
 loop-again : tie.Need-loop-again Inv-loop μ-loop
 loop-again c =
     let b = c .before .before .before .before .before .before .before .before .before in
-    eight-plain (b .before .before .args .s .now) (b .before .loop .i) (b .before .loop .inv) (b .loop-test .taken) (c .if1 .left)
+    eight-plain (b .before .before .before .before .before .args .s .now) (b .before .loop .i) (b .before .loop .inv) (b .loop-test .taken) (c .if2 .left)
 
-returns-2 : tie.Need-returns-2 Inv-loop μ-loop
-returns-2 c = c .before .loop .inv
+returns-3 : tie.Need-returns-3 Inv-loop μ-loop
+returns-3 c = c .before .loop .inv
 
 pub plain-front-spec : {M : Type 1} → statement M
 plain-front-spec =
@@ -88,6 +94,8 @@ plain-front-spec =
     (tie.spec
     Inv-loop
     μ-loop
+    returns
+    plain-blocks-requires
     loop-holds
     sub-loop
     shared-slice-read-a
@@ -105,8 +113,8 @@ plain-front-spec =
     shared-slice-read-b-3
     add-b-4
     shared-slice-read-b-4
-    returns
+    returns-2
     add-i
     loop-less
     loop-again
-    returns-2)
+    returns-3)

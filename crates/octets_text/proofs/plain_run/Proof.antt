@@ -9,13 +9,13 @@ use Rattle.octets_text.proofs.plain_run.Statement.{statement}
 use Rattle.octets_text.proofs.plain_run.Tie as tie
 
 abbrev Inv-loop : tie.InvT-loop
-Inv-loop s from i₀ i = Passed s i
+Inv-loop s i₀ i = Passed s i
 
 abbrev μ-loop : tie.MeasureT-loop
-μ-loop s from i₀ i = length s - i
+μ-loop s i₀ i = length s - i
 
 plain-front-requires : tie.Need-plain-front-requires Inv-loop μ-loop
-plain-front-requires c κs = c .before .pre
+plain-front-requires c κs = search needs
 
 loop-holds : tie.Need-loop-holds Inv-loop μ-loop
 loop-holds c = c .plain-front .ensures

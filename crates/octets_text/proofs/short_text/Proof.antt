@@ -15,17 +15,14 @@ abbrev μ-loop : tie.MeasureT-loop
 μ-loop s from i₀ i = length s - i
 
 -- What is known after a character.
-next : (c : tie.Else1 Inv-loop μ-loop) → Passed (c .before .before .before .before .before .before .args .s .now) (c .before .before .before .loop .i + c .before .character .result)
+next : (c : tie.Else1 Inv-loop μ-loop) → Passed (c .before .before .before .before .before .args .s .now) (c .before .before .before .loop .i + c .before .character .result)
 next c =
     let k = c .before .before .before in
-    passed (k .before .before .before .args .s .now) (k .loop .i) (c .before .character .result) (k .loop .inv) (c .before .before .loop-test .taken)
+    passed (k .before .before .args .s .now) (k .loop .i) (c .before .character .result) (k .loop .inv) (c .before .before .loop-test .taken)
     (c .before .character .ensures) (c .if1 .left)
 
-plain-run-requires : tie.Need-plain-run-requires Inv-loop μ-loop
-plain-run-requires c κs = c .before .pre
-
 loop-holds : tie.Need-loop-holds Inv-loop μ-loop
-loop-holds c = c .plain-run .ensures
+loop-holds c = c .before .pre
 
 character-requires : tie.Need-character-requires Inv-loop μ-loop
 character-requires c κs = c .loop-test .taken
@@ -33,7 +30,7 @@ character-requires c κs = c .loop-test .taken
 returns : tie.Need-returns Inv-loop μ-loop
 returns c =
     let k = c .before .before .before in
-    stopped (k .before .before .before .args .s .now) (k .loop .i) (c .before .character .result) (k .loop .inv) (c .before .before .loop-test .taken)
+    stopped (k .before .before .args .s .now) (k .loop .i) (c .before .character .result) (k .loop .inv) (c .before .before .loop-test .taken)
     (c .before .character .ensures) (c .if1 .taken)
 
 add-i : tie.Need-add-i Inv-loop μ-loop
@@ -46,7 +43,7 @@ loop-again : tie.Need-loop-again Inv-loop μ-loop
 loop-again c = next c
 
 returns-2 : tie.Need-returns-2 Inv-loop μ-loop
-returns-2 c = let k = c .before in at-end (k .before .before .before .args .s .now) (k .loop .i) (k .loop .inv) (c .loop-test .left)
+returns-2 c = let k = c .before in at-end (k .before .before .args .s .now) (k .loop .i) (k .loop .inv) (c .loop-test .left)
 
 pub short-text-spec : {M : Type 1} → statement M
 short-text-spec =
@@ -54,7 +51,6 @@ short-text-spec =
     (tie.spec
     Inv-loop
     μ-loop
-    plain-run-requires
     loop-holds
     character-requires
     returns
