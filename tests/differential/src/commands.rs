@@ -4,6 +4,7 @@ use crate::trouble;
 use differential::call::Call;
 use differential::generate;
 use differential::run::{self, Tally};
+use differential::texts;
 use std::process::ExitCode;
 use std::time::{Duration, Instant, SystemTime};
 
@@ -17,10 +18,13 @@ pub fn quick() -> ExitCode {
     let started = Instant::now();
     let show = announced_show();
     let fixed = generate::fixed_cases();
-    println!("seed {QUICK_SEED}: {fixed} fixed and {QUICK_RANDOM_CASES} random cases");
+    let texts = generate::short_texts::count();
+    println!("seed {QUICK_SEED}: {fixed} fixed and {QUICK_RANDOM_CASES} random cases, and {texts} short texts");
     trouble::watch(QUICK_SEED);
     let mut tally = Tally::default();
-    let result = range(QUICK_SEED, 0..fixed + QUICK_RANDOM_CASES, show.as_deref(), &mut tally).and_then(|()| threads());
+    let result = range(QUICK_SEED, 0..fixed + QUICK_RANDOM_CASES, show.as_deref(), &mut tally)
+        .and_then(|()| texts::all(QUICK_SEED, &mut tally))
+        .and_then(|()| threads());
     tally.print();
     if let Err(report) = result {
         return failed(&report);

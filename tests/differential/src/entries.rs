@@ -199,6 +199,16 @@ pub fn call(call: &Call, poison: &[u8], rng: &mut Rng) -> Result<Outcome, String
     Ok(Outcome { refusal, place: results.all[0], results: results.all[1..results.used].to_vec(), out: out.contents().to_vec() })
 }
 
+/// The check of a message of number 0 with no guard octets, for loops of many calls: refusal, place, fields and depth.
+pub fn only_check(table: &[u8], message: &[u8]) -> [u64; 4] {
+    let mut results = [u64::MAX; 3];
+    let [place, fields, depth] = &mut results;
+    // The pointers are to live, separate memory of the given lengths, as the header asks.
+    let refusal =
+        unsafe { c::crudvim_check(table.as_ptr(), table.len(), 0, message.as_ptr(), message.len(), place, fields, depth) };
+    [refusal, results[0], results[1], results[2]]
+}
+
 type Input<'a> = (&'static str, &'a [u8]);
 
 /// The octets that a call reads; most entries have one input only.

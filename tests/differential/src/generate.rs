@@ -1,6 +1,7 @@
 //! Makes the cases: case `n` under a seed is always the same list of calls.
 //!
 //! The first cases are the worked samples of the documents and fixed limits, then come small inputs in full; the others are random.
+//! The short texts in full have numbers of their own, far above these.
 
 pub mod corpus;
 pub mod damage;
@@ -9,8 +10,10 @@ pub mod frames;
 pub mod hproto;
 pub mod reals;
 pub mod samples;
+pub mod short_texts;
 pub mod shows;
 pub mod tables;
+pub mod texts;
 pub mod tib;
 pub mod trees;
 
@@ -20,8 +23,11 @@ use crate::rng::Rng;
 /// Of so many cases one runs the program `show`.
 const SHOW_EVERY: u64 = 2_000;
 
-/// The calls of a case: samples first, then small inputs in full, then random ones.
+/// The calls of a case: samples first, then small inputs in full, then random ones, and far above these the short texts.
 pub fn case(seed: u64, number: u64) -> Vec<Call> {
+    if let Some(number) = number.checked_sub(short_texts::FIRST) {
+        return short_texts::case(number).unwrap_or_default();
+    }
     let mut rng = Rng::new(seed, number);
     let samples = samples::all();
     if let Some(sample) = samples.get(number as usize) {

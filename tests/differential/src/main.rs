@@ -14,7 +14,8 @@ mod trouble;
 use std::process::ExitCode;
 
 const USAGE: &str = "commands:
-  quick                a fixed seed and number of cases; fails too if a refusal number or a kind of answer was not reached
+  quick                a fixed seed and number of cases, and the short texts in full; fails too if a refusal number or a kind of
+                       answer was not reached
   long SECONDS [SEED]  random cases for so long
   one SEED CASE        one case again, with its calls
   corpus DIR           writes inputs for the fuzz harness as files

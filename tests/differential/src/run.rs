@@ -40,6 +40,14 @@ impl Tally {
         }
     }
 
+    /// Counts a call of the check, which is the first entry.
+    pub fn note_check(&mut self, refusal: u64, depth: u64) {
+        self.numbers[0][refusal as usize] += 1;
+        if refusal == 0 {
+            self.paths[0][depth as usize] += 1;
+        }
+    }
+
     pub fn print(&self) {
         for (entry, name) in ENTRIES.iter().enumerate() {
             let counts = &self.numbers[entry];
@@ -164,15 +172,18 @@ pub fn case(seed: u64, number: u64, show: Option<&str>, tally: &mut Tally) -> Re
             Ok(got) => compared(&expected, &got),
             Err(complaint) => complaint,
         };
-        return Err(format!(
-            "DIFFERENCE: seed {seed} case {number} call {index} (again: one {seed} {number})\n{}{complaint}",
-            call.describe()
-        ));
+        return Err(difference(seed, number, index, call, &complaint));
     }
     Ok(())
 }
 
-fn compared(expected: &Outcome, got: &Outcome) -> String {
+/// The report of a difference.
+pub fn difference(seed: u64, number: u64, index: usize, call: &Call, complaint: &str) -> String {
+    let inputs = call.describe();
+    format!("DIFFERENCE: seed {seed} case {number} call {index} (again: one {seed} {number})\n{inputs}{complaint}")
+}
+
+pub fn compared(expected: &Outcome, got: &Outcome) -> String {
     let line = |name: &str, outcome: &Outcome| {
         let Outcome { refusal, place, results, .. } = outcome;
         format!("  {name} refusal {refusal} place {place} results {results:?}\n")

@@ -1,13 +1,13 @@
 //! Small inputs in full: every one of a family is a case of its own, whatever the seed.
 
 use super::samples::{entries, octets};
+use super::short_texts;
 use crate::call::{Call, Hproto};
 use std::sync::OnceLock;
 
 const TWO_OCTETS: u64 = 65_536;
-/// Octets at the limits of the classes of leads and followers in text.
-const TEXT_LIMITS: [u8; 12] = [0x00, 0x7f, 0x80, 0xbf, 0xc0, 0xdf, 0xe0, 0xef, 0xf0, 0xf7, 0xf8, 0xff];
-const TEXTS: u64 = 12 * 12 * 12 * 12;
+const TEXT_LIMITS: u64 = short_texts::LIMITS.len() as u64;
+const TEXTS: u64 = TEXT_LIMITS.pow(4);
 
 type Family = (u64, fn(u64) -> Vec<Call>);
 
@@ -71,12 +71,12 @@ fn signed_number(number: u64) -> Vec<Call> {
     calls
 }
 
-/// Texts of four octets at the limits of the classes.
+/// Texts of four octets at the limits of what text allows. All shorter ones are in `short_texts`, for the check alone.
 fn text(mut number: u64) -> Vec<Call> {
     let mut message = vec![0x34];
     for _ in 0..4 {
-        message.push(TEXT_LIMITS[(number % 12) as usize]);
-        number /= 12;
+        message.push(short_texts::LIMITS[(number % TEXT_LIMITS) as usize]);
+        number /= TEXT_LIMITS;
     }
     check_and_shorten(&message)
 }

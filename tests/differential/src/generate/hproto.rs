@@ -1,7 +1,7 @@
 //! Cases for the check, the shortener and lookup.
 
 use super::trees::{self, Maker, Style};
-use super::{damage, tables};
+use super::{damage, tables, texts};
 use crate::call::{Call, Hproto};
 use crate::oracle::message::{self, Field, Value};
 use crate::oracle::shorten::shortest;
@@ -19,6 +19,10 @@ pub fn random(rng: &mut Rng) -> Vec<Call> {
         }
         80..=82 => large(rng, &tables::loaded(&table), number),
         83..=85 => table.clone(),
+        86..=125 => {
+            table = TEXT_TABLE.to_vec();
+            long_text(rng)
+        }
         _ => some_message(rng, &tables::loaded(&table), number),
     };
     if rng.chance(6) {
@@ -90,7 +94,7 @@ fn spoil(rng: &mut Rng, table: &Table, number: u8, fields: &mut Vec<Field>, dept
         return;
     };
     let bad = match entry.kind {
-        Kind::Text => bad_text(rng),
+        Kind::Text => texts::bad(rng),
         Kind::Message => rng.pick(&[&[0xf1u8][..], &[0xc3, 1], &[0xe0], &[0x1d, 0]]).to_vec(),
         _ => {
             let length = rng.pick(&[9, 9, 10, 11, 12, 14, 300]);
@@ -99,26 +103,6 @@ fn spoil(rng: &mut Rng, table: &Table, number: u8, fields: &mut Vec<Field>, dept
     };
     let place = rng.below(fields.len() + 1);
     fields.insert(place, trees::field(entry.tag, Value::Raw(bad)));
-}
-
-fn bad_text(rng: &mut Rng) -> Vec<u8> {
-    let mut octets = trees::text(rng);
-    let bad: &[u8] = rng.pick(&[
-        &[0x80u8][..],
-        &[0xbf],
-        &[0xf8, 0x80, 0x80, 0x80, 0x80],
-        &[0xff],
-        &[0xc0],
-        &[0xe0, 0x80],
-        &[0xf0, 0x80, 0x80],
-        &[0xc2, 0x7f],
-        &[0xe2, 0x80, 0xc0],
-        &[0xf4, 0xbf, 0xbf, 0x00],
-        &[0xdf, 0xc0],
-    ]);
-    let place = rng.below(octets.len() + 1);
-    octets.splice(place..place, bad.iter().copied());
-    octets
 }
 
 /// A table in which tag 1 of message 0 is message 0 again, and some leaves.
@@ -167,6 +151,25 @@ fn leaf(rng: &mut Rng, style: Style) -> Vec<u8> {
     };
     let tag = if matches!(value, Value::Uint(_)) { 2 } else { 6 };
     trees::octets(rng, &[trees::field(tag, value)], style)
+}
+
+/// Tag 1 of message 0 is message 0 again, and tag 5 is text.
+const TEXT_TABLE: [u8; 16] = [1, 0, 5, 0, 0, 1, 5, 0, 1, 0, 5, 0, 0, 5, 4, 0];
+
+/// A long text, good or bad, with or without fields around it, under the table above. Some are nested.
+fn long_text(rng: &mut Rng) -> Vec<u8> {
+    let style = Style::random(rng);
+    let text = trees::field(5, Value::Text(texts::long(rng)));
+    let mut octets = leaf(rng, style);
+    octets.extend(trees::octets(rng, &[text], style));
+    octets.extend(leaf(rng, style));
+    if rng.chance(30) {
+        let mut outer = leaf(rng, style);
+        outer.extend(trees::control(rng, 1, octets.len() as u64, style.control));
+        outer.extend(octets);
+        return outer;
+    }
+    octets
 }
 
 /// Messages around the limit of length.

@@ -1,6 +1,6 @@
 //! Random trees under a table, and their octets in random longer forms.
 
-use super::tables;
+use super::{tables, texts};
 use crate::oracle::message::{Field, Value};
 use crate::oracle::shorten::{int_in, least_uint};
 use crate::oracle::table::{Kind, Table};
@@ -44,7 +44,7 @@ impl Maker<'_> {
             Kind::Uint => Value::Uint(rng.number()),
             Kind::Int => Value::Int(signed(rng)),
             Kind::String => Value::String(some_octets(rng)),
-            Kind::Text => Value::Text(text(rng)),
+            Kind::Text => Value::Text(texts::good(rng)),
             Kind::Message => Value::Message(self.fields(rng, inner, depth + 1)),
         };
         field(tag, value)
@@ -82,37 +82,6 @@ fn some_octets(rng: &mut Rng) -> Vec<u8> {
         _ => rng.below(600),
     };
     rng.octets(length)
-}
-
-/// Good text, with groups of all sizes.
-pub fn text(rng: &mut Rng) -> Vec<u8> {
-    let groups = match rng.below(10) {
-        0..=7 => rng.below(6),
-        _ => rng.below(110),
-    };
-    let mut octets = Vec::new();
-    for _ in 0..groups {
-        octets.extend(group(rng));
-    }
-    octets
-}
-
-fn group(rng: &mut Rng) -> Vec<u8> {
-    let (low, high, more) = rng.pick(&[(0, 0x7f, 0), (0xc0, 0xdf, 1), (0xe0, 0xef, 2), (0xf0, 0xf7, 3)]);
-    let mut octets = vec![edge(rng, low, high)];
-    for _ in 0..more {
-        octets.push(edge(rng, 0x80, 0xbf));
-    }
-    octets
-}
-
-/// An octet from `low` to `high`, often one of the two.
-fn edge(rng: &mut Rng, low: u8, high: u8) -> u8 {
-    match rng.below(4) {
-        0 => low,
-        1 => high,
-        _ => rng.from_to(usize::from(low), usize::from(high)) as u8,
-    }
 }
 
 /// How often, of 100, a longer form than the shortest is taken.

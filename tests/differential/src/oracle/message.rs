@@ -181,20 +181,52 @@ fn read_int(contents: &[u8], place: usize) -> Answer<i64> {
 }
 
 fn read_text(contents: &[u8], place: usize) -> Answer<Vec<u8>> {
-    let mut rest = contents;
-    while let Some(lead) = rest.first() {
-        let more = match lead {
-            0x00..=0x7f => 0,
-            0xc0..=0xdf => 1,
-            0xe0..=0xef => 2,
-            0xf0..=0xf7 => 3,
-            _ => return refuse(TEXT, place),
-        };
-        let follows = |octet: &u8| (0x80..=0xbf).contains(octet);
-        match rest.get(1..1 + more) {
-            Some(group) if group.iter().all(follows) => rest = &rest[1 + more..],
-            _ => return refuse(TEXT, place),
-        }
+    if !is_text(contents) {
+        return refuse(TEXT, place);
     }
     Ok(contents.to_vec())
+}
+
+/// Whether octets are text, UTF-8 as RFC 3629 has it. Each character is decoded, and its value is looked at.
+pub fn is_text(contents: &[u8]) -> bool {
+    let mut rest = contents;
+    while !rest.is_empty() {
+        match character(rest) {
+            Some(size) => rest = &rest[size..],
+            None => return false,
+        }
+    }
+    true
+}
+
+/// How many octets the character at the front of `rest` has, or none if no good character stands there.
+fn character(rest: &[u8]) -> Option<usize> {
+    let lead = *rest.first()?;
+    let (size, payload) = match lead.leading_ones() {
+        0 => (1, lead),
+        2 => (2, lead % 32),
+        3 => (3, lead % 16),
+        4 => (4, lead % 8),
+        _ => return None,
+    };
+    let mut value = u32::from(payload);
+    for octet in rest.get(1..size)? {
+        if octet / 64 != 0b10 {
+            return None;
+        }
+        value = value * 64 + u32::from(octet % 64);
+    }
+    let surrogate = (0xd800..=0xdfff).contains(&value);
+    let good = least_size(value) == size && !surrogate && value <= 0x10_ffff;
+    good.then_some(size)
+}
+
+/// The least octets whose payload bits, 7, 11, 16 or 21, hold a value.
+fn least_size(value: u32) -> usize {
+    match value {
+        0..=0x7f => 1,
+        0x80..=0x7ff => 2,
+        0x800..=0xffff => 3,
+        _ => 4,
+    }
 }

@@ -1,4 +1,5 @@
 use super::*;
+use crate::generate::short_texts::LIMITS as TEXT_LIMITS;
 use crate::oracle::lookup::{kth, last, Found};
 use crate::oracle::{frame, show};
 
@@ -128,19 +129,66 @@ fn depth() {
     assert_eq!(check("", "11 f1"), Ok((1, 1)));
 }
 
+/// Texts with commas between them; the first is empty.
+const GOOD_TEXTS: [&str; 3] = [
+    ", 00, 7f, c2 80, df bf, e0 a0 80, e0 bf bf, e1 80 80, ec bf bf, ed 80 80, ed 9f bf, ee 80 80, ef bf bf",
+    "f0 90 80 80, f0 bf bf bf, f1 80 80 80, f3 bf bf bf, f4 80 80 80, f4 8f bf bf",
+    "41 c2 80 41, 7f df bf 00 ef bf bd f4 8f bf bf, c2 80 c2 80, e2 82 ac e2 82 ac, f0 9f 94 8c c2 b5",
+];
+
+const BAD_TEXTS: [&str; 8] = [
+    // An octet from 80 to bf with no lead before it.
+    "80, bf, 41 80, 41 bf 41, c2 80 80, e1 80 80 80, f1 80 80 80 80",
+    // Octets that are in no text.
+    "c0, c1, f5, f7, f8, fb, fc, fd, fe, ff, f8 80 80 80 80, fc 80 80 80 80 80, ff bf bf bf, 41 ff 41",
+    // Cut at the end.
+    "c2, df, e0, e1 80, ed 9f, ef bf, f0, f0 90, f0 90 80, f1 80 80, f4 8f bf, 41 c2, 41 e1 80, 41 f1 80 80",
+    // An octet outside 80 to bf inside a character.
+    "c2 7f, c2 c0, c2 c2 80, e1 7f 80, e1 c0 80, e1 80 7f, e1 80 c0, f1 7f 80 80, f1 80 7f 80, f1 80 80 7f, f1 80 80 c0",
+    // Values that fewer octets hold.
+    "c0 80, c0 bf, c1 80, c1 bf, e0 80 80, e0 81 bf, e0 9f bf, f0 80 80 80, f0 80 9f bf, f0 8f bf bf",
+    // Surrogates, alone and in pairs.
+    "ed a0 80, ed af bf, ed b0 80, ed bf bf, ed a0 80 ed b0 80",
+    // Values above 10ffff.
+    "f4 90 80 80, f4 bf bf bf, f5 80 80 80, f7 bf bf bf",
+    // Between good characters.
+    "41 c0 80 41, c2 80 ed a0 80 c2 80, 41 f4 90 80 80 41",
+];
+
 #[test]
 fn text() {
     let text = |contents: &str| {
         let contents = octets(contents);
-        message::check(&entries("0 1 4 0"), 0, &[&[0x10 | contents.len() as u8], &contents[..]].concat())
+        message::check(&entries("0 1 4 0"), 0, &[&[0x1c, contents.len() as u8], &contents[..]].concat())
     };
-    for good in ["", "00", "7f", "c0 80", "df bf", "e0 80 80", "ef bf bf", "f0 80 80 80", "f7 bf bf bf", "41 c2 80 41"] {
+    for good in GOOD_TEXTS.iter().flat_map(|texts| texts.split(',')) {
         assert_eq!(text(good), Ok((1, 1)), "{good}");
     }
-    for bad in
-        ["80", "bf", "f8", "ff", "c0", "c0 7f", "c0 c0", "e0 80", "e0 80 7f", "f0 80 80", "f7 bf bf c0", "f8 80 80 80 80", "41 80"]
-    {
+    for bad in BAD_TEXTS.iter().flat_map(|texts| texts.split(',')) {
         assert_eq!(text(bad), at(7, 0), "{bad}");
+    }
+}
+
+/// A third opinion: the standard library says the same of every text of up to three octets, and of four at the limits.
+#[test]
+fn text_as_the_standard_library_has_it() {
+    let same = |contents: &[u8]| {
+        assert_eq!(message::is_text(contents), std::str::from_utf8(contents).is_ok(), "{contents:02x?}");
+    };
+    same(&[]);
+    for number in 0..1u32 << 24 {
+        let [_, first, second, third] = number.to_be_bytes();
+        same(&[first, second, third]);
+        if first == 0 {
+            same(&[second, third]);
+        }
+        if first == 0 && second == 0 {
+            same(&[third]);
+        }
+    }
+    for number in 0..TEXT_LIMITS.len().pow(4) {
+        let octet = |power: u32| TEXT_LIMITS[number / TEXT_LIMITS.len().pow(power) % TEXT_LIMITS.len()];
+        same(&[octet(3), octet(2), octet(1), octet(0)]);
     }
 }
 

@@ -1,8 +1,8 @@
 //! Laws that the oracle has to keep on generated and on all small inputs.
 
 use super::*;
-use crate::generate::{self, hproto, reals, tables, trees};
-use crate::oracle::message::{count, depth, read, Field};
+use crate::generate::{self, hproto, reals, short_texts, tables, texts, trees};
+use crate::oracle::message::{count, depth, is_text, read, Field};
 use crate::oracle::real::fractions;
 use crate::oracle::shorten::shortest;
 use crate::rng::Rng;
@@ -52,6 +52,38 @@ fn nothing_is_shorter() {
         assert!(no_longer.clone().all(|octets| octets == short), "{short:02x?} {all:02x?}");
     }
     assert!(shortest_of.len() > 1_000);
+}
+
+/// A bad piece makes a text bad, wherever it stands between good characters.
+#[test]
+fn good_and_bad_texts() {
+    for case in 0..100_000 {
+        let mut rng = Rng::new(4, case);
+        let (before, after) = (texts::good(&mut rng), texts::good(&mut rng));
+        assert!(is_text(&[&before[..], &after].concat()), "case {case}");
+        assert!(!is_text(&[before, texts::bad_piece(&mut rng), after].concat()), "case {case}");
+    }
+}
+
+/// What the loop over the short texts expects is what the oracle says of the message as a whole, and it is a case of its own.
+#[test]
+fn short_texts_are_cases() {
+    let mut first = short_texts::FIRST;
+    for family in short_texts::families() {
+        let mut message = family.message();
+        for number in (0..family.count()).step_by(50_021).chain([family.count() - 1]) {
+            family.put(number, &mut message);
+            let expected = match family.expected(&message) {
+                [0, 0, fields, depth] => Ok((fields, depth)),
+                [refusal, place, ..] => at(refusal, place),
+            };
+            assert_eq!(message::check(short_texts::table(), 0, &message), expected, "{message:02x?}");
+            let calls = generate::case(0, first + number);
+            assert_eq!(calls[0].describe(), short_texts::check(&message).describe());
+        }
+        first += family.count();
+    }
+    assert_eq!(first, short_texts::FIRST + short_texts::count());
 }
 
 /// Every case can be made and answered, and is the same each time.

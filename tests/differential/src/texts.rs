@@ -1,0 +1,43 @@
+//! Checks the short texts in full through C and compares with the oracle, in a loop without guard octets, since there are so many.
+
+use crate::call::Outcome;
+use crate::entries;
+use crate::generate::short_texts::{self, Family};
+use crate::run::{self, Tally, CURRENT_CASE};
+use std::sync::atomic::Ordering;
+
+/// Octets behind the message. A read beyond its end would find the rest of a cut character.
+const BEHIND: [u8; 64] = [0x80; 64];
+
+/// Runs all families. The error is a report of the first difference.
+pub fn all(seed: u64, tally: &mut Tally) -> Result<(), String> {
+    let mut first = short_texts::FIRST;
+    for family in short_texts::families() {
+        run_family(&family, seed, first, tally)?;
+        first += family.count();
+    }
+    Ok(())
+}
+
+fn run_family(family: &Family, seed: u64, first: u64, tally: &mut Tally) -> Result<(), String> {
+    let mut buffer = family.message();
+    let length = buffer.len();
+    buffer.extend(BEHIND);
+    for number in 0..family.count() {
+        CURRENT_CASE.store(first + number, Ordering::Relaxed);
+        family.put(number, &mut buffer[..length]);
+        let message = &buffer[..length];
+        let expected = family.expected(message);
+        let got = entries::only_check(short_texts::table(), message);
+        tally.note_check(expected[0], expected[3]);
+        if got != expected {
+            let complaint = run::compared(&outcome(expected), &outcome(got));
+            return Err(run::difference(seed, first + number, 0, &short_texts::check(message), &complaint));
+        }
+    }
+    Ok(())
+}
+
+fn outcome([refusal, place, fields, depth]: [u64; 4]) -> Outcome {
+    Outcome { refusal, place, results: vec![fields, depth], out: vec![] }
+}
