@@ -280,7 +280,7 @@ static struct octets small_fields(size_t len)
     return message;
 }
 
-/* One field of a tag that fills the message, its contents made by repeating a pattern of whole groups. */
+/* One field of a tag that fills the message, its contents made by repeating a pattern of whole characters. */
 static struct octets one_field(unsigned tag, const char *pattern, size_t total)
 {
     struct octets message = room(LIMIT);
@@ -520,8 +520,13 @@ static void add_hproto_rows(void)
     add_both("f-wide-200", kinds, 0, wide(200));
     add_both("f-wide-64K", kinds, 0, wide(LIMIT));
     add("f-wide-64K-just-room", SHORTEN, kinds, 0, rows[row_count - 1].message, 0);
-    add_both("g-text-ascii-64K", kinds, 0, one_field(4, "the quick brown fox ", LIMIT));
-    add_both("g-text-multi-64K", kinds, 0, one_field(4, "\xc3\xa9\xe2\x82\xac\xf0\x9f\x94\x8c\xc2\xb5", LIMIT));
+    const char *ascii = "the quick brown fox ";
+    const char *multi = "\xc3\xa9\xe2\x82\xac\xf0\x9f\x94\x8c\xc2\xb5";
+    add("g-text-ascii-40", CHECK, kinds, 0, one_field(4, ascii, 40), 0);
+    add("g-text-multi-40", CHECK, kinds, 0, one_field(4, multi, 40), 0);
+    add("g-text-multi-200", CHECK, kinds, 0, one_field(4, multi, 200), 0);
+    add_both("g-text-ascii-64K", kinds, 0, one_field(4, ascii, LIMIT));
+    add_both("g-text-multi-64K", kinds, 0, one_field(4, multi, LIMIT));
     add_both("g-text-mixed-64K", kinds, 0, one_field(4, "Z\xc3\xa4hler f\xc3\xbcr 5 \xe2\x82\xac ", LIMIT));
 }
 
@@ -822,8 +827,10 @@ static void compare_small(size_t times)
 {
     struct octets none = room(0);
     struct octets kinds = kinds_table();
+    /* Some characters, and the first or last ones of four rows of the grammar of UTF-8. */
+    const char *characters = "\xc3\xa9\xe2\x82\xac\xf0\x9f\x94\x8c\xe0\xa0\x80\xed\x9f\xbf\xf0\x90\x80\x80\xf4\x8f\xbf\xbf";
     struct row small[] = {
-        {"text-small", CHECK, kinds, 0, one_field(4, "\xc3\xa9\xe2\x82\xac\xf0\x9f\x94\x8c\xf7\xbf\xbf\xbf", 40), 0, 0},
+        {"text-small", CHECK, kinds, 0, one_field(4, characters, 52), 0, 0},
         {"fields-small", CHECK, kinds, 0, small_fields(60), 0, 0},
         {"deep-small", CHECK, kinds, 0, deep(8, 60, 1), 0, 0},
         {"too-deep-small", CHECK, kinds, 0, deep(9, 60, 1), 0, 0},
@@ -845,16 +852,23 @@ static void compare_small(size_t times)
     free(kinds.data);
 }
 
-/* Compares the answers to every row, to 3000 damaged forms of a small one and fewer of a large one, to small forms and to random
- * messages. Stops at the first difference. */
-static void compare_all(void)
+/* Compares the answers to every row. Stops at the first difference. */
+static void compare_rows(void)
 {
     for (size_t i = 0; i < row_count; i++) {
         struct answer answer = compare(&rows[i]);
         if (answer.refusal != CRUDVIM_ACCEPTED)
             fail(rows[i].name);
-        compare_damaged(&rows[i], rows[i].message.len < 1024 ? 3000 : rows[i].message.len < 20000 ? 300 : 100);
     }
+}
+
+/* Compares the answers to every row, to 3000 damaged forms of a small one and fewer of a large one, to small forms and to random
+ * messages. */
+static void compare_all(void)
+{
+    compare_rows();
+    for (size_t i = 0; i < row_count; i++)
+        compare_damaged(&rows[i], rows[i].message.len < 1024 ? 3000 : rows[i].message.len < 20000 ? 300 : 100);
     compare_small(20000);
     compare_random(20000);
     compare_random_tib(20000);
@@ -980,13 +994,17 @@ int main(int argc, char **argv)
     } else if (argc == 2 && strcmp(argv[1], "--compare") == 0) {
         complete_all();
         compare_all();
+    } else if (argc == 2 && strcmp(argv[1], "--time") == 0) {
+        complete_all();
+        compare_rows();
+        time_all();
     } else if (argc == 2 && strcmp(argv[1], "--list") == 0) {
         complete_all();
         list();
     } else if ((argc == 4 || argc == 5) && strcmp(argv[1], "--count") == 0) {
         count(argv[2], argv[3], argc == 5 ? strtoul(argv[4], NULL, 10) : 100);
     } else {
-        fail("usage: bench [--compare | --list | --count ROW:CALL SIDE [N]]");
+        fail("usage: bench [--compare | --time | --list | --count ROW:CALL SIDE [N]]");
     }
     return 0;
 }

@@ -4,7 +4,7 @@
     compare.py BEFORE.a AFTER.a [ROW ...]
 
 Run it at the project's root. A ROW is part of a row's name; without any, all rows but the points of the curves are printed. The bench is linked
-with both archives, BEFORE in the place of plain.c, so it also compares their answers. Where the linker places a function changes its time, so
+with both archives, BEFORE in the place of plain.c, so it also compares their answers to the rows. Where the linker places a function changes its time, so
 the bench is linked eight times, with the archives in either order behind a block of another length. The ratio, AFTER by BEFORE, is the geometric
 mean of the eight; the least and the greatest are beside it.
 """
@@ -38,7 +38,7 @@ def ratios(before, after, folder, k):
     archives = [after, before] if k % 2 else [before, after]
     run('gcc', folder / 'bench.o', block, *archives, '-o', bench)
     found = {}
-    for line in run(bench).splitlines():
+    for line in run(bench, '--time').splitlines():
         words = line.split()
         if len(words) == 7 and re.fullmatch(r'\d+\.\d+', words[6]):
             found[words[0], words[1]] = float(words[6])

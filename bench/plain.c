@@ -135,25 +135,35 @@ static uint64_t read_field(const struct table *table, unsigned number, const uin
     return CRUDVIM_ACCEPTED;
 }
 
+/* UTF-8 as RFC 3629 has it. The lead says how many octets follow, and some leads leave the first of these a narrower range: else
+ * the form would not be the shortest, or the value a surrogate or above 10ffff. */
 static int text_good(const uint8_t *at, size_t length)
 {
     const uint8_t *end = at + length;
     while (at < end) {
         uint8_t lead = *at++;
+        uint8_t low = 0x80, high = 0xbf;
         size_t more;
         if (lead < 0x80)
             continue;
-        if (lead >= 0xc0 && lead < 0xe0)
+        if (lead >= 0xc2 && lead < 0xe0)
             more = 1;
         else if (lead >= 0xe0 && lead < 0xf0)
             more = 2;
-        else if (lead >= 0xf0 && lead < 0xf8)
+        else if (lead >= 0xf0 && lead < 0xf5)
             more = 3;
         else
             return 0;
-        if ((size_t)(end - at) < more)
+        switch (lead) {
+        case 0xe0: low = 0xa0; break;
+        case 0xed: high = 0x9f; break;
+        case 0xf0: low = 0x90; break;
+        case 0xf4: high = 0x8f; break;
+        }
+        if ((size_t)(end - at) < more || *at < low || *at > high)
             return 0;
-        for (; more > 0; more--)
+        at++;
+        for (; more > 1; more--)
             if ((*at++ & 0xc0) != 0x80)
                 return 0;
     }
