@@ -5,7 +5,7 @@ use mathlib.Core.Path.{_≡_, refl, sym, ap, _∙_}
 use mathlib.Core.Bool.{Bool, true, false, cond, not, Bool·beq, _&&_, _||_}
 use mathlib.Core.List.{List, [], _∷_}
 use mathlib.Core.Option.{Option, none, some}
-use lib.Bits.{bitOr, bitAnd, or-zero-l, or-zero-r, and-zero-r, and-high, or-add-and, and-le-l, and-le-r}
+use lib.Bits.{bitOr, bitAnd, bitXor, or-lt, xor-zero-r, xor-lt, and-zero-r, and-mask, and-high, or-add-and, xor-add-and, and-le-l, and-le-r}
 use lib.Dec.{eqb, leb, ltb}
 use lib.ListN.{replicate}
 use borrow.Author.Tests.{ltb-true, ltb-false, lt-ltb, le-ltb, le-leb, lt-leb, eqb-true, eq-eqb, ne-eqb}
@@ -15,23 +15,44 @@ use Rattle.octets.proofs.Text.{up-to, in-range, below-range, above-range, lead-
 use Rattle.octets_text.specs.internal.Pending.{wants, toCome, second, pending}
 use Rattle.octets_text.proofs.Leads.{wants-none, wants-one, wants-two, wants-three, second-low, second-inside, alone, leads-one, leads-two, leads-three, no-lead, no-lead-above}
 
--- ---- octets as flags: 0 for no, any other number for yes
+-- ---- octets as flags, by bit 7
 
-pub or-some : (p q : ℕ) → ltb 0 (bitOr p q) ≡ (ltb 0 p || ltb 0 q)
-or-some p q =
+pub or-high : (p q : ℕ) → leb 0x80 (bitOr p q) ≡ (leb 0x80 p || leb 0x80 q)
+or-high p q =
     let e = or-add-and p q in
     let l = and-le-l p q in
     let r = and-le-r p q in
-    up-to p 0 (λ h. let z : p ≡ 0 = omega arith in rw (z, or-zero-l q))
-    (λ h. rw (lt-ltb 0 p h, lt-ltb 0 (bitOr p q) (omega arith)))
+    up-to p 0x7f (λ h. up-to q 0x7f
+    (λ k. rw (lt-leb 0x80 p (omega arith), lt-leb 0x80 q (omega arith), lt-leb 0x80 (bitOr p q) (or-lt 7 p q (omega arith) (omega arith))))
+    (λ k. rw (lt-leb 0x80 p (omega arith), le-leb 0x80 q k, le-leb 0x80 (bitOr p q) (omega arith))))
+    (λ h. rw (le-leb 0x80 p h, le-leb 0x80 (bitOr p q) (omega arith)))
 
-pub flag-some : (t : Bool) → ltb 0 (cond t 0xff 0) ≡ t
-flag-some true = refl
-flag-some false = refl
+pub flag-high : (t : Bool) → leb 0x80 (cond t 0xff 0) ≡ t
+flag-high true = refl
+flag-high false = refl
 
-over-some : (x n : ℕ) → ltb 0 (x - n) ≡ ltb n x
-over-some x n =
-    up-to x n (λ h. rw (le-ltb 0 (x - n) (omega arith), le-ltb n x h)) (λ h. rw (lt-ltb 0 (x - n) (omega arith), lt-ltb n x h))
+-- The other bits of an octet.
+flipped : (w : ℕ) → w < 256 → bitXor w 0xff ≡ 255 - w
+flipped w h =
+    let e = xor-add-and w 0xff in
+    let m : bitAnd w 0xff ≡ w % 256 = and-mask w 8 in
+    omega arith
+
+xor-high : (w : ℕ) (t : Bool) → w < 256 → leb 0x80 (bitXor w (cond t 0xff 0)) ≡ not (Bool·beq (leb 0x80 w) t)
+xor-high w true h =
+    rw (flipped w h)
+    (up-to w 0x7f (λ k. rw (lt-leb 0x80 w (omega arith), le-leb 0x80 (255 - w) (omega arith)))
+    (λ k. rw (le-leb 0x80 w k, lt-leb 0x80 (255 - w) (omega arith))))
+xor-high w false h = rw (xor-zero-r w) (go (leb 0x80 w))
+  where
+    go : (t : Bool) → t ≡ not (Bool·beq t false)
+    go true = refl
+    go false = refl
+
+over-high : (x n : ℕ) → leb 0x80 (x - n) ≡ ltb (n + 0x7f) x
+over-high x n =
+    up-to x (n + 0x7f) (λ h. rw (lt-leb 0x80 (x - n) (omega arith), le-ltb (n + 0x7f) x h))
+    (λ h. rw (le-leb 0x80 (x - n) (omega arith), lt-ltb (n + 0x7f) x h))
 
 -- ---- how many octets are to come
 
@@ -62,15 +83,15 @@ some-to-come p q r =
     (λ k. rw (le-ltb 0 p h, lt-ltb 1 q k, lt-ltb 0 m (omega arith))))
     (λ h. rw (lt-ltb 0 p h, lt-ltb 0 m (omega arith)))
 
-pub wanting-is : (a b c : ℕ) → ltb 0 (bitOr (bitOr (c - 0xbf) (b - 0xdf)) (a - 0xef)) ≡ ltb 0 (toCome a b c)
+pub wanting-is : (a b c : ℕ) → leb 0x80 (bitOr (bitOr (c - 0x40) (b - 0x60)) (a - 0x70)) ≡ ltb 0 (toCome a b c)
 unfolding toCome
 wanting-is a b c =
     rw (
-      or-some (bitOr (c - 0xbf) (b - 0xdf)) (a - 0xef),
-      or-some (c - 0xbf) (b - 0xdf),
-      over-some c 0xbf,
-      over-some b 0xdf,
-      over-some a 0xef,
+      or-high (bitOr (c - 0x40) (b - 0x60)) (a - 0x70),
+      or-high (c - 0x40) (b - 0x60),
+      over-high c 0x40,
+      over-high b 0x60,
+      over-high a 0x70,
       ← wanted c .some-wanted,
       ← wanted b .two-wanted,
       ← wanted a .three-wanted,
@@ -93,63 +114,60 @@ next-to-come a b c x = ap (max (wants x)) (sym (less-one (wants c) (wants b) (wa
 
 -- ---- the range of the next octet
 
--- Of an octet from 80 to bf, the bits that tell whether it is above 9f, and above 8f.
-above-9f : (x : ℕ) → 0x80 ≤ x → x ≤ 0xbf → ltb 0 (bitAnd x 0x20) ≡ ltb 0x9f x
-above-9f x l h =
-    let e : bitAnd x 0x20 ≡ x / 32 % 2 * 32 = and-high x 1 5 in
-    up-to x 0x9f (λ k. let q : x / 32 ≡ 4 = omega arith in rw (e, q, le-ltb 0x9f x k))
-    (λ k. let q : x / 32 ≡ 5 = omega arith in rw (e, q, lt-ltb 0x9f x k))
-
-above-8f : (x : ℕ) → 0x80 ≤ x → x ≤ 0xbf → ltb 0 (bitAnd x 0x30) ≡ ltb 0x8f x
-above-8f x l h =
-    let e : bitAnd x 0x30 ≡ x / 16 % 4 * 16 = and-high x 2 4 in
-    up-to x 0x8f (λ k. let q : x / 16 ≡ 8 = omega arith in rw (e, q, le-ltb 0x8f x k))
-    (λ k. rw (e, lt-ltb 0 (x / 16 % 4 * 16) (some-left (x / 16) (omega arith) (omega arith)), lt-ltb 0x8f x k))
+pub upper-part-is : (c x : ℕ) → 0x80 ≤ x → x ≤ 0xbf → 0xe0 ≤ c → c < 256
+    → leb 0x80 ((x + bitAnd c 0xf0) % 256) ≡ cond (ltb c 0xf0) (leb 0xa0 x) (leb 0x90 x)
+upper-part-is c x l h m f =
+    let e : bitAnd c 0xf0 ≡ c / 16 % 16 * 16 = and-high c 4 4 in
+    up-to c 0xef
+    (λ k. let q : c / 16 ≡ 14 = omega arith in rw (e, q, lt-ltb c 0xf0 (omega arith)) (divided 0xa0 0xe0 (omega arith)))
+    (λ k. let q : c / 16 ≡ 15 = omega arith in rw (e, q, le-ltb c 0xf0 k) (divided 0x90 0xf0 (omega arith)))
   where
-    some-left : (q : ℕ) → 9 ≤ q → q ≤ 11 → 0 < q % 4 * 16
-    some-left q l h = omega arith
+    divided : (n m : ℕ) → (n + m ≡ 0x180) × ((0x90 ≤ n) × (n ≤ 0xa0)) → leb 0x80 ((x + m) % 256) ≡ leb n x
+    divided n m s =
+        up-to n x (λ k. rw (le-leb n x k, le-leb 0x80 ((x + m) % 256) (omega arith)))
+        (λ k. rw (lt-leb n x k, lt-leb 0x80 ((x + m) % 256) (omega arith)))
 
-module _ (c x : ℕ) where
-  abbrev pub tooLow : ℕ
-  tooLow = bitOr (cond (eqb c 0xe0) 0xa0 0) (cond (eqb c 0xf0) 0x90 0) - x
+-- The flag of `wrong_second`.
+abbrev pub wrongSecond : ℕ → ℕ → ℕ
+wrongSecond c t =
+    bitAnd (bitXor t (cond (eqb c 0xe0 || eqb c 0xf0) 0xff 0)) (bitOr (cond (eqb c 0xe0 || eqb c 0xf0) 0xff 0) (cond (eqb c 0xed || eqb c 0xf4) 0xff 0))
 
-  pub too-low-is : 0x80 ≤ x → ltb 0 tooLow ≡ ltb x (second c .low)
-  unfolding second
-  too-low-is l = over-some (bitOr (cond (eqb c 0xe0) 0xa0 0) (cond (eqb c 0xf0) 0x90 0)) x ∙ go (eqb c 0xe0) refl (eqb c 0xf0) refl
+whole-octet : (w : ℕ) → w < 256 → bitAnd w 0xff ≡ w
+whole-octet w h = let m : bitAnd w 0xff ≡ w % 256 = and-mask w 8 in omega arith
+
+module _ (x t : ℕ) (f : t < 256) (l : 0x80 ≤ x) (h : x ≤ 0xbf) where
+  upper : (n : ℕ) → leb 0x80 t ≡ leb n x → leb 0x80 (bitAnd (bitXor t 0xff) 0xff) ≡ not (within (n to 0xbf) x)
+  unfolding within
+  upper n e =
+      rw (whole-octet (bitXor t 0xff) (xor-lt 8 t 0xff f (omega arith)), xor-high t true f, e, le-leb x 0xbf h) (go (leb n x))
     where
-      go : (p : Bool) → eqb c 0xe0 ≡ p → (q : Bool) → eqb c 0xf0 ≡ q
-          → ltb x (bitOr (cond p 0xa0 0) (cond q 0x90 0)) ≡ ltb x (cond p 0xa0 (cond q 0x90 0x80))
-      go true p true q = let a = eqb-true c 0xe0 p in let b = eqb-true c 0xf0 q in absurd (omega arith)
-      go true p false q = refl
-      go false p true q = refl
-      go false p false q = rw (le-ltb x 0 (omega arith), le-ltb x 0x80 l)
+      go : (t : Bool) → not (Bool·beq t true) ≡ not (t && true)
+      go true = refl
+      go false = refl
 
-  pub never-low : c < 0xe0 → tooLow ≡ 0
-  never-low h = rw (ne-eqb c 0xe0 (λ e. omega arith), ne-eqb c 0xf0 (λ e. omega arith)) (omega arith)
+  lower : (n : ℕ) → leb 0x80 t ≡ leb (suc n) x → leb 0x80 (bitAnd (bitXor t 0) 0xff) ≡ not (within (0x80 to n) x)
+  unfolding within
+  lower n e =
+      rw (xor-zero-r t, whole-octet t f, e, le-leb 0x80 x l)
+      (up-to x n (λ k. rw (le-leb x n k, lt-leb (suc n) x (omega arith))) (λ k. rw (lt-leb x n k, le-leb (suc n) x k)))
 
-  abbrev pub tooHigh : ℕ
-  tooHigh = bitAnd x (bitOr (cond (eqb c 0xed) 0x20 0) (cond (eqb c 0xf4) 0x30 0))
+pub wrong-second-is : (c x t : ℕ) → t < 256 → 0x80 ≤ x → x ≤ 0xbf → (0xe0 ≤ c → leb 0x80 t ≡ cond (ltb c 0xf0) (leb 0xa0 x) (leb 0x90 x))
+    → leb 0x80 (wrongSecond c t) ≡ not (within (second c) x)
+unfolding second
+wrong-second-is c x t f l h part = go (eqb c 0xe0) refl (eqb c 0xed) refl (eqb c 0xf0) refl (eqb c 0xf4) refl
+  where
+    go : (p : Bool) → eqb c 0xe0 ≡ p → (q : Bool) → eqb c 0xed ≡ q → (r : Bool) → eqb c 0xf0 ≡ r → (u : Bool) → eqb c 0xf4 ≡ u
+        → leb 0x80 (wrongSecond c t) ≡ not (within (second c) x)
+    go true p _ _ _ _ _ _ = let e = eqb-true c 0xe0 p in rw e (upper x t f l h 0xa0 (part (omega arith) ∙ rw e))
+    go false p true q _ _ _ _ = let e = eqb-true c 0xed q in rw e (lower x t f l h 0x9f (part (omega arith) ∙ rw e))
+    go false p false q true r _ _ = let e = eqb-true c 0xf0 r in rw e (upper x t f l h 0x90 (part (omega arith) ∙ rw e))
+    go false p false q false r true u = let e = eqb-true c 0xf4 u in rw e (lower x t f l h 0x8f (part (omega arith) ∙ rw e))
+    go false p false q false r false u = rw (p, q, r, u, and-zero-r (bitXor t 0), in-range (0x80 to 0xbf) x l h)
 
-  pub too-high-is : 0x80 ≤ x → x ≤ 0xbf → ltb 0 tooHigh ≡ ltb (second c .high) x
-  unfolding second
-  too-high-is l h = go (eqb c 0xed) refl (eqb c 0xf4) refl
-    where
-      go : (p : Bool) → eqb c 0xed ≡ p → (q : Bool) → eqb c 0xf4 ≡ q
-          → ltb 0 (bitAnd x (bitOr (cond p 0x20 0) (cond q 0x30 0))) ≡ ltb (cond p 0x9f (cond q 0x8f 0xbf)) x
-      go true p true q = let a = eqb-true c 0xed p in let b = eqb-true c 0xf4 q in absurd (omega arith)
-      go true p false q = above-9f x l h
-      go false p true q = above-8f x l h
-      go false p false q = rw (and-zero-r x, le-ltb 0xbf x h)
-
-  pub never-high : c < 0xe0 → tooHigh ≡ 0
-  never-high h = rw (ne-eqb c 0xed (λ e. omega arith), ne-eqb c 0xf4 (λ e. omega arith)) (and-zero-r x)
-
-outside : (r : Range) (x : ℕ) → (ltb x (r .low) || ltb (r .high) x) ≡ not (within r x)
-unfolding within
-outside r x =
-    up-to (r .low) x (λ h. rw (le-ltb x (r .low) h, le-leb (r .low) x h)
-    (up-to x (r .high) (λ k. rw (le-ltb (r .high) x k, le-leb x (r .high) k)) (λ k. rw (lt-ltb (r .high) x k, lt-leb x (r .high) k))))
-    (λ h. rw (lt-ltb x (r .low) h, lt-leb (r .low) x h))
+pub no-wrong-second : (c t : ℕ) → c < 0xe0 → wrongSecond c t ≡ 0
+no-wrong-second c t h =
+    let n : ((c ≡ 0xe0 → ⊥) × (c ≡ 0xed → ⊥)) × ((c ≡ 0xf0 → ⊥) × (c ≡ 0xf4 → ⊥)) = omega arith in
+    rw (ne-eqb c 0xe0 (n .0 .0), ne-eqb c 0xed (n .0 .1), ne-eqb c 0xf0 (n .1 .0), ne-eqb c 0xf4 (n .1 .1)) (and-zero-r (bitXor t 0))
 
 -- ---- the next octet
 
@@ -238,15 +256,22 @@ unfolding toCome
 none-to-come a b c e =
     up-to c 0xdf (λ h. omega arith) (λ h. let w = ltb-true 1 (wants c) (wanted c .two-wanted ∙ lt-ltb 0xdf c h) in absurd (omega arith))
 
-pub wrong-is : (a b c x low high : ℕ) (w : Bool) → w ≡ ltb 0 (toCome a b c)
-    → (0x80 ≤ x → ltb 0 low ≡ ltb x (second c .low)) → (0x80 ≤ x → x ≤ 0xbf → ltb 0 high ≡ ltb (second c .high) x)
-    → (c < 0xe0 → low ≡ 0) → (c < 0xe0 → high ≡ 0) → (s : List ℕ)
+pub wrong-is : (a b c x w o : ℕ) → w < 256 → leb 0x80 w ≡ ltb 0 (toCome a b c)
+    → (0x80 ≤ x → x ≤ 0xbf → leb 0x80 o ≡ not (within (second c) x)) → (c < 0xe0 → o ≡ 0) → (s : List ℕ)
     → textAfter (pending (toCome a b c) c) (x ∷ s)
-    ≡ cond (ltb 0 (bitOr (cond (not (Bool·beq w (leb 0x80 x && leb x 0xbf)) || (eqb x 0xc0 || eqb x 0xc1)) 0xff 0) (bitOr low high)) || leb 0xf5 x)
+    ≡ cond
+    (leb 0x80 (bitOr (bitOr (bitXor w (cond (leb 0x80 x && leb x 0xbf) 0xff 0)) (cond (eqb x 0xc0 || eqb x 0xc1) 0xff 0)) o) || leb 0xf5 x)
     false (textAfter (pending (toCome b c x) x) s)
-wrong-is a b c x low high w e lows highs none-low none-high s =
-    let out = ltb 0 low || ltb 0 high in
-    let t = not (Bool·beq w (leb 0x80 x && leb x 0xbf)) || (eqb x 0xc0 || eqb x 0xc1) in
-    rw (or-some (cond t 0xff 0) (bitOr low high), or-some low high, flag-some t, e, next-to-come a b c x)
-    (judged c x out s (toCome a b c) (λ l h. rw (lows l, highs l h) (outside (second c) x))
-    (λ z. let h = none-to-come a b c z in rw (none-low h, none-high h)))
+wrong-is a b c x w o fits e inner low s =
+    let follows = leb 0x80 x && leb x 0xbf in
+    let overlong = eqb x 0xc0 || eqb x 0xc1 in
+    let flag : ℕ = bitXor w (cond follows 0xff 0) in
+    rw (
+      or-high (bitOr flag (cond overlong 0xff 0)) o,
+      or-high flag (cond overlong 0xff 0),
+      xor-high w follows fits,
+      flag-high overlong,
+      e,
+      next-to-come a b c x,
+    )
+    (judged c x (leb 0x80 o) s (toCome a b c) inner (λ z. rw (low (none-to-come a b c z))))

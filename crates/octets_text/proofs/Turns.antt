@@ -13,11 +13,11 @@ use Rattle.octets.proofs.Text.{up-to}
 use Rattle.octets_text.specs.internal.Plain.{Passed}
 use Rattle.octets_text.specs.internal.Pending.{wants, toCome, second, pending}
 use Rattle.octets_text.proofs.Plain.{cut}
-use Rattle.octets_text.proofs.Judging.{or-some}
+use Rattle.octets_text.proofs.Judging.{or-high}
 
 -- Whether an octet so far was wrong, by the flags of all of them and by the largest one.
 abbrev pub AnyWrong : ℕ → ℕ → Bool
-AnyWrong bad largest = ltb 0 bad || leb 0xf5 largest
+AnyWrong bad largest = leb 0x80 bad || leb 0xf5 largest
 
 -- The first i octets are read, of which a, b and c are the last three, or 0 where there are fewer.
 pub record Turn (s : List ℕ) (wrong : Bool) (a b c i : ℕ) : Type 0 where
@@ -46,7 +46,7 @@ largest-is p q =
     (λ h. rw (le-leb 0xf5 p h, le-leb 0xf5 (max p q) (omega arith)))
 
 any-wrong : (p q m n : ℕ) → (AnyWrong p m || AnyWrong q n) ≡ AnyWrong (bitOr p q) (max m n)
-any-wrong p q m n = rw (or-some p q, largest-is m n) (go (ltb 0 p) (leb 0xf5 m) (ltb 0 q) (leb 0xf5 n))
+any-wrong p q m n = rw (or-high p q, largest-is m n) (go (leb 0x80 p) (leb 0xf5 m) (leb 0x80 q) (leb 0xf5 n))
   where
     go : (a b c d : Bool) → ((a || b) || (c || d)) ≡ ((a || c) || (b || d))
     go true b c d = refl

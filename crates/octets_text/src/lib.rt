@@ -3,7 +3,7 @@ ghost use mathlib.Core.Path.{_≡_};
 ghost use mathlib.Core.Bool.{cond, false, not, _||_};
 ghost use mathlib.Core.List.{List, _∷_};
 ghost use Prim.Native.Nat.{ℕ, _+_, _-_, _<_, _≤_, max};
-ghost use lib.Dec.{leb, ltb};
+ghost use lib.Dec.{eqb, leb, ltb};
 ghost use lib.ListN.{length, drop, getD};
 ghost use Rattle.octets.specs.Utf8.{tail};
 ghost use Rattle.octets.specs.Text.{text as text-of, textAfter, within};
@@ -103,38 +103,54 @@ fn larger(x: u8, y: u8) -> u8
     x
 }
 
-// Returns whether a character is incomplete after the octets a, b and c, the last three so far: one of them is a lead that takes octets past c.
-fn wanting(a: u8, b: u8, c: u8) -> bool
-    ensures { λ r. ⌜ r ≡ ltb 0 (toCome a b c) ⌝ }
+// Returns a number of which bit 7 is set exactly if a character is incomplete after the octets a, b and c, the last three so far: one of them
+// is a lead that takes octets past c.
+fn wanting(a: u8, b: u8, c: u8) -> u8
+    ensures { λ r. ⌜ leb 0x80 r ≡ ltb 0 (toCome a b c) ⌝ }
 {
-    0 < (over(c, 0xbf) | over(b, 0xdf) | over(a, 0xef))
+    over(c, 0x40) | over(b, 0x60) | over(a, 0x70)
 }
 
-// Returns 0 if x, an octet from 0x80 on, is not below the range of the octet after c, otherwise another number. Returns 0 for c below 0xe0.
-fn too_low(c: u8, x: u8) -> u8
-    ensures { λ r. ⌜ (0x80 ≤ x → ltb 0 r ≡ ltb x (second c .low)) ⌝ }
+// Returns a number of which bit 7 says in which part of 0x80 to 0xbf an octet x is: from 0xa0 on after a lead from 0xe0 to 0xef, from 0x90 on
+// after a lead from 0xf0 on.
+fn upper_part(c: u8, x: u8) -> u8
+    ensures { λ r. ⌜ (0x80 ≤ x → x ≤ 0xbf → 0xe0 ≤ c → leb 0x80 r ≡ cond (ltb c 0xf0) (leb 0xa0 x) (leb 0x90 x)) ⌝ }
+{
+    std::num::wrapping_add_u8(x, c & 0xf0)
+}
+
+// Returns 0xff if only octets of the upper part may follow the lead c, otherwise 0.
+fn upper_only(c: u8) -> u8
+    ensures { λ r. ⌜ r ≡ cond (eqb c 0xe0 || eqb c 0xf0) 0xff 0 ⌝ }
+{
+    when((c == 0xe0) | (c == 0xf0), 0xff)
+}
+
+// Returns 0xff if only octets of the lower part may follow the lead c, otherwise 0.
+fn lower_only(c: u8) -> u8
+    ensures { λ r. ⌜ r ≡ cond (eqb c 0xed || eqb c 0xf4) 0xff 0 ⌝ }
+{
+    when((c == 0xed) | (c == 0xf4), 0xff)
+}
+
+// Returns a number of which bit 7 is set exactly if x, an octet from 0x80 to 0xbf, is not in the range of the octet after c. Returns 0 for c below
+// 0xe0, which leads no character of more than two octets.
+fn wrong_second(c: u8, x: u8) -> u8
+    ensures { λ r. ⌜ (0x80 ≤ x → x ≤ 0xbf → leb 0x80 r ≡ not (within (second c) x)) ⌝ }
     ensures { λ r. ⌜ (c < 0xe0 → r ≡ 0) ⌝ }
 {
-    over(when(c == 0xe0, 0xa0) | when(c == 0xf0, 0x90), x)
+    let upper = upper_only(c);
+    (upper_part(c, x) ^ upper) & (upper | lower_only(c))
 }
 
-// Returns 0 if x, an octet from 0x80 to 0xbf, is not above the range of the octet after c, otherwise another number: the bits of x that show it.
-// Returns 0 for c below 0xe0.
-fn too_high(c: u8, x: u8) -> u8
-    ensures { λ r. ⌜ (0x80 ≤ x → x ≤ 0xbf → ltb 0 r ≡ ltb (second c .high) x) ⌝ }
-    ensures { λ r. ⌜ (c < 0xe0 → r ≡ 0) ⌝ }
-{
-    x & (when(c == 0xed, 0x20) | when(c == 0xf4, 0x30))
-}
-
-// Returns 0 if x is allowed after the octets a, b and c, otherwise another number. Octets from 0xf5 on are never allowed; they are left to the
-// caller, who tests the largest octet once.
+// Returns a number of which bit 7 is set exactly if x is below 0xf5 and not allowed after the octets a, b and c. No octet from 0xf5 on is allowed. The
+// caller tests for these once, by the largest octet.
 fn wrong(a: u8, b: u8, c: u8, x: u8) -> u8
-    ensures { λ r. ⌜ ((s : List ℕ) → textAfter (pending (toCome a b c) c) (x ∷ s) ≡ cond (ltb 0 r || leb 0xf5 x) false (textAfter (pending (toCome b c x) x) s)) ⌝ }
+    ensures { λ r. ⌜ ((s : List ℕ) → textAfter (pending (toCome a b c) c) (x ∷ s) ≡ cond (leb 0x80 r || leb 0xf5 x) false (textAfter (pending (toCome b c x) x) s)) ⌝ }
 {
     let follows = (0x80 <= x) & (x <= 0xbf);
     let overlong = (x == 0xc0) | (x == 0xc1);
-    when((wanting(a, b, c) ^ follows) | overlong, 0xff) | (too_low(c, x) | too_high(c, x))
+    (wanting(a, b, c) ^ when(follows, 0xff)) | when(overlong, 0xff) | wrong_second(c, x)
 }
 
 // Returns whether octets are text, given that those before `from` are whole characters. Each octet is tested against the three before it only,
@@ -156,7 +172,7 @@ fn long_text(s: &[u8], from: usize) -> bool
         largest = larger(largest, d);
         i += 1;
     }
-    !((0 < bad) | (0xf5 <= largest) | wanting(s[i - 3], s[i - 2], s[i - 1]))
+    !((0x80 <= bad) | (0xf5 <= largest) | (0x80 <= wanting(s[i - 3], s[i - 2], s[i - 1])))
 }
 
 // Returns whether x is in the range of every octet of a character but the first and the second.

@@ -2,6 +2,7 @@
 use borrow.Author.Needs.{needs}
 use native.Mathlib.Omega.{arith}
 use Prim.Native.Nat.{_-_}
+use lib.Dec.{leb}
 use lib.ListN.{length}
 use Rattle.octets_text.proofs.Turns.{Seen, first-three, next-seen, all-seen}
 use Rattle.octets_text.proofs.long_text.Statement.{statement}
@@ -117,7 +118,7 @@ wanting-requires c κs = search needs
 returns : tie.Need-returns Inv-loop μ-loop
 returns c =
     let k = c .before .before .before .before .before in
-    all-seen (k .before .before .before .before .before .before .before .before .before .before .args .s .now) (k .loop .bad) (k .loop .largest) (k .loop .i) (c .wanting .result) (k .loop .inv) (c .before .before .before .before .loop-test .left)
+    all-seen (k .before .before .before .before .before .before .before .before .before .before .args .s .now) (k .loop .bad) (k .loop .largest) (k .loop .i) (leb 0x80 (c .wanting .result)) (k .loop .inv) (c .before .before .before .before .loop-test .left)
     (c .wanting .ensures)
 
 pub long-text-spec : {M : Type 1} → statement M

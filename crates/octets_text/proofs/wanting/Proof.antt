@@ -1,6 +1,5 @@
 -- `octets_text::wanting` meets its contract.
 use borrow.Author.Needs.{needs}
-use mathlib.Core.Path.{_∙_}
 use Rattle.octets_text.proofs.Judging.{wanting-is}
 use Rattle.octets_text.proofs.wanting.Statement.{statement}
 use Rattle.octets_text.proofs.wanting.Tie as tie

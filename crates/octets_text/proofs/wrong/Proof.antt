@@ -10,22 +10,22 @@ wanting-requires c κs = search needs
 when-requires : tie.Need-when-requires
 when-requires c κs = search needs
 
-too-low-requires : tie.Need-too-low-requires
-too-low-requires c κs = search needs
+when-requires-2 : tie.Need-when-requires-2
+when-requires-2 c κs = search needs
 
-too-high-requires : tie.Need-too-high-requires
-too-high-requires c κs = search needs
+wrong-second-requires : tie.Need-wrong-second-requires
+wrong-second-requires c κs = search needs
 
 returns : tie.Need-returns
 returns c =
     let k = c .before .before .before .before in
-    let low = c .before .too-low in
-    let high = c .too-high in
+    let w = c .before .before .before .wanting in
+    let o = c .wrong-second in
     λ s.
-    rw (c .before .before .when .ensures)
-    (wrong-is (k .args .a) (k .args .b) (k .args .c) (k .args .x) (low .result) (high .result) (c .before .before .before .wanting .result)
-    (c .before .before .before .wanting .ensures) (low .ensures .0) (high .ensures .0) (low .ensures .1) (high .ensures .1) s)
+    rw (c .before .when2 .ensures, c .before .before .when .ensures)
+    (wrong-is (k .args .a) (k .args .b) (k .args .c) (k .args .x) (w .result) (o .result) (search needs) (w .ensures) (o .ensures .0) (o .ensures .1) s)
 
 pub wrong-spec : {M : Type 1} → statement M
 wrong-spec =
-    tie.close (tie.spec wanting-requires when-requires too-low-requires too-high-requires returns)
+    tie.close
+    (tie.spec wanting-requires when-requires when-requires-2 wrong-second-requires returns)
