@@ -7,4 +7,5 @@ pub mod Codes
 pub mod ControlPart
 pub mod Text
 pub mod Scalars
+pub mod TextSamples
 pub mod CutControl

@@ -2,7 +2,7 @@
 use Prim.Native.Nat.{ℕ, _+_, _*_, _-_, _/_, _%_, _≤_, _<_}
 use native.Mathlib.Omega.{arith}
 use mathlib.Core.Path.{_≡_, refl, sym, ap, _∙_, subst}
-use mathlib.Core.Bool.{cond}
+use mathlib.Core.Bool.{true, cond}
 use mathlib.Core.List.{List, [], _∷_, _++_, append-cancel-left}
 use mathlib.Core.Logic.{_↔_, _⊎_, inl, inr}
 use mathlib.Core.Option.{Option, none, some}
@@ -11,9 +11,9 @@ use lib.Dec.{leb}
 use borrow.Author.Tests.{le-leb, lt-leb}
 use Rattle.octets.specs.Utf8 as utf8
 use Rattle.octets.specs.Utf8.{Range, grammar, Fits, FitsOne, IsText}
-use Rattle.octets.specs.Text.{within, after, textAfter, text}
-use Rattle.octets.proofs.Text.{up-to}
-use Rattle.octets.specs.Scalars.{Scalar, Scalars, sixBits, encode, encodeAll, Encoded, goodSamples, badSamples, HoldGood, HoldBad}
+use Rattle.octets.specs.Text.{text}
+use Rattle.octets.proofs.Text.{up-to, text-exactly}
+use Rattle.octets.specs.Scalars.{Scalar, Scalars, sixBits, encode, encodeAll, Encoded}
 
 -- ---- the octets of a number
 
@@ -147,6 +147,13 @@ text-encoded s (utf8.more character rest h t) =
 pub text-encodes : (s : List ℕ) → IsText s ↔ Encoded s
 text-encodes s = (text-encoded s, λ e. subst IsText (e .joined) (encoded-text (e .values) (e .scalars)))
 
+-- Octets pass the test for text exactly where they encode a list of scalar values.
+pub test-encodes : (s : List ℕ) → (text s ≡ true) ↔ Encoded s
+test-encodes s =
+    let t = text-exactly s in
+    let e = text-encodes s in
+    (λ p. e .0 (t .0 p), λ p. t .1 (e .1 p))
+
 -- ---- one list only
 
 -- The number of the first character.
@@ -171,7 +178,7 @@ first-encode v r =
     (ap some (omega arith))) λ l.
     rw (four-octets v l, lt-leb four 0x7f (omega arith), lt-leb four 0xdf (omega arith), lt-leb four 0xef (omega arith)) (ap some (omega arith))
 
--- No octets encode two lists.
+-- No octets encode two lists of numbers, scalar values or not.
 pub encoding-once : (vs ws : List ℕ) → encodeAll vs ≡ encodeAll ws → vs ≡ ws
 unfolding encodeAll first
 encoding-once [] [] e = refl
@@ -182,12 +189,3 @@ encoding-once (v ∷ vs) (w ∷ ws) e =
     let p : v ≡ w = cc in
     let q = encoding-once vs ws (append-cancel-left (encode v) (encodeAll vs) (encodeAll ws) (e ∙ rw p)) in
     rw (p, q)
-
-pub good-samples-hold : HoldGood goodSamples
-unfolding HoldGood goodSamples encodeAll encode sixBits text textAfter after within grammar
-good-samples-hold =
-    ((refl, refl), ((refl, refl), ((refl, refl), ((refl, refl), ((refl, refl), ((refl, refl), ((refl, refl), ((refl, refl), ((refl, refl), ((refl, refl), tt))))))))))
-
-pub bad-samples-hold : HoldBad badSamples
-unfolding HoldBad badSamples text textAfter after within grammar
-bad-samples-hold = (refl, (refl, (refl, (refl, (refl, (refl, (refl, (refl, (refl, (refl, (refl, (refl, (refl, tt)))))))))))))

@@ -1,10 +1,10 @@
 -- Just the text of Utf8.antt passes the test for text.
-use Prim.Native.Nat.{ℕ, suc, _≤_, _<_}
+use Prim.Native.Nat.{ℕ, zero, suc, _≤_, _<_}
 use native.Mathlib.Omega.{arith}
 use mathlib.Core.Path.{_≡_, refl, ap, _∙_, subst}
 use mathlib.Core.Bool.{Bool, true, false, cond, _&&_, false≢true}
 use mathlib.Core.List.{List, [], _∷_, _++_}
-use mathlib.Core.Logic.{_↔_, _⊎_, inl, inr}
+use mathlib.Core.Logic.{_↔_, inl, inr}
 use mathlib.Core.Option.{Option, none, some}
 use lib.Dec.{leb}
 use borrow.Author.Tests.{leb-true, leb-false, le-leb, lt-leb}
@@ -60,22 +60,47 @@ pub grammar-ascending : Ascending 0 grammar
 unfolding Ascending grammar
 grammar-ascending = search needs
 
--- A lead that fits a row fits no row before it: the octets to come are those of its own row.
-record Lead (n : ℕ) (rows : List (List Range)) (x : ℕ) (g : List ℕ) : Type 0 where
-  rest : List Range
-  found : after rows x ≡ some rest
-  fits : Fits rest g
-  least : n ≤ x
+-- An octet is a lead of the k-th row.
+unfoldable pub Leads : List (List Range) → ℕ → ℕ → Type 0
+Leads [] k x = ⊥
+Leads ([] ∷ rows) zero x = ⊥
+Leads ((r ∷ rs) ∷ rows) zero x = (r .low ≤ x) × (x ≤ r .high)
+Leads (row ∷ rows) (suc k) x = Leads rows k x
 
-lead-of : (n : ℕ) (rows : List (List Range)) (x : ℕ) (g : List ℕ) → Ascending n rows → FitsOne rows (x ∷ g) → Lead n rows x g
-unfolding Ascending FitsOne Fits after
-lead-of n [] x g a f = absurd f
-lead-of n ([] ∷ rows) x g a f = absurd a
-lead-of n ((r ∷ rs) ∷ rows) x g a (inl f) =
-    record { rest = rs; found = rw (in-range r x (f .0 .0) (f .0 .1)); fits = f .1; least = omega (arith, a .0 .0, f .0 .0) }
-lead-of n ((r ∷ rs) ∷ rows) x g a (inr f) =
-    let l = lead-of (suc (r .high)) rows x g (a .1) f in
-    record { rest = l .rest; found = rw (above-range r x (l .least)) (l .found); fits = l .fits; least = omega (arith, a .0 .0, a .0 .1, l .least) }
+-- What comes after a lead of the k-th row.
+unfoldable pub restOf : List (List Range) → ℕ → List Range
+restOf [] k = []
+restOf ([] ∷ rows) zero = []
+restOf ((r ∷ rs) ∷ rows) zero = rs
+restOf (row ∷ rows) (suc k) = restOf rows k
+
+-- A lead of a row is a lead of no row before it.
+after-row : (n : ℕ) (rows : List (List Range)) (k x : ℕ) → Ascending n rows → Leads rows k x → (n ≤ x) × (after rows x ≡ some (restOf rows k))
+unfolding Ascending Leads restOf after
+after-row n [] k x a l = absurd l
+after-row n ([] ∷ rows) k x a l = absurd a
+after-row n ((r ∷ rs) ∷ rows) zero x a l = (omega (arith, a .0 .0, l .0), rw (in-range r x (l .0) (l .1)))
+after-row n ((r ∷ rs) ∷ rows) (suc k) x a l =
+    let f = after-row (suc (r .high)) rows k x (a .1) l in
+    (omega (arith, a .0 .0, a .0 .1, f .0), rw (above-range r x (f .0)) (f .1))
+
+pub after-lead : (k x : ℕ) → Leads grammar k x → after grammar x ≡ some (restOf grammar k)
+after-lead k x l = after-row 0 grammar k x grammar-ascending l .1
+
+-- Octets that fit one of the rows begin with a lead of it.
+record Row (rows : List (List Range)) (x : ℕ) (g : List ℕ) : Type 0 where
+  index : ℕ
+  leads : Leads rows index x
+  fits : Fits (restOf rows index) g
+
+row-at : (rows : List (List Range)) (x : ℕ) (g : List ℕ) → FitsOne rows (x ∷ g) → Row rows x g
+unfolding FitsOne Fits Leads restOf
+row-at [] x g f = absurd f
+row-at ([] ∷ rows) x g (inl f) = absurd f
+row-at ((r ∷ rs) ∷ rows) x g (inl f) = record { index = 0; leads = f .0; fits = f .1 }
+row-at (row ∷ rows) x g (inr f) =
+    let k = row-at rows x g f in
+    record { index = suc (k .index); leads = k .leads; fits = k .fits }
 
 no-lead : (n : ℕ) (rows : List (List Range)) → Ascending n rows → FitsOne rows [] → ⊥
 unfolding Ascending FitsOne Fits
@@ -101,6 +126,10 @@ pub lead-passed : (x : ℕ) (rs : List Range) (s : List ℕ) → after grammar x
 unfolding textAfter
 lead-passed x rs s e = ap (λ (o : Option (List Range)). elim o [ none ↦ false | some rs ↦ textAfter rs s ]) e
 
+pub no-character : (x : ℕ) (s : List ℕ) → after grammar x ≡ none → textAfter [] (x ∷ s) ≡ false
+unfolding textAfter
+no-character x s e = rw (textAfter, e)
+
 rest-passed : (rs : List Range) (g s : List ℕ) → Fits rs g → textAfter rs (g ++ s) ≡ textAfter [] s
 unfolding Fits textAfter
 rest-passed [] [] s f = refl
@@ -111,8 +140,9 @@ rest-passed (r ∷ rs) (x ∷ g) s f = rw (in-range r x (f .0 .0) (f .0 .1)) (re
 character-passed : (g s : List ℕ) → FitsOne grammar g → textAfter [] (g ++ s) ≡ textAfter [] s
 character-passed [] s f = absurd (no-lead 0 grammar grammar-ascending f)
 character-passed (x ∷ g) s f =
-    let l = lead-of 0 grammar x g grammar-ascending f in
-    lead-passed x (l .rest) (g ++ s) (l .found) ∙ rest-passed (l .rest) g s (l .fits)
+    let r = row-at grammar x g f in
+    let rs = restOf grammar (r .index) in
+    lead-passed x rs (g ++ s) (after-lead (r .index) x (r .leads)) ∙ rest-passed rs g s (r .fits)
 
 text-passes : (s : List ℕ) → IsText s → textAfter [] s ≡ true
 unfolding textAfter

@@ -4,6 +4,7 @@ pub mod ControlPart
 pub mod Utf8
 pub mod Text
 pub mod Scalars
+pub mod TextSamples
 pub mod Control
 pub mod CutControl
 pub mod internal

@@ -16,7 +16,7 @@ low to high = record { low = low; high = high }
 abbrev pub tail : Range
 tail = 0x80 to 0xbf
 
--- The RFC's UTF8-char: a row for each alternative, with the ranges of its octets.
+-- The RFC's UTF8-char, from UTF8-1 to UTF8-4: a row for each alternative, with the ranges of its octets.
 unfoldable pub grammar : List (List Range)
 grammar =
     (0x00 to 0x7f ∷ [])
@@ -37,12 +37,12 @@ Fits [] (x ∷ s) = ⊥
 Fits (r ∷ rs) [] = ⊥
 Fits (r ∷ rs) (x ∷ s) = ((r .low ≤ x) × (x ≤ r .high)) × Fits rs s
 
--- Octets fit one of the rows.
+-- The octets fit one of the rows.
 unfoldable pub FitsOne : List (List Range) → List ℕ → Type 0
 FitsOne [] s = ⊥
 FitsOne (row ∷ rows) s = Fits row s ⊎ FitsOne rows s
 
--- Text: octets that each fit a row, joined.
+-- Text, the RFC's UTF8-octets: characters one after the other, each of which fits a row.
 pub data IsText : List ℕ → Type 0 where
   none : IsText []
   more : (character rest : List ℕ) → FitsOne grammar character → IsText rest → IsText (character ++ rest)

@@ -9,12 +9,11 @@ use lib.ListN.{length, getD, drop, length-drop, replicate, length-replicate}
 use lib.Seq.{drop-drop}
 use Rattle.octets.specs.Utf8.{Range, tail, grammar}
 use Rattle.octets.specs.Text.{within, after, textAfter, text}
-use Rattle.octets.proofs.Text.{lead-passed}
+use Rattle.octets.proofs.Text.{lead-passed, no-character}
 use Rattle.octets_text.specs.internal.Plain.{Passed}
-use Rattle.octets_text.specs.internal.Pending.{second, pending}
+use Rattle.octets_text.specs.internal.Pending.{next, pending}
 use Rattle.octets_text.specs.internal.Character.{follow, sizeWith, characterSize}
 use Rattle.octets_text.proofs.Plain.{cut}
-use Rattle.octets_text.proofs.Judging.{no-character}
 
 -- ---- octets that follow a lead
 
@@ -37,7 +36,7 @@ follow-length (q ∷ rs) (x ∷ r) e = go (within q x) (follow-length rs r) e
     go true later e = let k = later e in omega arith
     go false later e = absurd (true≢false e)
 
-pub follow-short : (rs : List Range) (r : List ℕ) → length r < length rs → false ≡ follow rs r
+follow-short : (rs : List Range) (r : List ℕ) → length r < length rs → false ≡ follow rs r
 follow-short rs r h = go (follow rs r) refl
   where
     go : (t : Bool) → follow rs r ≡ t → false ≡ follow rs r
@@ -63,10 +62,14 @@ after-follow (q ∷ rs) (x ∷ r) = go (within q x) (after-follow rs r)
 
 -- ---- the character at i
 
-pub pending-length : (n c : ℕ) → length (pending n c) ≡ n
+pending-length : (n c : ℕ) → length (pending n c) ≡ n
 unfolding pending
 pending-length zero c = refl
 pending-length (suc n) c = ap suc (length-replicate n tail)
+
+third-is : (s : List ℕ) (i n : ℕ) → i + 2 < length s
+    → (within tail (getD s (i + 2) 0) && follow (replicate n tail) (drop (i + 3) s)) ≡ follow (replicate (suc n) tail) (drop (i + 2) s)
+third-is s i n h = follow-next tail (replicate n tail) s (i + 2) (i + 3) (omega arith) h
 
 -- The octets after the lead c at i.
 module _ (c : ℕ) (s : List ℕ) (i : ℕ) where
@@ -77,33 +80,29 @@ module _ (c : ℕ) (s : List ℕ) (i : ℕ) where
       follow-short (pending n c) (drop (i + 1) s) (omega arith)
 
   second-is : (n : ℕ) → i + 1 < length s
-      → (within (second c) (getD s (i + 1) 0) && follow (replicate n tail) (drop (i + 2) s)) ≡ follow (pending (suc n) c) (drop (i + 1) s)
+      → (within (next c) (getD s (i + 1) 0) && follow (replicate n tail) (drop (i + 2) s)) ≡ follow (pending (suc n) c) (drop (i + 1) s)
   unfolding pending
-  second-is n h = follow-next (second c) (replicate n tail) s (i + 1) (i + 2) (omega arith) h
+  second-is n h = follow-next (next c) (replicate n tail) s (i + 1) (i + 2) (omega arith) h
 
-  third-is : (n : ℕ) → i + 2 < length s
-      → (within tail (getD s (i + 2) 0) && follow (replicate n tail) (drop (i + 3) s)) ≡ follow (replicate (suc n) tail) (drop (i + 2) s)
-  third-is n h = follow-next tail (replicate n tail) s (i + 2) (i + 3) (omega arith) h
-
-  pub one-is : i + 1 < length s → within (second c) (getD s (i + 1) 0) ≡ follow (pending 1 c) (drop (i + 1) s)
+  pub one-is : i + 1 < length s → within (next c) (getD s (i + 1) 0) ≡ follow (pending 1 c) (drop (i + 1) s)
   unfolding follow
-  one-is h = and-true (within (second c) (getD s (i + 1) 0)) ∙ second-is 0 h
+  one-is h = and-true (within (next c) (getD s (i + 1) 0)) ∙ second-is 0 h
 
   pub two-is : i + 2 < length s
-      → (within (second c) (getD s (i + 1) 0) && within tail (getD s (i + 2) 0)) ≡ follow (pending 2 c) (drop (i + 1) s)
+      → (within (next c) (getD s (i + 1) 0) && within tail (getD s (i + 2) 0)) ≡ follow (pending 2 c) (drop (i + 1) s)
   unfolding follow
   two-is h =
-      ap (λ (t : Bool). within (second c) (getD s (i + 1) 0) && t) (and-true (within tail (getD s (i + 2) 0)) ∙ third-is 0 h)
+      ap (λ (t : Bool). within (next c) (getD s (i + 1) 0) && t) (and-true (within tail (getD s (i + 2) 0)) ∙ third-is s i 0 h)
       ∙ second-is 1 (omega arith)
 
   pub three-is : i + 3 < length s
-      → ((within (second c) (getD s (i + 1) 0) && within tail (getD s (i + 2) 0)) && within tail (getD s (i + 3) 0)) ≡ follow (pending 3 c) (drop (i + 1) s)
+      → ((within (next c) (getD s (i + 1) 0) && within tail (getD s (i + 2) 0)) && within tail (getD s (i + 3) 0)) ≡ follow (pending 3 c) (drop (i + 1) s)
   unfolding follow
   three-is h =
       let fourth = follow-next tail [] s (i + 3) (i + 4) (omega arith) h in
-      and-assoc (within (second c) (getD s (i + 1) 0)) (within tail (getD s (i + 2) 0)) (within tail (getD s (i + 3) 0))
-      ∙ ap (λ (t : Bool). within (second c) (getD s (i + 1) 0) && t)
-      (ap (λ (t : Bool). within tail (getD s (i + 2) 0) && t) (and-true (within tail (getD s (i + 3) 0)) ∙ fourth) ∙ third-is 1 (omega arith))
+      and-assoc (within (next c) (getD s (i + 1) 0)) (within tail (getD s (i + 2) 0)) (within tail (getD s (i + 3) 0))
+      ∙ ap (λ (t : Bool). within (next c) (getD s (i + 1) 0) && t)
+      (ap (λ (t : Bool). within tail (getD s (i + 2) 0) && t) (and-true (within tail (getD s (i + 3) 0)) ∙ fourth) ∙ third-is s i 1 (omega arith))
       ∙ second-is 2 (omega arith)
 
 module _ (s : List ℕ) (i : ℕ) (h : i < length s) where
@@ -140,23 +139,19 @@ no-text (x ∷ r) h e = go (after grammar x) refl e
     go none q k = no-character x r q
     go (some rs) q k = lead-passed x rs r q ∙ open-character rs (follow rs r) refl k
 
-record Past (r : List ℕ) (n : ℕ) : Type 0 where
-  inside : n ≤ length r
-  same : textAfter [] r ≡ textAfter [] (drop n r)
-
-past-character : (r : List ℕ) → (characterSize r ≡ 0 → ⊥) → Past r (characterSize r)
-unfolding characterSize sizeWith
+past-character : (r : List ℕ) → (characterSize r ≡ 0 → ⊥) → Passed r (characterSize r)
+unfolding characterSize sizeWith text
 past-character [] ne = absurd (ne refl)
 past-character (x ∷ r) ne = go (after grammar x) refl ne
   where
     passed-by : (rs : List Range) → after grammar x ≡ some rs → (t : Bool) → follow rs r ≡ t → (cond t (suc (length rs)) 0 ≡ 0 → ⊥)
-        → Past (x ∷ r) (cond t (suc (length rs)) 0)
+        → Passed (x ∷ r) (cond t (suc (length rs)) 0)
     passed-by rs q true f k =
         let l = follow-length rs r (sym f) in
         record { inside = omega arith; same = lead-passed x rs r q ∙ after-follow rs r ∙ rw f }
     passed-by rs q false f k = absurd (k refl)
 
-    go : (f : Option (List Range)) → after grammar x ≡ f → (sizeWith r f ≡ 0 → ⊥) → Past (x ∷ r) (sizeWith r f)
+    go : (f : Option (List Range)) → after grammar x ≡ f → (sizeWith r f ≡ 0 → ⊥) → Passed (x ∷ r) (sizeWith r f)
     go none q k = absurd (k refl)
     go (some rs) q k = passed-by rs q (follow rs r) refl k
 
@@ -166,7 +161,8 @@ module _ (s : List ℕ) (i n : ℕ) (p : Passed s i) (h : i < length s) (e : n �
   stopped z = sym (p .same ∙ no-text (drop i s) (rw (length-drop i s) (omega arith)) (sym e ∙ z))
 
   pub passed : (n ≡ 0 → ⊥) → Passed s (i + n)
+  unfolding text
   passed ne =
-      let q : Past (drop i s) n = rw e (past-character (drop i s) (λ z. ne (e ∙ z))) in
+      let q : Passed (drop i s) n = rw e (past-character (drop i s) (λ z. ne (e ∙ z))) in
       let l = length-drop i s in
       record { inside = omega (arith, q .inside); same = p .same ∙ q .same ∙ ap (textAfter []) (drop-drop n i s) }

@@ -1,19 +1,19 @@
 -- Laws for judging an octet of text by the three octets before it.
-use Prim.Native.Nat.{ℕ, zero, suc, _+_, _-_, _*_, _/_, _%_, _^_, _≤_, _<_, max}
+use Prim.Native.Nat.{ℕ, zero, suc, _+_, _-_, _*_, _/_, _%_, _≤_, _<_, max}
 use native.Mathlib.Omega.{arith}
 use mathlib.Core.Path.{_≡_, refl, sym, ap, _∙_}
 use mathlib.Core.Bool.{Bool, true, false, cond, not, Bool·beq, _&&_, _||_}
-use mathlib.Core.List.{List, [], _∷_}
-use mathlib.Core.Option.{Option, none, some}
+use mathlib.Core.List.{List, _∷_}
+use mathlib.Core.Option.{none, some}
 use lib.Bits.{bitOr, bitAnd, bitXor, or-lt, xor-zero-r, xor-lt, and-zero-r, and-mask, and-high, or-add-and, xor-add-and, and-le-l, and-le-r}
 use lib.Dec.{eqb, leb, ltb}
 use lib.ListN.{replicate}
-use borrow.Author.Tests.{ltb-true, ltb-false, lt-ltb, le-ltb, le-leb, lt-leb, eqb-true, eq-eqb, ne-eqb}
-use Rattle.octets.specs.Utf8.{Range, _to_, tail, grammar}
+use borrow.Author.Tests.{ltb-true, lt-ltb, le-ltb, le-leb, lt-leb, eqb-true, ne-eqb}
+use Rattle.octets.specs.Utf8.{_to_, tail, grammar}
 use Rattle.octets.specs.Text.{within, after, textAfter}
-use Rattle.octets.proofs.Text.{up-to, in-range, below-range, above-range, lead-passed}
-use Rattle.octets_text.specs.internal.Pending.{wants, toCome, second, pending}
-use Rattle.octets_text.proofs.Leads.{wants-none, wants-one, wants-two, wants-three, second-low, second-inside, alone, leads-one, leads-two, leads-three, no-lead, no-lead-above}
+use Rattle.octets.proofs.Text.{up-to, in-range, below-range, above-range, lead-passed, no-character}
+use Rattle.octets_text.specs.internal.Pending.{wants, toCome, next, pending, Judged}
+use Rattle.octets_text.proofs.Leads.{wants-none, wants-one, wants-two, wants-three, next-low, next-inside, alone, leads-one, leads-two, leads-three, no-lead, no-lead-above}
 
 -- ---- octets as flags, by bit 7
 
@@ -27,7 +27,7 @@ or-high p q =
     (λ k. rw (lt-leb 0x80 p (omega arith), le-leb 0x80 q k, le-leb 0x80 (bitOr p q) (omega arith))))
     (λ h. rw (le-leb 0x80 p h, le-leb 0x80 (bitOr p q) (omega arith)))
 
-pub flag-high : (t : Bool) → leb 0x80 (cond t 0xff 0) ≡ t
+flag-high : (t : Bool) → leb 0x80 (cond t 0xff 0) ≡ t
 flag-high true = refl
 flag-high false = refl
 
@@ -56,7 +56,7 @@ over-high x n =
 
 -- ---- how many octets are to come
 
--- Whether an octet wants more than none, one or two octets shows at its size.
+-- Whether an octet wants more than none, one or two octets shows in its value.
 record Wants (x : ℕ) : Type 0 where
   some-wanted : ltb 0 (wants x) ≡ ltb 0xbf x
   two-wanted : ltb 1 (wants x) ≡ ltb 0xdf x
@@ -83,9 +83,9 @@ some-to-come p q r =
     (λ k. rw (le-ltb 0 p h, lt-ltb 1 q k, lt-ltb 0 m (omega arith))))
     (λ h. rw (lt-ltb 0 p h, lt-ltb 0 m (omega arith)))
 
-pub wanting-is : (a b c : ℕ) → leb 0x80 (bitOr (bitOr (c - 0x40) (b - 0x60)) (a - 0x70)) ≡ ltb 0 (toCome a b c)
+pub incomplete-is : (a b c : ℕ) → leb 0x80 (bitOr (bitOr (c - 0x40) (b - 0x60)) (a - 0x70)) ≡ ltb 0 (toCome a b c)
 unfolding toCome
-wanting-is a b c =
+incomplete-is a b c =
     rw (
       or-high (bitOr (c - 0x40) (b - 0x60)) (a - 0x70),
       or-high (c - 0x40) (b - 0x60),
@@ -152,12 +152,12 @@ module _ (x t : ℕ) (f : t < 256) (l : 0x80 ≤ x) (h : x ≤ 0xbf) where
       (up-to x n (λ k. rw (le-leb x n k, lt-leb (suc n) x (omega arith))) (λ k. rw (lt-leb x n k, le-leb (suc n) x k)))
 
 pub wrong-second-is : (c x t : ℕ) → t < 256 → 0x80 ≤ x → x ≤ 0xbf → (0xe0 ≤ c → leb 0x80 t ≡ cond (ltb c 0xf0) (leb 0xa0 x) (leb 0x90 x))
-    → leb 0x80 (wrongSecond c t) ≡ not (within (second c) x)
-unfolding second
+    → leb 0x80 (wrongSecond c t) ≡ not (within (next c) x)
+unfolding next
 wrong-second-is c x t f l h part = go (eqb c 0xe0) refl (eqb c 0xed) refl (eqb c 0xf0) refl (eqb c 0xf4) refl
   where
     go : (p : Bool) → eqb c 0xe0 ≡ p → (q : Bool) → eqb c 0xed ≡ q → (r : Bool) → eqb c 0xf0 ≡ r → (u : Bool) → eqb c 0xf4 ≡ u
-        → leb 0x80 (wrongSecond c t) ≡ not (within (second c) x)
+        → leb 0x80 (wrongSecond c t) ≡ not (within (next c) x)
     go true p _ _ _ _ _ _ = let e = eqb-true c 0xe0 p in rw e (upper x t f l h 0xa0 (part (omega arith) ∙ rw e))
     go false p true q _ _ _ _ = let e = eqb-true c 0xed q in rw e (lower x t f l h 0x9f (part (omega arith) ∙ rw e))
     go false p false q true r _ _ = let e = eqb-true c 0xf0 r in rw e (upper x t f l h 0x90 (part (omega arith) ∙ rw e))
@@ -172,65 +172,61 @@ no-wrong-second c t h =
 -- ---- the next octet
 
 -- The flag of `wrong`, by how many octets are to come and by whether x is outside of its range.
-abbrev Wrong : ℕ → Bool → ℕ → Bool
-Wrong n out x = (not (Bool·beq (ltb 0 n) (leb 0x80 x && leb x 0xbf)) || (eqb x 0xc0 || eqb x 0xc1)) || out
-
-pub no-character : (x : ℕ) (s : List ℕ) → after grammar x ≡ none → textAfter [] (x ∷ s) ≡ false
-unfolding textAfter
-no-character x s e = rw (textAfter, e)
+abbrev wrongly : ℕ → Bool → ℕ → Bool
+wrongly n out x = (not (Bool·beq (ltb 0 n) (leb 0x80 x && leb x 0xbf)) || (eqb x 0xc0 || eqb x 0xc1)) || out
 
 module _ (c x : ℕ) (out : Bool) (s : List ℕ) where
-  abbrev Judged : ℕ → Type 0
-  Judged n = textAfter (pending n c) (x ∷ s) ≡ cond (Wrong n out x || leb 0xf5 x) false (textAfter (pending (max (wants x) (n - 1)) x) s)
+  abbrev After : ℕ → Type 0
+  After n = textAfter (pending n c) (x ∷ s) ≡ cond (wrongly n out x || leb 0xf5 x) false (textAfter (pending (max (wants x) (n - 1)) x) s)
 
   -- ---- no octet is to come
 
   lead : (m : ℕ) → after grammar x ≡ some (pending m x) → wants x ≡ m → (leb 0x80 x && leb x 0xbf) ≡ false
-      → ((x ≡ 0xc0 → ⊥) × (x ≡ 0xc1 → ⊥)) × (x < 0xf5) → out ≡ false → Judged 0
+      → ((x ≡ 0xc0 → ⊥) × (x ≡ 0xc1 → ⊥)) × (x < 0xf5) → out ≡ false → After 0
   unfolding pending
   lead m e w f h z =
       let k : max (wants x) (0 - 1) ≡ m = omega arith in
       lead-passed x (pending m x) s e
       ∙ rw (f, z, ne-eqb x 0xc0 (h .0 .0), ne-eqb x 0xc1 (h .0 .1), lt-leb 0xf5 x (h .1), k)
 
-  rejected : after grammar x ≡ none → (Wrong 0 out x || leb 0xf5 x) ≡ true → Judged 0
+  rejected : after grammar x ≡ none → (wrongly 0 out x || leb 0xf5 x) ≡ true → After 0
   unfolding pending
   rejected e f = no-character x s e ∙ sym (ap (λ (t : Bool). cond t false (textAfter (pending (max (wants x) (0 - 1)) x) s)) f)
 
-  judged-lead : out ≡ false → Judged 0
+  judged-lead : out ≡ false → After 0
   unfolding pending
   judged-lead z =
       up-to x 0x7f (λ h. lead 0 (alone x (omega arith)) (wants-none x (omega arith)) (rw (lt-leb 0x80 x (omega arith))) (omega arith) z) λ h.
       up-to x 0xbf (λ k. rejected (no-lead x h (omega arith)) (rw (le-leb 0x80 x h, le-leb x 0xbf k))) λ k.
       let f : (leb 0x80 x && leb x 0xbf) ≡ false = rw (le-leb 0x80 x h, lt-leb x 0xbf k) in
-      up-to x 0xc1 (λ l. rejected (no-lead x h (omega arith)) (overlong l k f)) λ l.
+      up-to x 0xc1 (λ l. rejected (no-lead x h (omega arith)) (overlong l k)) λ l.
       up-to x 0xdf (λ m. lead 1 (leads-one x l (omega arith)) (wants-one x k (omega arith)) f (omega arith) z) λ m.
       up-to x 0xef (λ n. lead 2 (leads-two x m (omega arith)) (wants-two x m (omega arith)) f (omega arith) z) λ n.
       up-to x 0xf4 (λ p. lead 3 (leads-three x n (omega arith)) (wants-three x n) f (omega arith) z) λ p.
       rejected (no-lead-above x p) (rw (f, z, ne-eqb x 0xc0 (λ e. omega arith), ne-eqb x 0xc1 (λ e. omega arith), le-leb 0xf5 x p))
     where
-      overlong : x ≤ 0xc1 → 0xbf < x → (leb 0x80 x && leb x 0xbf) ≡ false → (Wrong 0 out x || leb 0xf5 x) ≡ true
-      overlong l k f = up-to x 0xc0 (λ h. let e : x ≡ 0xc0 = omega arith in rw e) (λ h. let e : x ≡ 0xc1 = omega arith in rw e)
+      overlong : x ≤ 0xc1 → 0xbf < x → (wrongly 0 out x || leb 0xf5 x) ≡ true
+      overlong l k = up-to x 0xc0 (λ h. let e : x ≡ 0xc0 = omega arith in rw e) (λ h. let e : x ≡ 0xc1 = omega arith in rw e)
 
   -- ---- octets are to come
 
   pending-tail : (m : ℕ) → x ≤ 0xbf → pending m x ≡ replicate m tail
   unfolding pending replicate
   pending-tail zero h = refl
-  pending-tail (suc m) h = rw (second-low x (omega arith))
+  pending-tail (suc m) h = rw (next-low x (omega arith))
 
-  judged-next : (m : ℕ) → (0x80 ≤ x → x ≤ 0xbf → out ≡ not (within (second c) x)) → Judged (suc m)
+  judged-next : (m : ℕ) → (0x80 ≤ x → x ≤ 0xbf → out ≡ not (within (next c) x)) → After (suc m)
   unfolding pending textAfter
   judged-next m inner =
-      up-to x 0x7f (λ h. rw (below-range (second c) x (omega (arith, second-inside c .0)), lt-leb 0x80 x (omega arith), lt-ltb 0 (suc m) (omega arith))) λ h.
+      up-to x 0x7f (λ h. rw (below-range (next c) x (omega (arith, next-inside c .0)), lt-leb 0x80 x (omega arith), lt-ltb 0 (suc m) (omega arith))) λ h.
       up-to x 0xbf (λ k. inside h k) λ k.
-      rw (above-range (second c) x (omega (arith, second-inside c .1)), lt-leb x 0xbf k, le-leb 0x80 x h, lt-ltb 0 (suc m) (omega arith))
+      rw (above-range (next c) x (omega (arith, next-inside c .1)), lt-leb x 0xbf k, le-leb 0x80 x h, lt-ltb 0 (suc m) (omega arith))
     where
       go : (t : Bool) → (t && textAfter (replicate m tail) s) ≡ cond (((false || false) || not t) || false) false (textAfter (replicate m tail) s)
       go true = refl
       go false = refl
 
-      inside : 0x80 ≤ x → x ≤ 0xbf → Judged (suc m)
+      inside : 0x80 ≤ x → x ≤ 0xbf → After (suc m)
       inside h k =
           let n : max (wants x) (suc m - 1) ≡ m = omega (arith, wants-none x (omega arith)) in
           rw (
@@ -244,24 +240,23 @@ module _ (c x : ℕ) (out : Bool) (s : List ℕ) where
             ne-eqb x 0xc0 (λ e. omega arith),
             ne-eqb x 0xc1 (λ e. omega arith),
           )
-          (go (within (second c) x))
+          (go (within (next c) x))
 
-  judged : (n : ℕ) → (0x80 ≤ x → x ≤ 0xbf → out ≡ not (within (second c) x)) → (n ≡ 0 → out ≡ false) → Judged n
+  judged : (n : ℕ) → (0x80 ≤ x → x ≤ 0xbf → out ≡ not (within (next c) x)) → (n ≡ 0 → out ≡ false) → After n
   judged zero inner apart = judged-lead (apart refl)
   judged (suc m) inner apart = judged-next m inner
 
--- Where no octet is to come, the last one is no lead.
+-- Where no octet is to come, the last one leads no character of three or four octets.
 none-to-come : (a b c : ℕ) → toCome a b c ≡ 0 → c < 0xe0
 unfolding toCome
 none-to-come a b c e =
     up-to c 0xdf (λ h. omega arith) (λ h. let w = ltb-true 1 (wants c) (wanted c .two-wanted ∙ lt-ltb 0xdf c h) in absurd (omega arith))
 
 pub wrong-is : (a b c x w o : ℕ) → w < 256 → leb 0x80 w ≡ ltb 0 (toCome a b c)
-    → (0x80 ≤ x → x ≤ 0xbf → leb 0x80 o ≡ not (within (second c) x)) → (c < 0xe0 → o ≡ 0) → (s : List ℕ)
-    → textAfter (pending (toCome a b c) c) (x ∷ s)
-    ≡ cond
-    (leb 0x80 (bitOr (bitOr (bitXor w (cond (leb 0x80 x && leb x 0xbf) 0xff 0)) (cond (eqb x 0xc0 || eqb x 0xc1) 0xff 0)) o) || leb 0xf5 x)
-    false (textAfter (pending (toCome b c x) x) s)
+    → (0x80 ≤ x → x ≤ 0xbf → leb 0x80 o ≡ not (within (next c) x)) → (c < 0xe0 → o ≡ 0)
+    → Judged
+    (leb 0x80 (bitOr (bitOr (bitXor w (cond (within tail x) 0xff 0)) (cond (eqb x 0xc0 || eqb x 0xc1) 0xff 0)) o) || leb 0xf5 x) a b c x
+unfolding within
 wrong-is a b c x w o fits e inner low s =
     let follows = leb 0x80 x && leb x 0xbf in
     let overlong = eqb x 0xc0 || eqb x 0xc1 in

@@ -1,41 +1,18 @@
 -- What comes after each lead octet of the grammar.
-use Prim.Native.Nat.{ℕ, zero, suc, _≤_, _<_}
+use Prim.Native.Nat.{ℕ, suc, _≤_, _<_}
 use native.Mathlib.Omega.{arith}
-use mathlib.Core.Path.{_≡_, refl, sym, ap, _∙_, subst}
+use mathlib.Core.Path.{_≡_, refl}
 use mathlib.Core.Bool.{Bool, true, false, cond}
 use mathlib.Core.List.{List, [], _∷_}
-use mathlib.Core.Option.{Option, none, some}
+use mathlib.Core.Option.{none, some}
 use lib.Dec.{eqb}
 use lib.ListN.{replicate, drop}
 use borrow.Author.Needs.{needs}
 use borrow.Author.Tests.{lt-ltb, le-ltb, ne-eqb}
 use Rattle.octets.specs.Utf8.{Range, _to_, tail, grammar}
 use Rattle.octets.specs.Text.{within, after}
-use Rattle.octets.proofs.Text.{up-to, in-range, below-range, above-range, Ascending, grammar-ascending}
-use Rattle.octets_text.specs.internal.Pending.{wants, second, pending}
-
--- An octet is a lead of the k-th row.
-Leads : List (List Range) → ℕ → ℕ → Type 0
-Leads [] k x = ⊥
-Leads ([] ∷ rows) k x = ⊥
-Leads ((r ∷ rs) ∷ rows) zero x = (r .low ≤ x) × (x ≤ r .high)
-Leads ((r ∷ rs) ∷ rows) (suc k) x = Leads rows k x
-
--- What comes after a lead of the k-th row.
-restOf : List (List Range) → ℕ → List Range
-restOf [] k = []
-restOf ([] ∷ rows) k = []
-restOf ((r ∷ rs) ∷ rows) zero = rs
-restOf ((r ∷ rs) ∷ rows) (suc k) = restOf rows k
-
-after-row : (n : ℕ) (rows : List (List Range)) (k x : ℕ) → Ascending n rows → Leads rows k x → (n ≤ x) × (after rows x ≡ some (restOf rows k))
-unfolding Ascending Leads restOf after
-after-row n [] k x a l = absurd l
-after-row n ([] ∷ rows) k x a l = absurd l
-after-row n ((r ∷ rs) ∷ rows) zero x a l = (omega (arith, a .0 .0, l .0), rw (in-range r x (l .0) (l .1)))
-after-row n ((r ∷ rs) ∷ rows) (suc k) x a l =
-    let f = after-row (suc (r .high)) rows k x (a .1) l in
-    (omega (arith, a .0 .0, a .0 .1, f .0), rw (above-range r x (f .0)) (f .1))
+use Rattle.octets.proofs.Text.{up-to, below-range, above-range, Ascending, Leads, restOf, after-lead}
+use Rattle.octets_text.specs.internal.Pending.{wants, next, pending}
 
 -- An octet below the leads of all rows, and one above them, is no lead.
 below-rows : (n : ℕ) (rows : List (List Range)) (x : ℕ) → Ascending n rows → x < n → after rows x ≡ none
@@ -56,23 +33,20 @@ above-rows m [] x u h = refl
 above-rows m ([] ∷ rows) x u h = above-rows m rows x u h
 above-rows m ((r ∷ rs) ∷ rows) x u h = rw (above-range r x (omega (arith, u .0))) (above-rows m rows x (u .1) h)
 
-row : (k x : ℕ) → Leads grammar k x → after grammar x ≡ some (restOf grammar k)
-row k x l = after-row 0 grammar k x grammar-ascending l .1
+-- ---- the octet after a lead
 
--- ---- the second octet
+-- Four leads narrow the range of the octet after them.
+next-tail : (c : ℕ) → ((c ≡ 0xe0 → ⊥) × (c ≡ 0xed → ⊥)) × ((c ≡ 0xf0 → ⊥) × (c ≡ 0xf4 → ⊥)) → next c ≡ tail
+unfolding next
+next-tail c n = rw (ne-eqb c 0xe0 (n .0 .0), ne-eqb c 0xed (n .0 .1), ne-eqb c 0xf0 (n .1 .0), ne-eqb c 0xf4 (n .1 .1))
 
--- Four leads narrow the range of the second octet.
-second-tail : (c : ℕ) → ((c ≡ 0xe0 → ⊥) × (c ≡ 0xed → ⊥)) × ((c ≡ 0xf0 → ⊥) × (c ≡ 0xf4 → ⊥)) → second c ≡ tail
-unfolding second
-second-tail c n = rw (ne-eqb c 0xe0 (n .0 .0), ne-eqb c 0xed (n .0 .1), ne-eqb c 0xf0 (n .1 .0), ne-eqb c 0xf4 (n .1 .1))
+pub next-low : (c : ℕ) → c < 0xe0 → next c ≡ tail
+next-low c h = next-tail c (omega arith)
 
-pub second-low : (c : ℕ) → c < 0xe0 → second c ≡ tail
-second-low c h = second-tail c (omega arith)
-
--- No octet but 80 to bf comes second.
-pub second-inside : (c : ℕ) → (0x80 ≤ second c .low) × (second c .high ≤ 0xbf)
-unfolding second
-second-inside c = (low (eqb c 0xe0) (eqb c 0xf0), high (eqb c 0xed) (eqb c 0xf4))
+-- No octet but 80 to bf comes after a lead.
+pub next-inside : (c : ℕ) → (0x80 ≤ next c .low) × (next c .high ≤ 0xbf)
+unfolding next
+next-inside c = (low (eqb c 0xe0) (eqb c 0xf0), high (eqb c 0xed) (eqb c 0xf4))
   where
     low : (t u : Bool) → 0x80 ≤ cond t 0xa0 (cond u 0x90 0x80)
     low true u = omega arith
@@ -106,25 +80,25 @@ wants-three x l = rw (le-ltb x 0xc0 (omega arith), le-ltb x 0xe0 (omega arith), 
 module _ (x : ℕ) where
   pub alone : x < 0x80 → after grammar x ≡ some []
   unfolding Leads restOf grammar
-  alone h = row 0 x (omega arith)
+  alone h = after-lead 0 x (omega arith)
 
   pub leads-one : 0xc2 ≤ x → x < 0xe0 → after grammar x ≡ some (pending 1 x)
   unfolding Leads restOf grammar pending replicate
-  leads-one l h = rw (second-low x h) (row 1 x (omega arith))
+  leads-one l h = rw (next-low x h) (after-lead 1 x (omega arith))
 
   pub leads-two : 0xe0 ≤ x → x < 0xf0 → after grammar x ≡ some (pending 2 x)
-  unfolding Leads restOf grammar pending replicate second after within
+  unfolding Leads restOf grammar pending replicate next after within
   leads-two l h =
       up-to x 0xe0 (λ k. let e : x ≡ 0xe0 = omega arith in rw e) λ k.
-      up-to x 0xec (λ m. rw (second-tail x (omega arith)) (row 3 x (omega arith))) λ m.
+      up-to x 0xec (λ m. rw (next-tail x (omega arith)) (after-lead 3 x (omega arith))) λ m.
       up-to x 0xed (λ n. let e : x ≡ 0xed = omega arith in rw e) λ n.
-      rw (second-tail x (omega arith)) (row 5 x (omega arith))
+      rw (next-tail x (omega arith)) (after-lead 5 x (omega arith))
 
   pub leads-three : 0xf0 ≤ x → x < 0xf5 → after grammar x ≡ some (pending 3 x)
-  unfolding Leads restOf grammar pending replicate second after within
+  unfolding Leads restOf grammar pending replicate next after within
   leads-three l h =
       up-to x 0xf0 (λ k. let e : x ≡ 0xf0 = omega arith in rw e) λ k.
-      up-to x 0xf3 (λ m. rw (second-tail x (omega arith)) (row 7 x (omega arith))) λ m.
+      up-to x 0xf3 (λ m. rw (next-tail x (omega arith)) (after-lead 7 x (omega arith))) λ m.
       let e : x ≡ 0xf4 = omega arith in rw e
 
   pub no-lead : 0x80 ≤ x → x < 0xc2 → after grammar x ≡ none

@@ -63,7 +63,7 @@ eight-plain s i p h o =
     (each-below 8 (λ (k : ℕ). getD s (i + k) 0 < 0x80)
     (d .1, (e .1, (f .1, (f .0, (a .1, (b .1, (c .1, (rw (add-zero i) (c .0), tt)))))))))
 
--- The octets before i are read, and those bits are set in one of them.
+-- `any` is the bitwise or of the octets from `from` to i, at most 64.
 pub record Read (s : List ℕ) (from any i : ℕ) : Type 0 where
   pub since : from ≤ i
   pub until : i ≤ from + 64

@@ -1,17 +1,16 @@
-// Testing octets for text, which is UTF-8: octets below 0x80, and characters of a lead octet and one to three more.
+// Tests whether octets are text: UTF-8 as RFC 3629 defines it.
 ghost use mathlib.Core.Path.{_≡_};
-ghost use mathlib.Core.Bool.{cond, false, not, _||_};
-ghost use mathlib.Core.List.{List, _∷_};
-ghost use Prim.Native.Nat.{ℕ, _+_, _-_, _<_, _≤_, max};
+ghost use mathlib.Core.Bool.{cond, not, _||_};
+ghost use Prim.Native.Nat.{_+_, _-_, _<_, _≤_, max};
 ghost use lib.Dec.{eqb, leb, ltb};
 ghost use lib.ListN.{length, drop, getD};
 ghost use Rattle.octets.specs.Utf8.{tail};
-ghost use Rattle.octets.specs.Text.{text as text-of, textAfter, within};
+ghost use Rattle.octets.specs.Text.{text as text-of, within};
 ghost use Rattle.octets_text.specs.internal.Plain.{Passed, anyOf};
-ghost use Rattle.octets_text.specs.internal.Pending.{toCome, second, pending};
+ghost use Rattle.octets_text.specs.internal.Pending.{toCome, next, pending, Judged};
 ghost use Rattle.octets_text.specs.internal.Character.{follow, characterSize};
 
-// Returns the bits that are set in any of the 64 octets from `from` on.
+// Returns the bitwise or of the 64 octets from `from` on.
 fn any_of_64(s: &[u8], from: usize) -> u8
     requires { ⌜ from + 64 ≤ length (now s) ⌝ }
     ensures { λ r. ⌜ r ≡ anyOf (now (s .entry)) from 64 ⌝ }
@@ -39,8 +38,8 @@ fn plain_blocks(s: &[u8]) -> usize
     i
 }
 
-// Returns a number of leading octets that are all below 0x80, tested 64 and then eight at a time. Most texts have no other octets, and many
-// are shorter than eight octets.
+// Returns a number of leading octets that are all below 0x80, tested 64 and then eight at a time. Texts shorter than eight octets are left to
+// the caller.
 fn plain_front(s: &[u8]) -> usize
     ensures { λ r. ⌜ Passed (now (s .entry)) r ⌝ }
 {
@@ -59,7 +58,7 @@ fn plain_front(s: &[u8]) -> usize
     i
 }
 
-// Returns the number of leading octets that are below 0x80.
+// Returns a number of leading octets that are all below 0x80, the last of them tested one at a time.
 fn plain_run(s: &[u8]) -> usize
     ensures { λ r. ⌜ Passed (now (s .entry)) r ⌝ }
 {
@@ -87,10 +86,10 @@ fn when(t: bool, v: u8) -> u8
 fn over(x: u8, y: u8) -> u8
     ensures { λ r. ⌜ r ≡ x - y ⌝ }
 {
-    if x <= y {
-        return 0;
+    if y < x {
+        return x - y;
     }
-    x - y
+    0
 }
 
 // Returns the larger of two octets.
@@ -103,16 +102,23 @@ fn larger(x: u8, y: u8) -> u8
     x
 }
 
-// Returns a number of which bit 7 is set exactly if a character is incomplete after the octets a, b and c, the last three so far: one of them
-// is a lead that takes octets past c.
-fn wanting(a: u8, b: u8, c: u8) -> u8
+// Returns whether x is a tail octet, 0x80 to 0xbf.
+fn is_tail(x: u8) -> bool
+    ensures { λ r. ⌜ r ≡ within tail x ⌝ }
+{
+    (0x80 <= x) & (x <= 0xbf)
+}
+
+// Bit 7 of the result is set exactly if a character is incomplete after the octets a, b and c, the last three so far: one of them is a lead that
+// takes octets past c.
+fn incomplete(a: u8, b: u8, c: u8) -> u8
     ensures { λ r. ⌜ leb 0x80 r ≡ ltb 0 (toCome a b c) ⌝ }
 {
     over(c, 0x40) | over(b, 0x60) | over(a, 0x70)
 }
 
-// Returns a number of which bit 7 says in which part of 0x80 to 0xbf an octet x is: from 0xa0 on after a lead from 0xe0 to 0xef, from 0x90 on
-// after a lead from 0xf0 on.
+// For c from 0xe0 on and x from 0x80 to 0xbf: bit 7 of the result is set exactly if x is in the upper part of these octets. That is from 0xa0 on, or
+// from 0x90 on if c is 0xf0 or more.
 fn upper_part(c: u8, x: u8) -> u8
     ensures { λ r. ⌜ (0x80 ≤ x → x ≤ 0xbf → 0xe0 ≤ c → leb 0x80 r ≡ cond (ltb c 0xf0) (leb 0xa0 x) (leb 0x90 x)) ⌝ }
 {
@@ -133,28 +139,26 @@ fn lower_only(c: u8) -> u8
     when((c == 0xed) | (c == 0xf4), 0xff)
 }
 
-// Returns a number of which bit 7 is set exactly if x, an octet from 0x80 to 0xbf, is not in the range of the octet after c. Returns 0 for c below
-// 0xe0, which leads no character of more than two octets.
+// For x from 0x80 to 0xbf: bit 7 of the result is set exactly if x is not in the range of the octet after c. Returns 0 if c is below 0xe0.
 fn wrong_second(c: u8, x: u8) -> u8
-    ensures { λ r. ⌜ (0x80 ≤ x → x ≤ 0xbf → leb 0x80 r ≡ not (within (second c) x)) ⌝ }
+    ensures { λ r. ⌜ (0x80 ≤ x → x ≤ 0xbf → leb 0x80 r ≡ not (within (next c) x)) ⌝ }
     ensures { λ r. ⌜ (c < 0xe0 → r ≡ 0) ⌝ }
 {
     let upper = upper_only(c);
     (upper_part(c, x) ^ upper) & (upper | lower_only(c))
 }
 
-// Returns a number of which bit 7 is set exactly if x is below 0xf5 and not allowed after the octets a, b and c. No octet from 0xf5 on is allowed. The
-// caller tests for these once, by the largest octet.
+// For x below 0xf5: bit 7 of the result is set exactly if x is not allowed after the octets a, b and c. Octets from 0xf5 on are never allowed. The
+// caller rejects them by the largest octet.
 fn wrong(a: u8, b: u8, c: u8, x: u8) -> u8
-    ensures { λ r. ⌜ ((s : List ℕ) → textAfter (pending (toCome a b c) c) (x ∷ s) ≡ cond (leb 0x80 r || leb 0xf5 x) false (textAfter (pending (toCome b c x) x) s)) ⌝ }
+    ensures { λ r. ⌜ Judged (leb 0x80 r || leb 0xf5 x) a b c x ⌝ }
 {
-    let follows = (0x80 <= x) & (x <= 0xbf);
     let overlong = (x == 0xc0) | (x == 0xc1);
-    (wanting(a, b, c) ^ when(follows, 0xff)) | when(overlong, 0xff) | wrong_second(c, x)
+    (incomplete(a, b, c) ^ when(is_tail(x), 0xff)) | when(overlong, 0xff) | wrong_second(c, x)
 }
 
-// Returns whether octets are text, given that those before `from` are whole characters. Each octet is tested against the three before it only,
-// and the loop has no early exit, so that the compiler can vectorize it.
+// Returns whether octets are text, where this depends only on the octets from `from` on. Each octet is tested against the three before it, and the
+// loop has no early exit, so that the compiler can vectorize it.
 fn long_text(s: &[u8], from: usize) -> bool
     requires { ⌜ Passed (now s) from ⌝ }
     requires { ⌜ from + 3 ≤ length (now s) ⌝ }
@@ -172,19 +176,12 @@ fn long_text(s: &[u8], from: usize) -> bool
         largest = larger(largest, d);
         i += 1;
     }
-    !((0x80 <= bad) | (0xf5 <= largest) | (0x80 <= wanting(s[i - 3], s[i - 2], s[i - 1])))
-}
-
-// Returns whether x is in the range of every octet of a character but the first and the second.
-fn is_tail(x: u8) -> bool
-    ensures { λ r. ⌜ r ≡ within tail x ⌝ }
-{
-    (0x80 <= x) & (x <= 0xbf)
+    !((0x80 <= bad) | (0xf5 <= largest) | (0x80 <= incomplete(s[i - 3], s[i - 2], s[i - 1])))
 }
 
 // Returns the least octet that may follow the lead c.
 fn least_second(c: u8) -> u8
-    ensures { λ r. ⌜ r ≡ second c .low ⌝ }
+    ensures { λ r. ⌜ r ≡ next c .low ⌝ }
 {
     if c == 0xe0 {
         return 0xa0;
@@ -197,7 +194,7 @@ fn least_second(c: u8) -> u8
 
 // Returns the greatest octet that may follow the lead c.
 fn greatest_second(c: u8) -> u8
-    ensures { λ r. ⌜ r ≡ second c .high ⌝ }
+    ensures { λ r. ⌜ r ≡ next c .high ⌝ }
 {
     if c == 0xed {
         return 0x9f;
@@ -210,12 +207,12 @@ fn greatest_second(c: u8) -> u8
 
 // Returns whether x may follow the lead c.
 fn is_second(c: u8, x: u8) -> bool
-    ensures { λ r. ⌜ r ≡ within (second c) x ⌝ }
+    ensures { λ r. ⌜ r ≡ within (next c) x ⌝ }
 {
     (least_second(c) <= x) & (x <= greatest_second(c))
 }
 
-// Returns whether one octet may follow the lead at i and is there.
+// Returns whether an octet stands after the lead at i and is in the range that the lead allows.
 fn one_follows(s: &[u8], i: usize) -> bool
     requires { ⌜ i < length (now s) ⌝ }
     ensures { λ r. ⌜ r ≡ follow (pending 1 (getD (now (s .entry)) i 0)) (drop (i + 1) (now (s .entry))) ⌝ }
@@ -226,7 +223,7 @@ fn one_follows(s: &[u8], i: usize) -> bool
     is_second(s[i], s[i + 1])
 }
 
-// The same for two octets.
+// Returns whether two octets stand after the lead at i, each in its range.
 fn two_follow(s: &[u8], i: usize) -> bool
     requires { ⌜ i < length (now s) ⌝ }
     ensures { λ r. ⌜ r ≡ follow (pending 2 (getD (now (s .entry)) i 0)) (drop (i + 1) (now (s .entry))) ⌝ }
@@ -237,7 +234,7 @@ fn two_follow(s: &[u8], i: usize) -> bool
     is_second(s[i], s[i + 1]) & is_tail(s[i + 2])
 }
 
-// The same for three octets.
+// Returns whether three octets stand after the lead at i, each in its range.
 fn three_follow(s: &[u8], i: usize) -> bool
     requires { ⌜ i < length (now s) ⌝ }
     ensures { λ r. ⌜ r ≡ follow (pending 3 (getD (now (s .entry)) i 0)) (drop (i + 1) (now (s .entry))) ⌝ }
@@ -281,7 +278,8 @@ fn character(s: &[u8], i: usize) -> usize
     0
 }
 
-// The same as `long_text`, character by character, which is faster when few octets remain.
+// Returns whether octets are text, where this depends only on the octets from `from` on. It goes character by character, which is faster than
+// `long_text` when few octets remain.
 fn short_text(s: &[u8], from: usize) -> bool
     requires { ⌜ Passed (now s) from ⌝ }
     ensures { λ r. ⌜ r ≡ text-of (now (s .entry)) ⌝ }
@@ -297,7 +295,7 @@ fn short_text(s: &[u8], from: usize) -> bool
     true
 }
 
-// Returns whether octets are text. If all octets are below 0x80, the first run reads them all.
+// Returns whether octets are text. If all octets are below 0x80, `plain_run` passes them all.
 pub fn text(s: &[u8]) -> bool
     ensures { λ r. ⌜ r ≡ text-of (now (s .entry)) ⌝ }
 {

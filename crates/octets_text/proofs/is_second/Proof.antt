@@ -1,6 +1,5 @@
 -- `octets_text::is_second` meets its contract.
 use borrow.Author.Needs.{needs}
-use mathlib.Core.Path.{refl}
 use Rattle.octets.specs.Text.{within}
 use Rattle.octets_text.proofs.is_second.Statement.{statement}
 use Rattle.octets_text.proofs.is_second.Tie as tie

@@ -94,32 +94,32 @@ loop-again c =
     (next-seen (k .before .before .before .before .before .before .before .before .before .before .args .s .now) (k .loop .bad) (k .loop .largest) (k .loop .i) (c .before .wrong4 .result) (k .loop .inv)
     (c .before .before .before .before .before .before .loop-test .taken) (c .before .wrong4 .ensures))
 
-sub-wanting : tie.Need-sub-wanting Inv-loop μ-loop
-sub-wanting c = search needs
+sub-incomplete : tie.Need-sub-incomplete Inv-loop μ-loop
+sub-incomplete c = search needs
 
-shared-slice-read-wanting : tie.Need-shared-slice-read-wanting Inv-loop μ-loop
-shared-slice-read-wanting c = search needs
+shared-slice-read-incomplete : tie.Need-shared-slice-read-incomplete Inv-loop μ-loop
+shared-slice-read-incomplete c = search needs
 
-sub-wanting-2 : tie.Need-sub-wanting-2 Inv-loop μ-loop
-sub-wanting-2 c = search needs
+sub-incomplete-2 : tie.Need-sub-incomplete-2 Inv-loop μ-loop
+sub-incomplete-2 c = search needs
 
-shared-slice-read-wanting-2 : tie.Need-shared-slice-read-wanting-2 Inv-loop μ-loop
-shared-slice-read-wanting-2 c = search needs
+shared-slice-read-incomplete-2 : tie.Need-shared-slice-read-incomplete-2 Inv-loop μ-loop
+shared-slice-read-incomplete-2 c = search needs
 
-sub-wanting-3 : tie.Need-sub-wanting-3 Inv-loop μ-loop
-sub-wanting-3 c = search needs
+sub-incomplete-3 : tie.Need-sub-incomplete-3 Inv-loop μ-loop
+sub-incomplete-3 c = search needs
 
-shared-slice-read-wanting-3 : tie.Need-shared-slice-read-wanting-3 Inv-loop μ-loop
-shared-slice-read-wanting-3 c = search needs
+shared-slice-read-incomplete-3 : tie.Need-shared-slice-read-incomplete-3 Inv-loop μ-loop
+shared-slice-read-incomplete-3 c = search needs
 
-wanting-requires : tie.Need-wanting-requires Inv-loop μ-loop
-wanting-requires c κs = search needs
+incomplete-requires : tie.Need-incomplete-requires Inv-loop μ-loop
+incomplete-requires c κs = search needs
 
 returns : tie.Need-returns Inv-loop μ-loop
 returns c =
     let k = c .before .before .before .before .before in
-    all-seen (k .before .before .before .before .before .before .before .before .before .before .args .s .now) (k .loop .bad) (k .loop .largest) (k .loop .i) (leb 0x80 (c .wanting .result)) (k .loop .inv) (c .before .before .before .before .loop-test .left)
-    (c .wanting .ensures)
+    all-seen (k .before .before .before .before .before .before .before .before .before .before .args .s .now) (k .loop .bad) (k .loop .largest) (k .loop .i) (leb 0x80 (c .incomplete .result)) (k .loop .inv)
+    (c .before .before .before .before .loop-test .left) (c .incomplete .ensures)
 
 pub long-text-spec : {M : Type 1} → statement M
 long-text-spec =
@@ -151,11 +151,11 @@ long-text-spec =
     add-i-2
     loop-less
     loop-again
-    sub-wanting
-    shared-slice-read-wanting
-    sub-wanting-2
-    shared-slice-read-wanting-2
-    sub-wanting-3
-    shared-slice-read-wanting-3
-    wanting-requires
+    sub-incomplete
+    shared-slice-read-incomplete
+    sub-incomplete-2
+    shared-slice-read-incomplete-2
+    sub-incomplete-3
+    shared-slice-read-incomplete-3
+    incomplete-requires
     returns)

@@ -7,18 +7,18 @@ use lib.ListN.{length}
 use Rattle.octets.specs.Utf8.{Range, grammar}
 use Rattle.octets.specs.Text.{within, after}
 
--- Whether octets in these ranges stand at the front.
+-- Whether the first octets are in these ranges, one in each.
 unfoldable pub follow : List Range → List ℕ → Bool
 follow [] s = true
 follow (r ∷ rs) [] = false
 follow (r ∷ rs) (x ∷ s) = within r x && follow rs s
 
--- How many octets a character has, by the octets after its lead and by their ranges, if it is a lead; 0 where they do not stand there.
+-- The size of a character, by the octets after its first octet and their ranges (`none`: it is no lead). 0 if one is missing or out of range.
 unfoldable pub sizeWith : List ℕ → Option (List Range) → ℕ
 sizeWith s none = 0
 sizeWith s (some rs) = cond (follow rs s) (suc (length rs)) 0
 
--- How many octets the character at the front has; 0 where none stands there.
+-- The size of the character at the front, 0 if there is none.
 unfoldable pub characterSize : List ℕ → ℕ
 characterSize [] = 0
 characterSize (x ∷ s) = sizeWith s (after grammar x)
