@@ -91,8 +91,8 @@ uint64_t crudvim_frame_write(const uint8_t *message, size_t message_len, uint8_t
                              uint64_t *length);
 
 /* Finds the k-th, from 0, of the outermost fields with a tag, after the whole message is checked. *kind is 0 raw, 1 uint, 2 int,
- * 3 string, 4 text, 5 message; *value is the number of a uint and *signed_value that of an int, each 0 for any other kind; the
- * contents, whatever the kind, stand at *start and have *length octets. Refusals: the check's, then 18 at 0. */
+ * 3 string, 4 text (UTF-8 as in RFC 3629), 5 message; *value is the number of a uint and *signed_value that of an int, each 0 for
+ * any other kind; the contents, whatever the kind, stand at *start and have *length octets. Refusals: the check's, then 18 at 0. */
 uint64_t crudvim_lookup(const uint8_t *table, size_t table_len, uint64_t number, const uint8_t *message, size_t message_len,
                         uint64_t tag, uint64_t k, uint64_t *place, uint64_t *kind, uint64_t *value, int64_t *signed_value,
                         uint64_t *start, uint64_t *length);

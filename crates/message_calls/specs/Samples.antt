@@ -58,7 +58,7 @@ samples =
     refuses messages (0x12 ∷ 0x00 ∷ 0xf1 ∷ []) 3 2 ∷
     -- `reading`: 7, the text in the inner message is looked at before the next outer field, whose contents are missing.
     refuses threeKinds (0x12 ∷ 0x31 ∷ 0xff ∷ 0x29 ∷ []) 7 1 ∷
-    -- `grammar`: 7, an overlong text, a surrogate, a value above 10ffff. That value itself is good, and so is a text of no octets.
+    -- `grammar`: 7, an overlong text, a surrogate, a value above 10ffff. 10ffff itself is good, and so is a text of no octets.
     refuses threeKinds (0x32 ∷ 0xc0 ∷ 0x80 ∷ []) 7 0 ∷
     refuses threeKinds (0x20 ∷ 0x33 ∷ 0xed ∷ 0xa0 ∷ 0x80 ∷ []) 7 1 ∷
     refuses threeKinds (0x34 ∷ 0xf4 ∷ 0x90 ∷ 0x80 ∷ 0x80 ∷ []) 7 0 ∷

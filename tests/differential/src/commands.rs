@@ -15,17 +15,12 @@ const THREADS: u64 = 3;
 const THREAD_CASES: u64 = 10_000;
 
 pub fn quick() -> ExitCode {
-    let started = Instant::now();
     let show = announced_show();
     let fixed = generate::fixed_cases();
-    let texts = generate::short_texts::count();
-    println!("seed {QUICK_SEED}: {fixed} fixed and {QUICK_RANDOM_CASES} random cases, and {texts} short texts");
+    println!("seed {QUICK_SEED}: {fixed} fixed and {QUICK_RANDOM_CASES} random cases");
     trouble::watch(QUICK_SEED);
     let mut tally = Tally::default();
-    let result = range(QUICK_SEED, 0..fixed + QUICK_RANDOM_CASES, show.as_deref(), &mut tally)
-        .and_then(|()| texts::all(QUICK_SEED, &mut tally))
-        .and_then(|()| threads());
-    tally.print();
+    let result = quick_cases(fixed, show.as_deref(), &mut tally);
     if let Err(report) = result {
         return failed(&report);
     }
@@ -33,9 +28,22 @@ pub fn quick() -> ExitCode {
     if !holes.is_empty() {
         return failed(&format!("not reached: {}", holes.join(", ")));
     }
-    println!("{} calls as the oracle says, {} s", tally.calls(), started.elapsed().as_secs());
     println!("and {THREADS} threads at the same time, {THREAD_CASES} cases each");
     ExitCode::SUCCESS
+}
+
+/// The fixed and random cases, the short texts, and the threads.
+fn quick_cases(fixed: u64, show: Option<&str>, tally: &mut Tally) -> Result<(), String> {
+    let started = Instant::now();
+    let result = range(QUICK_SEED, 0..fixed + QUICK_RANDOM_CASES, show, tally);
+    tally.print();
+    result?;
+    println!("{} calls as the oracle says, {} s", tally.calls(), started.elapsed().as_secs());
+    let started = Instant::now();
+    let counts = texts::all(QUICK_SEED)?;
+    let seconds = started.elapsed().as_secs();
+    println!("{} short texts accepted and {} refused, as the oracle says, {seconds} s", counts.accepted, counts.refused);
+    threads()
 }
 
 pub fn long(seconds: &str, seed: Option<&str>) -> ExitCode {

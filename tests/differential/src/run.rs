@@ -40,14 +40,6 @@ impl Tally {
         }
     }
 
-    /// Counts a call of the check, which is the first entry.
-    pub fn note_check(&mut self, refusal: u64, depth: u64) {
-        self.numbers[0][refusal as usize] += 1;
-        if refusal == 0 {
-            self.paths[0][depth as usize] += 1;
-        }
-    }
-
     pub fn print(&self) {
         for (entry, name) in ENTRIES.iter().enumerate() {
             let counts = &self.numbers[entry];

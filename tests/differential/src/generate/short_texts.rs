@@ -30,7 +30,8 @@ const fn all() -> [u8; 256] {
 }
 
 /// Every piece of so many octets, each from `choices`, with the same octets before and after it. The message is a field of no
-/// contents, the text, and another field of no contents, whose one octet is 80 and could go on with a character.
+/// contents, the text, and another field of no contents. The one octet of that field is 80: a read past the text would take it for
+/// a tail octet.
 pub struct Family {
     choices: &'static [u8],
     size: usize,

@@ -221,7 +221,7 @@ fn character(rest: &[u8]) -> Option<usize> {
     good.then_some(size)
 }
 
-/// The least octets whose payload bits, 7, 11, 16 or 21, hold a value.
+/// How many octets a value needs: their payload has 7, 11, 16 or 21 bits.
 fn least_size(value: u32) -> usize {
     match value {
         0..=0x7f => 1,
