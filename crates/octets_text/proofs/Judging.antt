@@ -252,20 +252,30 @@ unfolding toCome
 none-to-come a b c e =
     up-to c 0xdf (λ h. omega arith) (λ h. let w = ltb-true 1 (wants c) (wanted c .two-wanted ∙ lt-ltb 0xdf c h) in absurd (omega arith))
 
+other-order : (t u v : Bool) → ((v || u) || t) ≡ ((t || u) || v)
+other-order true true true = refl
+other-order true true false = refl
+other-order true false true = refl
+other-order true false false = refl
+other-order false true true = refl
+other-order false true false = refl
+other-order false false true = refl
+other-order false false false = refl
+
 pub wrong-is : (a b c x w o : ℕ) → w < 256 → leb 0x80 w ≡ ltb 0 (toCome a b c)
     → (0x80 ≤ x → x ≤ 0xbf → leb 0x80 o ≡ not (within (next c) x)) → (c < 0xe0 → o ≡ 0)
     → Judged
-    (leb 0x80 (bitOr (bitOr (bitXor w (cond (within tail x) 0xff 0)) (cond (eqb x 0xc0 || eqb x 0xc1) 0xff 0)) o) || leb 0xf5 x) a b c x
+    (leb 0x80 (bitOr (bitOr o (cond (eqb x 0xc0 || eqb x 0xc1) 0xff 0)) (bitXor w (cond (within tail x) 0xff 0))) || leb 0xf5 x) a b c x
 unfolding within
 wrong-is a b c x w o fits e inner low s =
     let follows = leb 0x80 x && leb x 0xbf in
     let overlong = eqb x 0xc0 || eqb x 0xc1 in
-    let flag : ℕ = bitXor w (cond follows 0xff 0) in
     rw (
-      or-high (bitOr flag (cond overlong 0xff 0)) o,
-      or-high flag (cond overlong 0xff 0),
+      or-high (bitOr o (cond overlong 0xff 0)) (bitXor w (cond follows 0xff 0)),
+      or-high o (cond overlong 0xff 0),
       xor-high w follows fits,
       flag-high overlong,
+      other-order (not (Bool·beq (leb 0x80 w) follows)) overlong (leb 0x80 o),
       e,
       next-to-come a b c x,
     )

@@ -153,9 +153,8 @@ fn wrong_second(c: u8, x: u8) -> u8
 fn wrong(a: u8, b: u8, c: u8, x: u8) -> u8
     ensures { λ r. ⌜ Judged (leb 0x80 r || leb 0xf5 x) a b c x ⌝ }
 {
-    let follows = is_tail(x);
     let overlong = (x == 0xc0) | (x == 0xc1);
-    (incomplete(a, b, c) ^ when(follows, 0xff)) | when(overlong, 0xff) | wrong_second(c, x)
+    wrong_second(c, x) | when(overlong, 0xff) | (incomplete(a, b, c) ^ when(is_tail(x), 0xff))
 }
 
 // Returns whether octets are text, where this depends only on the octets from `from` on. Each octet is tested against the three before it, and the
