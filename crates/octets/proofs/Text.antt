@@ -102,12 +102,12 @@ row-at (row ∷ rows) x g (inr f) =
     let k = row-at rows x g f in
     record { index = suc (k .index); leads = k .leads; fits = k .fits }
 
-no-lead : (n : ℕ) (rows : List (List Range)) → Ascending n rows → FitsOne rows [] → ⊥
+never-empty : (n : ℕ) (rows : List (List Range)) → Ascending n rows → FitsOne rows [] → ⊥
 unfolding Ascending FitsOne Fits
-no-lead n [] a f = f
-no-lead n ([] ∷ rows) a f = a
-no-lead n ((r ∷ rs) ∷ rows) a (inl f) = f
-no-lead n ((r ∷ rs) ∷ rows) a (inr f) = no-lead (suc (r .high)) rows (a .1) f
+never-empty n [] a f = f
+never-empty n ([] ∷ rows) a f = a
+never-empty n ((r ∷ rs) ∷ rows) a (inl f) = f
+never-empty n ((r ∷ rs) ∷ rows) a (inr f) = never-empty (suc (r .high)) rows (a .1) f
 
 row-of : (rows : List (List Range)) (x : ℕ) (rs : List Range) (g : List ℕ) → after rows x ≡ some rs → Fits rs g → FitsOne rows (x ∷ g)
 unfolding FitsOne Fits after
@@ -138,7 +138,7 @@ rest-passed (r ∷ rs) [] s f = absurd f
 rest-passed (r ∷ rs) (x ∷ g) s f = rw (in-range r x (f .0 .0) (f .0 .1)) (rest-passed rs g s (f .1))
 
 character-passed : (g s : List ℕ) → FitsOne grammar g → textAfter [] (g ++ s) ≡ textAfter [] s
-character-passed [] s f = absurd (no-lead 0 grammar grammar-ascending f)
+character-passed [] s f = absurd (never-empty 0 grammar grammar-ascending f)
 character-passed (x ∷ g) s f =
     let r = row-at grammar x g f in
     let rs = restOf grammar (r .index) in
