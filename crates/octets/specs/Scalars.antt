@@ -10,6 +10,7 @@ use lib.Dec.{leb}
 unfoldable pub Scalar : ℕ → Type 0
 Scalar v = (v ≤ 0xd7ff) ⊎ ((0xe000 ≤ v) × (v ≤ 0x10ffff))
 
+-- A list of scalar values.
 unfoldable pub Scalars : List ℕ → Type 0
 Scalars [] = Unit {0}
 Scalars (v ∷ vs) = Scalar v × Scalars vs

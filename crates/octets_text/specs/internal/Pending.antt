@@ -27,7 +27,7 @@ unfoldable pub pending : ℕ → ℕ → List Range
 pending zero c = []
 pending (suc n) c = next c ∷ replicate n tail
 
--- What a test says of x after the octets a, b and c: where it is `wrong`, no text goes on with x.
+-- What a test says of x after the octets a, b and c: if x is `wrong`, no text goes on with it; otherwise the octets after x decide.
 abbrev pub Judged : Bool → ℕ → ℕ → ℕ → ℕ → Type 0
 Judged wrong a b c x =
     (s : List ℕ) → textAfter (pending (toCome a b c) c) (x ∷ s) ≡ cond wrong false (textAfter (pending (toCome b c x) x) s)

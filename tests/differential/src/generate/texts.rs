@@ -1,5 +1,6 @@
 //! Texts, good and bad, made character by character.
 
+use crate::oracle::message::least_size;
 use crate::rng::Rng;
 
 /// Values at the limits of the sizes, of the surrogates and of all.
@@ -26,13 +27,7 @@ fn character(rng: &mut Rng) -> Vec<u8> {
 }
 
 fn least(value: usize) -> Vec<u8> {
-    let size = match value {
-        0..=0x7f => 1,
-        0x80..=0x7ff => 2,
-        0x800..=0xffff => 3,
-        _ => 4,
-    };
-    encoded(value, size)
+    encoded(value, least_size(value as u32))
 }
 
 /// A value in just so many octets, good or not.

@@ -222,7 +222,7 @@ fn character(rest: &[u8]) -> Option<usize> {
 }
 
 /// How many octets a value needs: their payload has 7, 11, 16 or 21 bits.
-fn least_size(value: u32) -> usize {
+pub fn least_size(value: u32) -> usize {
     match value {
         0..=0x7f => 1,
         0x80..=0x7ff => 2,
