@@ -76,7 +76,7 @@ fn size(x: u8, s: &[u8]) -> u64
     if x < 0xfc {
         return x as u64;
     }
-    octets_read::uint(s)
+    octets_read::uint(s).value
 }
 
 // Returns where the message of the frame at the front of a buffer starts and ends. A size of eight octets can be so large that adding a

@@ -48,7 +48,7 @@ unfoldable pub Rising : ℕ → List ℕ → Type 0
 Rising w [] = Unit {0}
 Rising w (u ∷ us) = (w < u) × Rising u us
 
-rising-below : (w : ℕ) (ws : List ℕ) (i : ℕ) → Rising w ws → i < length ws → w < getD ws i 0
+pub rising-below : (w : ℕ) (ws : List ℕ) (i : ℕ) → Rising w ws → i < length ws → w < getD ws i 0
 unfolding Rising
 rising-below w [] i r h = absurd (omega arith)
 rising-below w (u ∷ us) zero r h = r .0

@@ -40,6 +40,10 @@ control-of-front x a b r h p q =
     let k : length a + length b ≤ length (a ++ (b ++ r)) = simp length-append (omega arith) in
     rw (lt-ltb x 256 h, ← p, ← q, le-ltb (length (a ++ (b ++ r))) (length a + length b) k, take-at a (b ++ r) (length a) refl, drop-at a (b ++ r) (length a) refl, take-at b r (length b) refl)
 
+pub control-some : (x : ℕ) (s : List ℕ) → x < 256 → controlOf (x / 16) (x % 16) s ≡ control (x ∷ s)
+unfolding control
+control-some x s l = rw (lt-ltb x 256 l)
+
 -- How many octets of the tag and of the length follow a first octet, and what is read where they are all there.
 abbrev pub tag-width : ℕ → ℕ
 tag-width x = following tagCode (x / 16)
@@ -164,11 +168,11 @@ control-exactly c tag len = (
   λ p. ap control (sym (append-nil c)) ∙ part-read tag len c p [],
 )
 
-tag-rising : Rising 0 (tagCode .widths)
+pub tag-rising : Rising 0 (tagCode .widths)
 unfolding Rising
 tag-rising = (omega arith, (omega arith, tt))
 
-length-rising : Rising 0 (lengthCode .widths)
+pub length-rising : Rising 0 (lengthCode .widths)
 unfolding Rising
 length-rising = (omega arith, (omega arith, (omega arith, (omega arith, tt))))
 

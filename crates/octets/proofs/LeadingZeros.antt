@@ -57,7 +57,7 @@ signed-zigzag (pos v) = refl
 signed-zigzag (negsuc k) = refl
 
 -- A signed number of 64 bits stays below 2 ^ 64.
-zigzag-fits : (z : ℤ) → mag z < 2 ^ 63 → zigzag z < 2 ^ 64
+pub zigzag-fits : (z : ℤ) → mag z < 2 ^ 63 → zigzag z < 2 ^ 64
 unfolding zigzag
 zigzag-fits (pos v) h = omega arith
 zigzag-fits (negsuc k) h = omega arith

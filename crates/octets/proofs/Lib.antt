@@ -1,3 +1,4 @@
+pub mod Bools
 pub mod Slices
 pub mod Number
 pub mod Shorter
@@ -9,3 +10,5 @@ pub mod Text
 pub mod Scalars
 pub mod TextSamples
 pub mod CutControl
+pub mod Same
+pub mod Short

@@ -1,6 +1,6 @@
 -- Laws of big-endian numbers and their least octets.
 use Prim.Native.Nat.{ℕ, zero, suc, _+_, _*_, _/_, _%_, _^_, _≤_, _<_}
-use native.Mathlib.Nat.{pow-le-pow-right, pow-suc, mul-comm, suc-inj, mod-eq-of-lt, lt-of-lt-of-le}
+use native.Mathlib.Nat.{pow-le-pow-right, pow-suc, mul-comm, suc-inj, mod-eq-of-lt, lt-of-lt-of-le, lt-of-le-of-lt}
 use native.Mathlib.Omega.{arith}
 use mathlib.Core.Path.{_≡_, refl, sym, ap, ap₂, _∙_}
 use mathlib.Core.Bool.{Bool, true, false, cond}
@@ -51,10 +51,11 @@ octets-of-slice [] h = tt
 octets-of-slice (x ∷ s) h = (h 0, octets-of-slice s (λ i. h (suc i)))
 
 -- A part of octets that starts anywhere has octets.
+pub octets-from : (i : ℕ) (s : List ℕ) → Octets s → Octets (drop i s)
+octets-from i s o = octets-after (take i s) (drop i s) (rw (take-append-drop i s) o)
+
 pub octets-part : (n i : ℕ) (s : List ℕ) → Octets s → Octets (take n (drop i s))
-octets-part n i s o =
-    let later = octets-after (take i s) (drop i s) (rw (take-append-drop i s) o) in
-    octets-before (take n (drop i s)) (drop n (drop i s)) (rw (take-append-drop n (drop i s)) later)
+octets-part n i s o = octets-before (take n (drop i s)) (drop n (drop i s)) (rw (take-append-drop n (drop i s)) (octets-from i s o))
 
 pub number-append : (s t : List ℕ) → bigEndian (s ++ t) ≡ bigEndian s * 256 ^ length t + bigEndian t
 unfolding bigEndian
@@ -163,6 +164,10 @@ width-least v n h = widthWithin-least 8 v n h
 pub width-bound : (v : ℕ) → width v ≤ 8
 unfolding width
 width-bound v = widthWithin-bound 8 v
+
+-- A number of 64 bits that n octets do not hold needs more.
+pub width-above : (v n : ℕ) → v < 256 ^ 8 → 256 ^ n ≤ v → n < width v
+width-above v n fits h = power-above n (width v) (lt-of-le-of-lt h (width-holds v fits))
 
 -- The least octets of a uint hold it.
 pub number-leastUint : (v : ℕ) → v < 256 ^ 8 → bigEndian (leastUint v) ≡ v

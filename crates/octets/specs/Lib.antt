@@ -9,4 +9,5 @@ pub mod Control
 pub mod CutControl
 pub mod internal
 pub mod NoShorter
+pub mod Short
 pub mod LeastLength

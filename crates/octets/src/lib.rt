@@ -9,6 +9,24 @@ pub enum Control {
     Whole { tag: u64, length: u64, size: u64 },
 }
 
+// A control part as it was read, and whether its octets are the shortest form of its tag and length.
+pub struct ReadControl {
+    pub control: Control,
+    pub shortest: bool,
+}
+
+// An unsigned number as it was read, and whether its octets are its shortest form.
+pub struct ReadUint {
+    pub value: u64,
+    pub shortest: bool,
+}
+
+// A signed number as it was read, and whether its octets are its shortest form.
+pub struct ReadInt {
+    pub value: i64,
+    pub shortest: bool,
+}
+
 // The least octets of a number: how many, and their value when read as an unsigned number.
 pub struct Least {
     pub width: u64,

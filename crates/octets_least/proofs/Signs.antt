@@ -1,6 +1,5 @@
 -- Laws for the least octets of a signed number.
 use Prim.Native.Nat.{ℕ, suc, _+_, _*_, _-_, _%_, _^_, _≤_, _<_}
-use native.Mathlib.Nat.{lt-of-le-of-lt}
 use native.Mathlib.Numerals.{add-one}
 use native.Mathlib.Omega.{arith}
 use mathlib.Core.Path.{_≡_, _∙_}
@@ -10,10 +9,6 @@ use Rattle.octets.specs.Number.{width}
 use Rattle.octets.specs.Signed.{lowest, signedWidth, signedBits}
 use Rattle.octets.specs.internal.Least.{intWidthBits}
 use Rattle.octets.specs.declared.Least.{Least}
-use Rattle.octets.proofs.Number.{power-above, width-holds}
-
-pub width-some : (v : ℕ) → 0 < v → v < 2 ^ 64 → 0 < width v
-width-some v h fits = power-above 0 (width v) (lt-of-le-of-lt h (width-holds v fits))
 
 -- The sign bit and what the mask leaves fit.
 pub masked-fits : (k low : ℕ) → 0 < low → low ≤ 2 ^ 63 → low + bitAnd (k + 1) (low - 1) < 2 ^ 64

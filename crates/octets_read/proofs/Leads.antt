@@ -1,9 +1,9 @@
 -- Laws for reading a control part.
-use Prim.Native.Nat.{ℕ, suc, _+_, _-_, _/_, _%_, _≤_, _<_}
+use Prim.Native.Nat.{ℕ, suc, _+_, _-_, _/_, _≤_, _<_}
 use native.Mathlib.Nat.{add-assoc}
 use native.Mathlib.Omega.{arith}
-use mathlib.Core.Path.{_≡_, sym, ap, _∙_}
-use mathlib.Core.List.{List, [], _∷_}
+use mathlib.Core.Path.{_≡_, refl, sym, ap, _∙_}
+use mathlib.Core.List.{List, _∷_}
 use lib.Bits.{bitAnd, and-mask, mask-lt}
 use lib.ListN.{length, getD, take, drop}
 use lib.Seq.{drop-cons}
@@ -12,6 +12,7 @@ use Rattle.octets.specs.ControlPart.{Code, tagCode, lengthCode}
 use Rattle.octets.specs.Control.{following, coded, controlOf, control}
 use Rattle.octets.specs.declared.Control.the-variants.{Absent, Partial, Whole}
 use Rattle.octets.proofs.Slices.{length-zero, tail-part}
+use Rattle.octets.proofs.ControlPart.{control-some}
 
 -- No octets follow a lead that is the number itself.
 pub direct : (code : Code) (t : ℕ) → t < code .direct → 0 ≡ following code t
@@ -25,21 +26,20 @@ pub control-none : (s : List ℕ) → length s ≡ 0 → Absent ≡ control s
 unfolding control
 control-none s h = sym (ap control (length-zero s h))
 
-control-some : (x : ℕ) (s : List ℕ) → x < 256 → controlOf (x / 16) (x % 16) s ≡ control (x ∷ s)
-unfolding control
-control-some x s l = rw (lt-ltb x 256 l)
+-- A control part is read from its first octet, whose nybbles are taken by shift and mask, and the octets after it.
+pub read-octet : (x t l : ℕ) (s : List ℕ) → x < 256 → t ≡ x / 16 → l ≡ bitAnd x 15 → controlOf t l s ≡ control (x ∷ s)
+read-octet x t l s h p q = rw (p, q ∙ and-mask x 4) (control-some x s h)
 
--- The two nybbles of the octet at an offset by shift and mask, and the octets after it.
+-- The octet at an offset and the octets after it are the octets from there on.
+pub octets-at : (s : List ℕ) (i : ℕ) → i < length s → getD s i 0 ∷ take (length s - (i + 1)) (drop (i + 1) s) ≡ drop i s
+octets-at s i h =
+    let k : i + 1 ≡ suc i = omega arith in
+    rw (tail-part s (i + 1), drop-cons s i 0 h, k) refl
+
 pub control-from : (s : List ℕ) (i t l : ℕ) → i < length s → t < 16 → t ≡ getD s i 0 / 16 → l ≡ bitAnd (getD s i 0) 15
     → controlOf t l (take (length s - (i + 1)) (drop (i + 1) s)) ≡ control (drop i s)
 control-from s i t l h b p q =
-    let k : i + 1 ≡ suc i = omega arith in
-    rw (p, q ∙ and-mask (getD s i 0) 4, tail-part s (i + 1), drop-cons s i 0 h, k) (control-some (getD s i 0) (drop (suc i) s) (omega arith))
-
--- The same at the front.
-pub control-split : (s : List ℕ) (t l : ℕ) → 0 < length s → t < 16 → t ≡ getD s 0 0 / 16 → l ≡ bitAnd (getD s 0 0) 15
-    → controlOf t l (take (length s - 1) (drop 1 s)) ≡ control s
-control-split s = control-from s 0
+    read-octet (getD s i 0) t l (take (length s - (i + 1)) (drop (i + 1) s)) (omega arith) p q ∙ ap control (octets-at s i h)
 
 pub nybbles : (x t l : ℕ) → x < 256 → t ≡ x / 16 → l ≡ bitAnd x 15 → (t < 16) × (l < 16)
 nybbles x t l h p q = let m = mask-lt x 4 in (omega arith, omega arith)

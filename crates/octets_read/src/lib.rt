@@ -1,13 +1,21 @@
 // Reading octets: numbers, signed numbers and control parts. Each public function accepts every slice and returns what a definition of
-// crate octets says.
+// crate octets says, and whether the octets are the shortest form of it.
 use octets::Control;
+use octets::ReadControl;
+use octets::ReadInt;
+use octets::ReadUint;
 ghost use mathlib.Core.Path.{_≡_};
+ghost use mathlib.Core.List.{_∷_};
 ghost use Prim.Native.Nat.{_+_, _<_, _≤_, _^_};
+ghost use lib.Dec.{leb};
 ghost use lib.ListN.{length, take, drop};
 ghost use lib.IntN.{pos, negℤ};
-ghost use Rattle.octets.specs.Number.{bigEndian};
+ghost use Rattle.octets.specs.Number.{bigEndian, width};
 ghost use Rattle.octets.specs.internal.Bounded.{unsigned, signed};
 ghost use Rattle.octets.specs.Signed.{lowest};
+ghost use Rattle.octets.specs.LeastLength.{zigzag};
+ghost use Rattle.octets.specs.Short.{shortUint, shortInt, shortControl};
+ghost use Rattle.octets.specs.internal.Least.{leastOfLead, leastLeads};
 ghost use Rattle.octets.specs.ControlPart.{tagCode, lengthCode};
 ghost use Rattle.octets.specs.Control.{control as control-of, controlOf, following, coded};
 
@@ -36,10 +44,36 @@ fn big_endian(s: &[u8]) -> u64
 }
 
 // Returns the unsigned number that at most eight octets hold, 0 for more octets.
-pub fn uint(s: &[u8]) -> u64
+fn uint_value(s: &[u8]) -> u64
     ensures { λ r. ⌜ r ≡ unsigned (now (s .entry)) ⌝ }
 {
     if s.len() <= 8 { big_endian(s) } else { 0 }
+}
+
+// Returns whether a number needs n octets or more.
+fn needs(n: usize, v: u64) -> bool
+    ensures { λ r. ⌜ r ≡ leb n (width v) ⌝ }
+{
+    if n == 0 {
+        return true;
+    }
+    if n > 8 {
+        return false;
+    }
+    v >> (8 * (n - 1)) != 0
+}
+
+// Reads an unsigned number from at most eight octets; the value of more octets is 0. They are the shortest form if the number needs all of
+// them.
+pub fn uint(s: &[u8]) -> ReadUint
+    ensures { λ r. ⌜ r .value ≡ unsigned (now (s .entry)) ⌝ }
+    ensures { λ r. ⌜ r .shortest ≡ shortUint (now (s .entry)) ⌝ }
+{
+    let value = uint_value(s);
+    ReadUint {
+        value,
+        shortest: needs(s.len(), value),
+    }
 }
 
 // Returns minus k. Subtracting one first keeps every intermediate value in range when k is 2^63.
@@ -61,7 +95,7 @@ fn sign_bit(n: usize) -> u64
 
 // Returns the signed number that at most eight octets hold, 0 for more octets. With the sign set, a magnitude of 0 means the lowest
 // number: there is no minus zero.
-pub fn int(s: &[u8]) -> i64
+fn int_value(s: &[u8]) -> i64
     ensures { λ r. ⌜ r ≡ signed (now (s .entry)) ⌝ }
 {
     let n = s.len();
@@ -78,6 +112,29 @@ pub fn int(s: &[u8]) -> i64
     let low = sign_bit(n);
     let m = v - low;
     if m == 0 { minus(low) } else { minus(m) }
+}
+
+// Returns a signed number as an unsigned one, with its sign as the lowest bit. It needs as many octets as the signed one.
+fn sign_last(z: i64) -> u64
+    ensures { λ r. ⌜ r ≡ zigzag z ⌝ }
+{
+    if z < 0 {
+        return 2 * numbers::below_zero(z) + 1;
+    }
+    2 * (z as u64)
+}
+
+// Reads a signed number from at most eight octets; the value of more octets is 0. They are the shortest form if the number needs all of
+// them.
+pub fn int(s: &[u8]) -> ReadInt
+    ensures { λ r. ⌜ r .value ≡ signed (now (s .entry)) ⌝ }
+    ensures { λ r. ⌜ r .shortest ≡ shortInt (now (s .entry)) ⌝ }
+{
+    let value = int_value(s);
+    ReadInt {
+        value,
+        shortest: needs(s.len(), sign_last(value)),
+    }
 }
 
 // Returns how many octets of a tag follow its lead: one after 14, two after 15.
@@ -104,19 +161,36 @@ fn length_width(l: u64) -> usize
     1usize << (l - 12)
 }
 
+// A tag or a length that was read, and whether its lead is that of its shortest form.
+struct ReadNumber {
+    value: u64,
+    shortest: bool,
+}
+
 // Returns the tag that a lead and the octets after it encode. For one or two octets a loop would be slower.
-fn tag_value(t: u64, s: &[u8]) -> u64
+fn tag_value(t: u64, s: &[u8]) -> ReadNumber
     requires { ⌜ (t < 16) × (length (now s) ≡ following tagCode t) ⌝ }
-    ensures { λ r. ⌜ r ≡ coded tagCode t (now (s .entry)) ⌝ }
+    ensures { λ r. ⌜ r .value ≡ coded tagCode t (now (s .entry)) ⌝ }
+    ensures { λ r. ⌜ r .shortest ≡ leb (leastOfLead tagCode t) (r .value) ⌝ }
 {
     if t < 14 {
-        return t;
+        return ReadNumber {
+            value: t,
+            shortest: true,
+        };
     }
     let a = one_more(s, 0, 0);
     if t == 14 {
-        return a;
+        return ReadNumber {
+            value: a,
+            shortest: 14 <= a,
+        };
     }
-    one_more(s, 1, a)
+    let b = one_more(s, 1, a);
+    ReadNumber {
+        value: b,
+        shortest: 0x100 <= b,
+    }
 }
 
 // Returns the value of eight octets, given the value v of the first four.
@@ -132,73 +206,117 @@ fn four_more(s: &[u8], v: u64) -> u64
 }
 
 // Returns the length that a lead and the octets after it encode.
-fn length_value(l: u64, s: &[u8]) -> u64
+fn length_value(l: u64, s: &[u8]) -> ReadNumber
     requires { ⌜ (l < 16) × (length (now s) ≡ following lengthCode l) ⌝ }
-    ensures { λ r. ⌜ r ≡ coded lengthCode l (now (s .entry)) ⌝ }
+    ensures { λ r. ⌜ r .value ≡ coded lengthCode l (now (s .entry)) ⌝ }
+    ensures { λ r. ⌜ r .shortest ≡ leb (leastOfLead lengthCode l) (r .value) ⌝ }
 {
     if l < 12 {
-        return l;
+        return ReadNumber {
+            value: l,
+            shortest: true,
+        };
     }
     let a = one_more(s, 0, 0);
     if l == 12 {
-        return a;
+        return ReadNumber {
+            value: a,
+            shortest: 12 <= a,
+        };
     }
     let b = one_more(s, 1, a);
     if l == 13 {
-        return b;
+        return ReadNumber {
+            value: b,
+            shortest: 0x100 <= b,
+        };
     }
     let c = one_more(s, 2, b);
     let d = one_more(s, 3, c);
     if l == 14 {
-        return d;
+        return ReadNumber {
+            value: d,
+            shortest: 0x1_0000 <= d,
+        };
     }
-    four_more(s, d)
+    let e = four_more(s, d);
+    ReadNumber {
+        value: e,
+        shortest: 0x1_0000_0000 <= e,
+    }
 }
 
 // Reads a control part, given its two leads and the octets after the control octet.
-fn after_leads(t: u64, l: u64, s: &[u8]) -> Control
+fn after_leads(t: u64, l: u64, s: &[u8]) -> ReadControl
     requires { ⌜ (t < 16) × (l < 16) ⌝ }
-    ensures { λ r. ⌜ r ≡ controlOf t l (now (s .entry)) ⌝ }
+    ensures { λ r. ⌜ r .control ≡ controlOf t l (now (s .entry)) ⌝ }
+    ensures { λ r. ⌜ r .shortest ≡ leastLeads t l (controlOf t l (now (s .entry))) ⌝ }
 {
     let n = tag_width(t);
     let e = n + length_width(l);
     if s.len() < e {
-        return Control::Partial;
+        return ReadControl {
+            control: Control::Partial,
+            shortest: false,
+        };
     }
-    Control::Whole {
-        tag: tag_value(t, &s[0..n]),
-        length: length_value(l, &s[n..e]),
-        size: 1 + (e as u64),
+    let tag = tag_value(t, &s[0..n]);
+    let length = length_value(l, &s[n..e]);
+    ReadControl {
+        control: Control::Whole {
+            tag: tag.value,
+            length: length.value,
+            size: 1 + (e as u64),
+        },
+        shortest: tag.shortest && length.shortest,
     }
 }
 
+// Reads a control part, given its first octet and the octets after it.
+pub fn control_after(c: u8, s: &[u8]) -> ReadControl
+    ensures { λ r. ⌜ r .control ≡ control-of (c ∷ now (s .entry)) ⌝ }
+    ensures { λ r. ⌜ r .shortest ≡ shortControl (c ∷ now (s .entry)) ⌝ }
+{
+    after_leads(numbers::wide(c >> 4), numbers::wide(c & 15), s)
+}
+
 // Reads the control part at the start of octets. Most have one octet, so that case is tested first.
-pub fn control(s: &[u8]) -> Control
-    ensures { λ r. ⌜ r ≡ control-of (now (s .entry)) ⌝ }
+pub fn control(s: &[u8]) -> ReadControl
+    ensures { λ r. ⌜ r .control ≡ control-of (now (s .entry)) ⌝ }
+    ensures { λ r. ⌜ r .shortest ≡ shortControl (now (s .entry)) ⌝ }
 {
     if s.len() == 0 {
-        return Control::Absent;
+        return ReadControl {
+            control: Control::Absent,
+            shortest: false,
+        };
     }
     let c = s[0];
     let t = numbers::wide(c >> 4);
     let l = numbers::wide(c & 15);
     if t < 14 && l < 12 {
-        return Control::Whole {
-            tag: t,
-            length: l,
-            size: 1,
+        return ReadControl {
+            control: Control::Whole {
+                tag: t,
+                length: l,
+                size: 1,
+            },
+            shortest: true,
         };
     }
-    after_leads(t, l, &s[1..])
+    control_after(c, &s[1..])
 }
 
 // Reads the control part at an offset. The check passes most control parts of one octet without it, so a test for them would not pay here.
-pub fn control_at(s: &[u8], i: usize) -> Control
-    ensures { λ r. ⌜ r ≡ control-of (drop i (now (s .entry))) ⌝ }
+pub fn control_at(s: &[u8], i: usize) -> ReadControl
+    ensures { λ r. ⌜ r .control ≡ control-of (drop i (now (s .entry))) ⌝ }
+    ensures { λ r. ⌜ r .shortest ≡ shortControl (drop i (now (s .entry))) ⌝ }
 {
     if s.len() <= i {
-        return Control::Absent;
+        return ReadControl {
+            control: Control::Absent,
+            shortest: false,
+        };
     }
-    let c = s[i];
-    after_leads(numbers::wide(c >> 4), numbers::wide(c & 15), &s[i + 1..])
+    control_after(s[i], &s[i + 1..])
 }

@@ -20,7 +20,7 @@ use Rattle.table.specs.Valid.{allInRange}
 use Rattle.table.specs.Records.{recordFor, recordsFor, IsTable}
 use Rattle.table.specs.FaultyTable.{FaultyTable}
 use Rattle.table.specs.declared.Loaded.{Loaded}
-use Rattle.table.proofs.Bools.{and-left, and-right, or-right}
+use Rattle.octets.proofs.Bools.{and-left, and-right, or-right}
 use Rattle.table.proofs.Repeat.{distinct-snoc, distinct-last}
 use Rattle.table.proofs.Load.{length-words, wellFormed-range, load-fault}
 use Rattle.table.proofs.Valid.{range-snoc, wellFormed-of, unseen-of, for-wellFormed, word-small, records-length, records-wellFormed, records-words}

@@ -13,7 +13,7 @@ use Rattle.octets.specs.Number.{bigEndian}
 use Rattle.table.specs.Entry.{entry}
 use Rattle.table.specs.Load.{inRange, recordAt, wordAt, wellFormed, wordsBefore, pair, seen, faulty, accepted, refused, loadFrom, load}
 use Rattle.table.specs.Repeat.{distinct}
-use Rattle.table.proofs.Bools.{and-four, or-first, or-second}
+use Rattle.octets.proofs.Bools.{and-four, or-first, or-second}
 use Rattle.table.proofs.Repeat.{distinct-before, distinct-last}
 
 pub length-words : (s : List ℕ) (n : ℕ) → length (wordsBefore s n) ≡ n

@@ -9,7 +9,7 @@ use lib.Dec.{eqb}
 use borrow.Author.Tests.{eq-eqb, not-true}
 use Rattle.table.specs.Load.{pair, seen}
 use Rattle.table.specs.Repeat.{distinct}
-use Rattle.table.proofs.Bools.{and-left, and-right, or-first, or-second, eqb-swap}
+use Rattle.octets.proofs.Bools.{and-left, and-right, or-first, or-second, eqb-swap}
 
 -- ---- a pair that is seen
 

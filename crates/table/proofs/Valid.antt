@@ -18,7 +18,7 @@ use Rattle.table.specs.Valid.{allInRange, allZero, valid}
 use Rattle.table.specs.Records.{recordFor, recordsFor}
 use Rattle.table.specs.declared.Table.{Table}
 use Rattle.table.specs.declared.Loaded.{Loaded}
-use Rattle.table.proofs.Bools.{and-left, and-right, and-four, and-both, or-left, or-right}
+use Rattle.octets.proofs.Bools.{and-left, and-right, and-four, and-both, or-left, or-right}
 use Rattle.table.proofs.Repeat.{distinct-snoc}
 use Rattle.table.proofs.Load.{length-words, load-whole, wellFormed-range}
 

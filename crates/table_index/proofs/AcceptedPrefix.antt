@@ -12,7 +12,7 @@ use Rattle.table.specs.Entry.{entry, find}
 use Rattle.table.specs.Load.{pair, seen}
 use Rattle.table.specs.Schema.{schemaOf}
 use Rattle.table.specs.Repeat.{distinct}
-use Rattle.table.proofs.Bools.{and-left, and-right}
+use Rattle.octets.proofs.Bools.{and-left, and-right}
 use Rattle.table.proofs.Repeat.{seen-append, seen-one, distinct-snoc}
 use Rattle.table.proofs.Schemas.{same-schema, find-large}
 use Rattle.table_index.specs.internal.Cells.{keyOf, wordKey, cellOf, meaningIn, orderIn, search, insertable, insertableAt, prefixEnd, cellFor, indexed}

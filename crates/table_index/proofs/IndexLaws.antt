@@ -15,7 +15,7 @@ use Rattle.table.specs.Repeat.{distinct}
 use Rattle.table.specs.Schema.{schemaOf, schema}
 use Rattle.table.specs.Valid.{allInRange, allZero, valid}
 use Rattle.table.specs.declared.Table.{Table}
-use Rattle.table.proofs.Bools.{and-both}
+use Rattle.octets.proofs.Bools.{and-both}
 use Rattle.table.proofs.Lists.{take-more}
 use Rattle.table.proofs.Load.{load-whole, load-fault, faulty-form, faulty-seen, faulty-late, wellFormed-range}
 use Rattle.table.proofs.Repeat.{seen-at}

@@ -9,7 +9,7 @@ use Rattle.table.specs.Entry.{entry, meaning}
 use Rattle.table.specs.Load.{inRange, pair}
 use Rattle.table.specs.declared.Meaning.{Meaning}
 use Rattle.table.specs.declared.Meaning.the-variants.{Raw, Uint, Int, String, Text, Message}
-use Rattle.table.proofs.Bools.{and-four}
+use Rattle.octets.proofs.Bools.{and-four}
 use Rattle.table_index.specs.internal.Cells.{keysFrom, keyOf, wordKey, cellOf, codeIn, meaningOf, meaningIn}
 use Rattle.table_index.proofs.Chains.{keys-small, keys-large}
 

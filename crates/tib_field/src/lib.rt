@@ -69,7 +69,7 @@ pub fn uint(s: &[u8]) -> u64
     if s.len() == 1 {
         return numbers::wide(s[0]);
     }
-    octets_read::uint(s)
+    octets_read::uint(s).value
 }
 
 // Returns whether octets begin with a mark.

@@ -51,10 +51,10 @@ pub fn real(s: &[u8], hint: u64, hinted: bool) -> Real
 {
     let n = s.len();
     if n == 8 {
-        return with_bits(octets_read::uint(s), hint, hinted);
+        return with_bits(octets_read::uint(s).value, hint, hinted);
     }
     if n == 4 {
-        return with_bits(widen(octets_read::uint(s)), hint, hinted);
+        return with_bits(widen(octets_read::uint(s).value), hint, hinted);
     }
     with_bits(0, 0, false)
 }

@@ -6,7 +6,7 @@ use mathlib.Core.Bool.{true, _&&_}
 use mathlib.Core.List.{List, [], _∷_, _++_}
 use lib.Dec.{leb}
 use borrow.Author.Tests.{le-leb, leb-true}
-use Rattle.table.proofs.Bools.{and-left, and-right, and-both}
+use Rattle.octets.proofs.Bools.{and-left, and-right, and-both}
 use Rattle.writer_state.specs.Sound.{falling, small}
 
 -- Falling marks still fall with one more mark at their end, and they lie above every lower offset.

@@ -11,7 +11,7 @@ use borrow.Author.Tests.{le-leb}
 use Rattle.table.specs.Schema.{schema}
 use Rattle.table.specs.Valid.{valid}
 use Rattle.table.specs.declared.Table.{Table}
-use Rattle.table.proofs.Bools.{and-both}
+use Rattle.octets.proofs.Bools.{and-both}
 use Rattle.reading.specs.Reading.{messageLimit}
 use Rattle.writer_state.specs.Sound.{falling, small, sound}
 use Rattle.writer_state.specs.Calls.{level, meant}

@@ -15,7 +15,7 @@ use Rattle.table.specs.Valid.{allInRange, allZero, valid}
 use Rattle.table.specs.declared.Meaning.{Meaning}
 use Rattle.table.specs.declared.Meaning.the-variants.{Raw, Uint, Int, String, Text, Message}
 use Rattle.table.specs.declared.Table.{Table}
-use Rattle.table.proofs.Bools.{and-left, and-right}
+use Rattle.octets.proofs.Bools.{and-left, and-right}
 
 -- The inner number of an entry in range is at most 15, for every kind.
 entry-small : (e : Entry) → inRange e ≡ true → innerOf (meaning e) ≤ 15

@@ -8,7 +8,7 @@ use lib.ListN.{length, take, getD}
 use lib.Seq.{getD-take, length-take-le}
 use lib.Dec.{leb}
 use borrow.Author.Tests.{leb-true}
-use Rattle.table.proofs.Bools.{and-left, and-right}
+use Rattle.octets.proofs.Bools.{and-left, and-right}
 use Rattle.writer_state.specs.Sound.{falling, small, sound}
 use Rattle.writer_state.specs.declared.State.{State}
 

@@ -10,7 +10,7 @@ use lib.Dec.{leb, eqb}
 use borrow.Author.Tests.{leb-true, eqb-true}
 use Rattle.table.specs.Valid.{valid}
 use Rattle.table.specs.declared.Table.{Table}
-use Rattle.table.proofs.Bools.{and-left, and-right}
+use Rattle.octets.proofs.Bools.{and-left, and-right}
 use Rattle.table.proofs.Valid.{valid-loadable}
 use Rattle.writer_state.specs.Sound.{falling, small, sound}
 use Rattle.writer_state.specs.declared.State.{State}

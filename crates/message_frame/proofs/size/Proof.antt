@@ -13,7 +13,7 @@ uint-requires c κs = search needs
 returns-2 : tie.Need-returns-2
 returns-2 c =
     let b = c .before .before .before in
-    size-follows (b .args .x) (c .uint .result) (b .args .s .now) (c .before .if1 .left) (b .pre) (c .uint .ensures)
+    size-follows (b .args .x) (c .uint .result .value) (b .args .s .now) (c .before .if1 .left) (b .pre) (c .uint .ensures .0)
 
 pub size-spec : {M : Type 1} → statement M
 size-spec = tie.close (tie.spec returns uint-requires returns-2)

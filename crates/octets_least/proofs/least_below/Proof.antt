@@ -2,9 +2,9 @@
 use Prim.Native.Nat.{_+_, _*_, _^_, _<_, _≤_}
 use native.Mathlib.Omega.{arith}
 use Rattle.octets.specs.Signed.{lowest}
-use Rattle.octets.proofs.Number.{width-bound}
+use Rattle.octets.proofs.Number.{width-bound, width-above}
 use Rattle.octets.proofs.Integer.{lowest-bounds}
-use Rattle.octets_least.proofs.Signs.{width-some, masked-fits, below-is}
+use Rattle.octets_least.proofs.Signs.{masked-fits, below-is}
 use borrow.Author.Needs.{needs}
 use Rattle.octets_least.proofs.least_below.Statement.{statement}
 use Rattle.octets_least.proofs.least_below.Tie as tie
@@ -23,7 +23,7 @@ sign-bit-requires c κs =
     let v = 2 * c .before .args .k + 1 in
     let b = width-bound v in
     let h = c .before .pre in
-    let p = width-some v (omega arith) (omega arith) in
+    let p = width-above v 0 (omega arith) (omega arith) in
     omega (arith, c .width .ensures)
 
 bounds : (c : tie.After-width) → (0 < lowest (c .width .result)) × (lowest (c .width .result) ≤ 2 ^ 63)

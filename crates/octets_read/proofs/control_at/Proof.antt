@@ -1,63 +1,57 @@
 -- `octets_read::control_at` meets its contract.
 use native.Mathlib.Omega.{arith}
-use mathlib.Core.Path.{_∙_}
-use lib.ListN.{getD, drop, length-drop}
+use mathlib.Core.Path.{_≡_, ap, _∙_}
+use lib.ListN.{length, drop, length-drop}
 use denote.Ref.{now}
-use Rattle.octets_read.proofs.Leads.{control-none, control-from, nybbles}
+use Rattle.octets.specs.Control.{control}
+use Rattle.octets.specs.Short.{shortControl}
+use Rattle.octets_read.proofs.Leads.{control-none, octets-at}
+use Rattle.octets_read.proofs.Shortness.{short-none}
 use borrow.Author.Needs.{needs}
 use Rattle.octets_read.proofs.control_at.Statement.{statement}
 use Rattle.octets_read.proofs.control_at.Tie as tie
 
 returns : tie.Need-returns
-returns c = let a = c .before .before .args in let h = c .if1 .taken in control-none (drop (a .i) (now (a .s))) (simp length-drop (omega arith))
+returns c =
+    let a = c .before .before .args in
+    let h = c .if1 .taken in
+    let e : length (drop (a .i) (now (a .s))) ≡ 0 = simp length-drop (omega arith) in
+    (control-none (drop (a .i) (now (a .s))) e, short-none (drop (a .i) (now (a .s))) e)
 
-shared-slice-read-c : tie.Need-shared-slice-read-c
-shared-slice-read-c c = search needs
+shared-slice-read-control-after : tie.Need-shared-slice-read-control-after
+shared-slice-read-control-after c = search needs
 
-wide-requires : tie.Need-wide-requires
-wide-requires c κs = search needs
+add-control-after : tie.Need-add-control-after
+add-control-after c = search needs
 
-wide-requires-2 : tie.Need-wide-requires-2
-wide-requires-2 c κs = search needs
+sub-control-after : tie.Need-sub-control-after
+sub-control-after c = search needs
 
-add-after-leads : tie.Need-add-after-leads
-add-after-leads c = search needs
+part-control-after-start : tie.Need-part-control-after-start
+part-control-after-start c = search needs
 
-sub-after-leads : tie.Need-sub-after-leads
-sub-after-leads c = search needs
+part-control-after-end : tie.Need-part-control-after-end
+part-control-after-end c = search needs
 
-part-after-leads-start : tie.Need-part-after-leads-start
-part-after-leads-start c = search needs
-
-part-after-leads-end : tie.Need-part-after-leads-end
-part-after-leads-end c = search needs
-
-after-leads-requires : tie.Need-after-leads-requires
-after-leads-requires c κs =
-    let k = c .before .before .before in
-    let a = k .before .before .before .args in
-    nybbles (getD (now (a .s)) (a .i) 0) _ _ (k .shared-slice-known2 .given (a .i) .fits) (c .before .before .wide .ensures) (c .before .wide2 .ensures)
+control-after-requires : tie.Need-control-after-requires
+control-after-requires c κs = search needs
 
 returns-2 : tie.Need-returns-2
 returns-2 c =
-    let k = c .before .before .before .before in
-    let a = k .before .before .before .args in
-    let w = c .before .before .before .wide .ensures in
-    let v = c .before .before .wide2 .ensures in
-    let n = nybbles (getD (now (a .s)) (a .i) 0) _ _ (k .shared-slice-known2 .given (a .i) .fits) w v in
-    c .after-leads .ensures ∙ control-from (now (a .s)) (a .i) _ _ (k .before .if1 .left) (n .0) w v
+    let k = c .before .before .before in
+    let a = k .before .before .args in
+    let e = octets-at (now (a .s)) (a .i) (k .if1 .left) in
+    (c .control-after .ensures .0 ∙ ap control e, c .control-after .ensures .1 ∙ ap shortControl e)
 
 pub control-at-spec : {M : Type 1} → statement M
 control-at-spec =
     tie.close
     (tie.spec
     returns
-    shared-slice-read-c
-    wide-requires
-    wide-requires-2
-    add-after-leads
-    sub-after-leads
-    part-after-leads-start
-    part-after-leads-end
-    after-leads-requires
+    shared-slice-read-control-after
+    add-control-after
+    sub-control-after
+    part-control-after-start
+    part-control-after-end
+    control-after-requires
     returns-2)

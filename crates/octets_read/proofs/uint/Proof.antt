@@ -1,21 +1,23 @@
 -- `octets_read::uint` meets its contract.
-use borrow.Author.Tests.{le-leb, lt-leb}
-use lib.ListN.{length}
-use Rattle.octets.specs.internal.Bounded.{unsigned}
+use mathlib.Core.Path.{sym, _∙_}
+use Rattle.octets.proofs.Number.{octets-of-slice}
+use Rattle.octets.proofs.Short.{short-uint}
 use borrow.Author.Needs.{needs}
 use Rattle.octets_read.proofs.uint.Statement.{statement}
 use Rattle.octets_read.proofs.uint.Tie as tie
 
-big-endian-requires : tie.Need-big-endian-requires
-big-endian-requires c κs = search needs
+uint-value-requires : tie.Need-uint-value-requires
+uint-value-requires c κs = search needs
+
+needs-requires : tie.Need-needs-requires
+needs-requires c κs = search needs
 
 returns : tie.Need-returns
-unfolding unsigned
-returns c = rw (le-leb (length (c .before .before .before .args .s .now)) 8 (c .before .if1 .taken), c .big-endian .ensures)
-
-returns-2 : tie.Need-returns-2
-unfolding unsigned
-returns-2 c = rw (lt-leb (length (c .before .before .args .s .now)) 8 (c .if1 .left))
+returns c =
+    let k = c .before .before in
+    let s = k .before .args .s .now in
+    let v = c .before .uint-value .ensures in
+    (v, c .needs .ensures ∙ rw v (sym (short-uint s (octets-of-slice s (λ i. k .shared-slice-known .given i .fits)))))
 
 pub uint-spec : {M : Type 1} → statement M
-uint-spec = tie.close (tie.spec big-endian-requires returns returns-2)
+uint-spec = tie.close (tie.spec uint-value-requires needs-requires returns)

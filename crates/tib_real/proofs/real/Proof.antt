@@ -15,7 +15,7 @@ with-bits-requires c κs = search needs
 returns : tie.Need-returns
 returns c =
     let a = c .before .before .before .before .args in
-    c .with-bits .ensures ∙ rw (c .before .uint .ensures) (of-eight (a .s .now) (a .hint) (a .hinted) (c .before .before .if1 .taken))
+    c .with-bits .ensures ∙ rw (c .before .uint .ensures .0) (of-eight (a .s .now) (a .hint) (a .hinted) (c .before .before .if1 .taken))
 
 uint-requires-2 : tie.Need-uint-requires-2
 uint-requires-2 c κs = search needs
@@ -24,7 +24,7 @@ widen-requires : tie.Need-widen-requires
 widen-requires c κs =
     let k = c .before .before .before in
     let s = k .before .args .s .now in
-    rw (c .uint2 .ensures) (four-octets s (octets-of-slice s (λ i. k .shared-slice-known .given i .fits)) (c .before .if2 .taken))
+    rw (c .uint2 .ensures .0) (four-octets s (octets-of-slice s (λ i. k .shared-slice-known .given i .fits)) (c .before .if2 .taken))
 
 with-bits-requires-2 : tie.Need-with-bits-requires-2
 with-bits-requires-2 c κs = search needs
@@ -33,7 +33,7 @@ returns-2 : tie.Need-returns-2
 returns-2 c =
     let a = c .before .before .before .before .before .before .args in
     c .with-bits2 .ensures
-    ∙ rw (c .before .widen .ensures, c .before .before .uint2 .ensures) (of-four (a .s .now) (a .hint) (a .hinted) (c .before .before .before .if2 .taken))
+    ∙ rw (c .before .widen .ensures, c .before .before .uint2 .ensures .0) (of-four (a .s .now) (a .hint) (a .hinted) (c .before .before .before .if2 .taken))
 
 with-bits-requires-3 : tie.Need-with-bits-requires-3
 with-bits-requires-3 c κs = search needs

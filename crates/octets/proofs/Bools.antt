@@ -1,5 +1,5 @@
 -- Laws of Boolean tests that this crate and its users share.
-use mathlib.Core.Path.{_≡_, refl, sym}
+use mathlib.Core.Path.{_≡_, refl, sym, _∙_}
 use mathlib.Core.Bool.{Bool, true, false, not, _&&_, _||_, true≢false, false≢true}
 use Prim.Native.Nat.{ℕ}
 use lib.Dec.{eqb}
@@ -22,6 +22,26 @@ and-four a b c d e =
 
 pub and-both : (a b : Bool) → a ≡ true → b ≡ true → a && b ≡ true
 and-both a b p q = rw (p, q) refl
+
+-- The second side of a conjunction decides where the first is true; a first that is false decides.
+pub second-decides : (p q r : Bool) → p ≡ true → p && q ≡ r → q ≡ r
+second-decides p q r e f = rw e at f
+
+pub first-decides : (p q r : Bool) → p ≡ false → p && q ≡ r → p ≡ r
+first-decides p q r e f = e ∙ rw e at f
+
+pub and-false : (a : Bool) → a && false ≡ false
+and-false true = refl
+and-false false = refl
+
+pub and-assoc : (a b c : Bool) → a && (b && c) ≡ (a && b) && c
+and-assoc true b c = refl
+and-assoc false b c = refl
+
+-- A second side that is true leaves the first.
+pub true-second : (a b : Bool) → b ≡ true → a ≡ a && b
+true-second true b e = sym e
+true-second false b e = refl
 
 -- A disjunction is false exactly if both sides are.
 pub or-left : (a b : Bool) → a || b ≡ false → a ≡ false
@@ -46,7 +66,7 @@ pub not-of-false : (a : Bool) → a ≡ false → not a ≡ true
 not-of-false a p = rw p refl
 
 -- Two tests are equal if each implies the other.
-same-test : (a b : Bool) → (a ≡ true → b ≡ true) → (b ≡ true → a ≡ true) → a ≡ b
+pub same-test : (a b : Bool) → (a ≡ true → b ≡ true) → (b ≡ true → a ≡ true) → a ≡ b
 same-test true true p q = refl
 same-test true false p q = sym (p refl)
 same-test false true p q = q refl
