@@ -2,6 +2,7 @@ pub mod Samples
 pub mod Steps
 pub mod Accepted
 pub mod Shortened
+pub mod Short
 pub mod Next
 pub mod Refusals
 pub mod Fields

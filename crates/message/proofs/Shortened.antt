@@ -27,13 +27,13 @@ use Rattle.message.proofs.Accepted.{good-cut-unique}
 use Rattle.message.specs.Shortest.{leastContents, field, shortest}
 
 -- The least contents of a value are no longer than contents that mean it, mean the same, and are as allowed.
-record Lessened (k : Meaning) (b : List ℕ) : Type 0 where
-  no-shorter : NoShorter (leastContents (value k b)) b
+pub record Lessened (k : Meaning) (b : List ℕ) : Type 0 where
+  pub no-shorter : NoShorter (leastContents (value k b)) b
   same-value : value k (leastContents (value k b)) ≡ value k b
   contents : Contents k (leastContents (value k b))
   octets : Octets (leastContents (value k b))
 
-lessened : (k : Meaning) (b : List ℕ) → Octets b → Contents k b → Lessened k b
+pub lessened : (k : Meaning) (b : List ℕ) → Octets b → Contents k b → Lessened k b
 unfolding leastContents value Contents
 lessened Raw b o h = record { no-shorter = no-shorter-self b; same-value = refl; contents = tt; octets = o }
 lessened Uint b o h =
@@ -96,12 +96,12 @@ joined-cutOf (Tree.leaf tag v rest) = rw (joined-cutOf rest)
 joined-cutOf (Tree.nested tag inside rest) = rw (joined-cutOf inside, joined-cutOf rest)
 
 -- What holds of the shortest form of the tree t of a cut.
-record Short (sc : Schema) (n : ℕ) (cut : Cut) (t : Tree) : Type 0 where
+pub record Short (sc : Schema) (n : ℕ) (cut : Cut) (t : Tree) : Type 0 where
   is : tree sc n cut ≡ t
   allowed : Allowed sc n (cutOf t)
   same-tree : tree sc n (cutOf t) ≡ t
   same-depth : cuts.depth (cutOf t) ≡ cuts.depth cut
-  no-shorter : NoShorter (shortest t) (joined cut)
+  pub no-shorter : NoShorter (shortest t) (joined cut)
   octets : Octets (shortest t)
 
 module _ (sc : Schema) (n : ℕ) where
@@ -145,7 +145,7 @@ module _ (sc : Schema) (n : ℕ) where
       }
 
 -- The tree of a cut of allowed fields has such a shortest form.
-short : (sc : Schema) (cut : Cut) (n : ℕ) → Allowed sc n cut → Octets (joined cut) → Short sc n cut (tree sc n cut)
+pub short : (sc : Schema) (cut : Cut) (n : ℕ) → Allowed sc n cut → Octets (joined cut) → Short sc n cut (tree sc n cut)
 unfolding Allowed joined
 short sc Cut.end n a o = unfold tree in short-end sc n
 short sc (Cut.leaf tag c b rest) n a o =

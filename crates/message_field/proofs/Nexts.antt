@@ -1,34 +1,70 @@
--- The step at an offset of a message.
-use Prim.Native.Nat.{ℕ, _+_, _-_, _/_, _%_, _≤_, _<_}
+-- The step at an offset of a message, and whether the field there is in its shortest form.
+use Prim.Native.Nat.{ℕ, _+_, _*_, _-_, _/_, _%_, _≤_, _<_}
 use native.Mathlib.Nat.{add-zero}
+use native.Mathlib.Numerals.{add-one}
 use native.Mathlib.Omega.{arith}
 use mathlib.Core.Path.{_≡_, refl, sym, ap, _∙_, subst}
-use mathlib.Core.Bool.{Bool, true, false, cond}
-use mathlib.Core.List.{List}
+use mathlib.Core.Bool.{Bool, true, false, cond, _&&_}
+use mathlib.Core.List.{List, []}
 use mathlib.Core.Logic.{_⊎_, inl, inr}
 use lib.Bits.{bitAnd, and-mask}
 use lib.Dec.{leb, ltb}
 use lib.ListN.{length, getD, take, drop, length-drop}
-use lib.Seq.{drop-drop, length-take-le}
-use borrow.Author.Tests.{leb-true, ltb-true, le-leb, lt-leb, lt-ltb, le-ltb}
+use lib.Seq.{drop-drop, drop-cons, length-take-le}
+use borrow.Author.Tests.{ltb-true, le-ltb, lt-ltb, eq-eqb}
 use Rattle.octets.specs.Text.{text}
-use Rattle.octets.specs.Control.{control}
+use Rattle.octets.specs.Control.{control, leastCode, leastControl}
 use Rattle.octets.specs.declared.Control.the-variants.{Absent, Partial, Whole}
+use Rattle.octets.specs.Short.{same, shortPart, shortControl, shortUint, shortInt}
+use Rattle.octets.proofs.Text.{up-to}
 use Rattle.octets.proofs.ControlPart.{control-size}
+use Rattle.octets.proofs.Bools.{and-four}
 use Rattle.octets_read.proofs.Leads.{control-from, whole-direct}
 use Rattle.table_index.specs.internal.Cells.{cellFor, codeIn, meaningOf, meaningIn, indexed}
-use Rattle.table.proofs.Bools.{and-four}
+use Rattle.table_index.proofs.Meanings as means
 use Rattle.table.specs.Schema.{Schema}
 use Rattle.table.specs.declared.Meaning.{Meaning}
 use Rattle.table.specs.declared.Meaning.the-variants.{Raw, Uint, Int, String, Text, Message}
 use Rattle.message.specs.Reading.{step, stepByKind}
+use Rattle.message.specs.internal.Short.{shortContents}
 use Rattle.message.specs.declared.Step.{Step}
 use Rattle.message.specs.declared.Step.the-variants as steps
-use Rattle.message_field.specs.internal.Nexts.{nextAt, smallAt, smallCode}
+use Rattle.message_field.specs.internal.Nexts.{nextAt, shortFrom, shortField, nextOf, Passes, smallAt, smallCode}
 use Rattle.message_field.specs.declared.Next.{Next}
 use Rattle.message_field.specs.declared.Next.the-variants.{Done, Fault, Over, Into}
 use Rattle.message_field.proofs.Coded.{coded-message, coded-text, coded-wide, coded-over}
 use Rattle.message_field.proofs.Fields.{at-end, in-control, past-end, whole-field}
+
+-- ---- contents by the code of their kind
+
+module _ (code : ℕ) (b : List ℕ) where
+  pub short-message : 4 < code → shortContents (meaningOf code) b ≡ true
+  unfolding shortContents
+  short-message h = rw (← means.message code h) refl
+
+  pub short-text : code ≡ 4 → shortContents (meaningOf code) b ≡ true
+  unfolding shortContents
+  short-text e = rw (← means.text code e) refl
+
+  pub short-uint : code ≡ 1 → shortContents (meaningOf code) b ≡ shortUint b
+  unfolding shortContents
+  short-uint e = rw (← means.uint code e) refl
+
+  pub short-int : code ≡ 2 → shortContents (meaningOf code) b ≡ shortInt b
+  unfolding shortContents
+  short-int e = rw (← means.int code e) refl
+
+  short-raw : code ≡ 0 → shortContents (meaningOf code) b ≡ true
+  unfolding shortContents
+  short-raw e = rw (← means.raw code e) refl
+
+  short-string : code ≡ 3 → shortContents (meaningOf code) b ≡ true
+  unfolding shortContents
+  short-string e = rw (← means.string code e) refl
+
+  -- Contents that are no number have one form only.
+  pub short-no-number : code < 4 → (code ≡ 1 → ⊥) → (code ≡ 2 → ⊥) → shortContents (meaningOf code) b ≡ true
+  short-no-number h p q = up-to code 0 (λ z. short-raw (omega arith)) (λ z. short-string (omega (arith, p, q)))
 
 -- ---- a field by the code of what its tag means and where its contents start and end
 
@@ -36,61 +72,62 @@ module _ (code : ℕ) (s : List ℕ) (a e : ℕ) (h : (a ≤ e) × (e ≤ length
   abbrev contents : List ℕ
   contents = take (e - a) (drop a s)
 
-  wide : length contents ≡ e - a
-  wide = let p = h .0 in let q = h .1 in let d = length-drop a s in length-take-le (e - a) (drop a s) (omega arith)
+  pub contents-length : length contents ≡ e - a
+  contents-length = let p = h .0 in let q = h .1 in let d = length-drop a s in length-take-le (e - a) (drop a s) (omega arith)
 
   end-is : a + 0 + length contents ≡ e
-  end-is = let w = wide in let p = h .0 in omega arith
+  end-is = let w = contents-length in let p = h .0 in omega arith
 
-  over-at : Over e ≡ nextAt a (steps.Over 0 (length contents))
-  unfolding nextAt
-  over-at = sym (ap Over end-is)
+  module _ (t : Bool) where
+    over-at : Over e t ≡ nextAt a t (steps.Over 0 (length contents))
+    unfolding nextAt
+    over-at = sym (ap (λ (x : ℕ). Over x t) end-is)
 
-  pub message-at : 4 < code → Into (code - 5) a e ≡ nextAt a (stepByKind (meaningOf code) 0 contents)
-  unfolding nextAt
-  message-at k = sym (rw (end-is, add-zero a)) ∙ ap (nextAt a) (coded-message 0 contents code k)
+    pub message-at : 4 < code → Into (code - 5) a e t ≡ nextAt a t (stepByKind (meaningOf code) 0 contents)
+    unfolding nextAt
+    message-at k = sym (rw (end-is, add-zero a) refl) ∙ ap (nextAt a t) (coded-message 0 contents code k)
 
-  pub plain-at : code < 4 → (8 < e - a → code ≡ 1 → ⊥) → (8 < e - a → code ≡ 2 → ⊥) → Over e ≡ nextAt a (stepByKind (meaningOf code) 0 contents)
-  plain-at k x y = over-at ∙ ap (nextAt a) (coded-over 0 contents code k (rw wide x) (rw wide y))
+    pub plain-at : code < 4 → (8 < e - a → code ≡ 1 → ⊥) → (8 < e - a → code ≡ 2 → ⊥) → Over e t ≡ nextAt a t (stepByKind (meaningOf code) 0 contents)
+    plain-at k x y = over-at ∙ ap (nextAt a t) (coded-over 0 contents code k (rw contents-length x) (rw contents-length y))
 
-  pub wide-at : 8 < e - a → (code ≡ 1) ⊎ (code ≡ 2) → Fault 6 ≡ nextAt a (stepByKind (meaningOf code) 0 contents)
-  unfolding nextAt
-  wide-at k x = ap (nextAt a) (coded-wide 0 contents code (rw wide k) x)
+    pub wide-at : 8 < e - a → (code ≡ 1) ⊎ (code ≡ 2) → Fault 6 ≡ nextAt a t (stepByKind (meaningOf code) 0 contents)
+    unfolding nextAt
+    wide-at k x = ap (nextAt a t) (coded-wide 0 contents code (rw contents-length k) x)
 
-  pub text-at : code ≡ 4 → text contents ≡ true → Over e ≡ nextAt a (stepByKind (meaningOf code) 0 contents)
-  text-at k t = over-at ∙ ap (nextAt a) (rw t at (coded-text 0 contents code k))
+    pub text-at : code ≡ 4 → text contents ≡ true → Over e t ≡ nextAt a t (stepByKind (meaningOf code) 0 contents)
+    text-at k w = over-at ∙ ap (nextAt a t) (rw w at (coded-text 0 contents code k))
 
-  pub no-text-at : code ≡ 4 → text contents ≡ false → Fault 7 ≡ nextAt a (stepByKind (meaningOf code) 0 contents)
-  unfolding nextAt
-  no-text-at k t = ap (nextAt a) (rw t at (coded-text 0 contents code k))
+    pub no-text-at : code ≡ 4 → text contents ≡ false → Fault 7 ≡ nextAt a t (stepByKind (meaningOf code) 0 contents)
+    unfolding nextAt
+    no-text-at k w = ap (nextAt a t) (rw w at (coded-text 0 contents code k))
 
 -- ---- a field whose control part is known
 
-module _ (i size : ℕ) (b : List ℕ) where
-  chosen : (t : Bool) (reason : ℕ)
-      → nextAt (i + size) (cond t (steps.Over 0 (length b)) (steps.Fault reason)) ≡ nextAt i (cond t (steps.Over size (length b)) (steps.Fault reason))
+module _ (i size : ℕ) (b : List ℕ) (t : Bool) where
+  chosen : (w : Bool) (reason : ℕ)
+      → nextAt (i + size) t (cond w (steps.Over 0 (length b)) (steps.Fault reason)) ≡ nextAt i t (cond w (steps.Over size (length b)) (steps.Fault reason))
   unfolding nextAt
-  chosen true reason = rw (add-zero (i + size))
+  chosen true reason = rw (add-zero (i + size)) refl
   chosen false reason = refl
 
   -- Offsets counted from the contents, and from the control part.
-  shifted : (m : Meaning) → nextAt (i + size) (stepByKind m 0 b) ≡ nextAt i (stepByKind m size b)
+  shifted : (m : Meaning) → nextAt (i + size) t (stepByKind m 0 b) ≡ nextAt i t (stepByKind m size b)
   unfolding nextAt stepByKind
-  shifted Raw = rw (add-zero (i + size))
+  shifted Raw = rw (add-zero (i + size)) refl
   shifted Uint = chosen (leb (length b) 8) 6
   shifted Int = chosen (leb (length b) 8) 6
-  shifted String = rw (add-zero (i + size))
+  shifted String = rw (add-zero (i + size)) refl
   shifted Text = chosen (text b) 7
-  shifted (Message m) = rw (add-zero (i + size))
+  shifted (Message m) = rw (add-zero (i + size)) refl
 
 module _ (sc : Schema) (n : ℕ) (s : List ℕ) (i : ℕ) where
-  pub done-at : control (drop i s) ≡ Absent → Done ≡ nextAt i (step sc n (drop i s))
-  unfolding nextAt
-  done-at e = ap (nextAt i) (at-end sc n (drop i s) e)
+  pub done-at : control (drop i s) ≡ Absent → Done ≡ nextOf sc n s i
+  unfolding nextOf nextAt
+  done-at e = ap (nextAt i (shortField sc n (drop i s))) (at-end sc n (drop i s) e)
 
-  pub partial-at : control (drop i s) ≡ Partial → Fault 3 ≡ nextAt i (step sc n (drop i s))
-  unfolding nextAt
-  partial-at e = ap (nextAt i) (in-control sc n (drop i s) e)
+  pub partial-at : control (drop i s) ≡ Partial → Fault 3 ≡ nextOf sc n s i
+  unfolding nextOf nextAt
+  partial-at e = ap (nextAt i (shortField sc n (drop i s))) (in-control sc n (drop i s) e)
 
 module _ (s : List ℕ) (i tag len size : ℕ) (e : control (drop i s) ≡ Whole tag len size) where
   -- The control part ends within the octets; an offset past their end has none.
@@ -100,19 +137,35 @@ module _ (s : List ℕ) (i tag len size : ℕ) (e : control (drop i s) ≡ Whole
   remaining-is : length (drop i s) - size ≡ length s - (i + size)
   remaining-is = let d = length-drop i s in omega arith
 
-  pub past-at : (sc : Schema) (n : ℕ) → length s - (i + size) < len → Fault 4 ≡ nextAt i (step sc n (drop i s))
-  unfolding nextAt
-  past-at sc n h = ap (nextAt i) (past-end sc n (drop i s) tag len size e (rw remaining-is h))
+  module _ (sc : Schema) (n : ℕ) where
+    pub past-at : length s - (i + size) < len → Fault 4 ≡ nextOf sc n s i
+    unfolding nextOf nextAt
+    past-at h = ap (nextAt i (shortField sc n (drop i s))) (past-end sc n (drop i s) tag len size e (rw remaining-is h))
 
-  pub field-at : (sc : Schema) (n : ℕ) → len ≤ length s - (i + size)
-      → nextAt (i + size) (stepByKind (sc .means n tag) 0 (take (i + size + len - (i + size)) (drop (i + size) s))) ≡ nextAt i (step sc n (drop i s))
-  field-at sc n h =
-      let k : i + size + len - (i + size) ≡ size + len - size = omega arith in
-      let b = take (size + len - size) (drop size (drop i s)) in
-      let p : take (i + size + len - (i + size)) (drop (i + size) s) ≡ b = rw (k, drop-drop size i s) in
-      ap (λ (x : List ℕ). nextAt (i + size) (stepByKind (sc .means n tag) 0 x)) p
-      ∙ shifted i size b (sc .means n tag)
-      ∙ ap (nextAt i) (whole-field sc n (drop i s) tag len size e (rw remaining-is h))
+    abbrev held : List ℕ
+    held = take (i + size + len - (i + size)) (drop (i + size) s)
+
+    held-is : held ≡ take len (drop size (drop i s))
+    held-is = let k : i + size + len - (i + size) ≡ len = omega arith in rw (k, drop-drop size i s) refl
+
+    field-short : shortControl (drop i s) && shortContents (sc .means n tag) held ≡ shortField sc n (drop i s)
+    unfolding shortField shortFrom shortControl
+    field-short = rw (held-is, e) refl
+
+    -- The step by the kind of the tag and the contents.
+    pub field-at : len ≤ length s - (i + size) → (short : Bool) → short ≡ shortControl (drop i s)
+        → nextAt (i + size) (short && shortContents (sc .means n tag) held) (stepByKind (sc .means n tag) 0 held) ≡ nextOf sc n s i
+    unfolding nextOf
+    field-at h short c =
+        let b = take (size + len - size) (drop size (drop i s)) in
+        let k : size + len - size ≡ len = omega arith in
+        let p : held ≡ b = held-is ∙ sym (ap (λ (x : ℕ). take x (drop size (drop i s))) k) in
+        let t = short && shortContents (sc .means n tag) held in
+        let f : t ≡ shortField sc n (drop i s) = ap (λ (x : Bool). x && shortContents (sc .means n tag) held) c ∙ field-short in
+        ap (λ (x : List ℕ). nextAt (i + size) t (stepByKind (sc .means n tag) 0 x)) p
+        ∙ shifted i size b t (sc .means n tag)
+        ∙ ap (nextAt i t) (whole-field sc n (drop i s) tag len size e (rw remaining-is h))
+        ∙ ap (λ (x : Bool). nextAt i x (step sc n (drop i s))) f
 
 -- ---- a field whose control part is one octet
 
@@ -129,110 +182,156 @@ module _ (cells : List ℕ) (number : ℕ) (s : List ℕ) (i : ℕ) where
   -- 32 by the first test that fails.
   pub none-past : length s ≤ i → 32 ≡ smallCode cells number s i
   unfolding smallCode smallAt
-  none-past h = rw (le-ltb i (length s) h)
+  none-past h = rw (le-ltb i (length s) h) refl
 
   module _ (h : i < length s) where
     pub none-by-tag : 224 ≤ octet → 32 ≡ smallCode cells number s i
     unfolding smallCode smallAt
-    none-by-tag t = rw (lt-ltb i (length s) h, le-ltb octet 224 t)
+    none-by-tag t = rw (lt-ltb i (length s) h, le-ltb octet 224 t) refl
 
     module _ (t : octet < 224) where
       pub none-by-length : 12 ≤ len → 32 ≡ smallCode cells number s i
       unfolding smallCode smallAt
-      none-by-length l = rw (lt-ltb i (length s) h, lt-ltb octet 224 t, le-ltb (octet % 16) 12 (rw (← len-is) l))
+      none-by-length l = rw (lt-ltb i (length s) h, lt-ltb octet 224 t, le-ltb (octet % 16) 12 (rw (← len-is) l)) refl
 
       module _ (l : len < 12) where
-        pub none-by-end : length s - (i + 1) < len → 32 ≡ smallCode cells number s i
+        pub none-by-end : length s - i ≤ len → 32 ≡ smallCode cells number s i
         unfolding smallCode smallAt
         none-by-end k =
-            rw (lt-ltb i (length s) h, lt-ltb octet 224 t, lt-ltb (octet % 16) 12 (rw (← len-is) l), lt-leb (octet % 16) (length s - (i + 1)) (rw (← len-is) k))
+            rw (lt-ltb i (length s) h, lt-ltb octet 224 t, lt-ltb (octet % 16) 12 (rw (← len-is) l), le-ltb (octet % 16) (length s - i) (rw (← len-is) k)) refl
 
-        pub code-found : len ≤ length s - (i + 1) → codeIn (cellFor cells number (octet / 16)) ≡ smallCode cells number s i
+        pub code-found : len < length s - i → codeIn (cellFor cells number (octet / 16)) ≡ smallCode cells number s i
         unfolding smallCode smallAt
         code-found k =
-            rw (lt-ltb i (length s) h, lt-ltb octet 224 t, lt-ltb (octet % 16) 12 (rw (← len-is) l), le-leb (octet % 16) (length s - (i + 1)) (rw (← len-is) k))
+            rw (lt-ltb i (length s) h, lt-ltb octet 224 t, lt-ltb (octet % 16) 12 (rw (← len-is) l), lt-ltb (octet % 16) (length s - i) (rw (← len-is) k)) refl
 
-  -- What a code says of the octets.
-  record Small (code : ℕ) : Type 0 where
-    here : i < length s
-    tag-small : octet < 224
-    length-small : len < 12
-    fits : len ≤ length s - (i + 1)
-    found : code ≡ codeIn (cellFor cells number (octet / 16))
+-- What the test for such a field says of the octets.
+record Small (s : List ℕ) (i : ℕ) : Type 0 where
+  here : i < length s
+  tag-small : getD s i 0 < 224
+  length-small : bitAnd (getD s i 0) 15 < 12
+  fits : bitAnd (getD s i 0) 15 < length s - i
 
-  module _ (code : ℕ) (e : code ≡ smallCode cells number s i) (h : code < 32) where
-    small : Small code
-    unfolding smallCode smallAt
-    small = go (smallAt s i) refl
-      where
-        go : (t : Bool) → smallAt s i ≡ t → Small code
-        go true t =
-            let w = and-four (ltb i (length s)) (ltb octet 224) (ltb (octet % 16) 12) (leb (octet % 16) (length s - (i + 1))) t in
-            record {
-              here = ltb-true i (length s) (w .0);
-              tag-small = ltb-true octet 224 (w .1);
-              length-small = rw len-is (ltb-true (octet % 16) 12 (w .2));
-              fits = rw len-is (leb-true (octet % 16) (length s - (i + 1)) (w .3));
-              found = rw t at e;
-            }
-        go false t = let z : code ≡ 32 = rw t at e in absurd (omega arith)
+module _ (s : List ℕ) (i : ℕ) (e : smallAt s i ≡ true) where
+  small : Small s i
+  unfolding smallAt
+  small =
+      let c = getD s i 0 in
+      let w = and-four (ltb i (length s)) (ltb c 224) (ltb (c % 16) 12) (ltb (c % 16) (length s - i)) e in
+      let m = and-mask c 4 in
+      record {
+        here = ltb-true i (length s) (w .0);
+        tag-small = ltb-true c 224 (w .1);
+        length-small = rw m (ltb-true (c % 16) 12 (w .2));
+        fits = rw m (ltb-true (c % 16) (length s - i) (w .3));
+      }
 
-    pub small-inside : i + 1 + len ≤ length s
-    small-inside = let k = small .here in let f = small .fits in omega arith
+  pub small-inside : (i < length s) × (i + 1 + bitAnd (getD s i 0) 15 ≤ length s)
+  small-inside = let k = small .here in let f = small .fits in (k, omega arith)
 
-    small-control : control (drop i s) ≡ Whole (octet / 16) len 1
-    small-control =
-        let t = small .tag-small in
-        sym (whole-direct (octet / 16) len (take (length s - (i + 1)) (drop (i + 1) s)) (omega arith) (small .length-small)
-        ∙ control-from s i (octet / 16) len (small .here) (omega arith) refl refl)
+  small-control : control (drop i s) ≡ Whole (getD s i 0 / 16) (bitAnd (getD s i 0) 15) 1
+  small-control =
+      let t = small .tag-small in
+      let c = getD s i 0 in
+      sym (whole-direct (c / 16) (bitAnd c 15) (take (length s - (i + 1)) (drop (i + 1) s)) (omega arith) (small .length-small)
+      ∙ control-from s i (c / 16) (bitAnd c 15) (small .here) (omega arith) refl refl)
 
-    small-field : nextAt (i + 1) (stepByKind (meaningOf code) 0 (take (i + 1 + len - (i + 1)) (drop (i + 1) s)))
-        ≡ nextAt i (step (indexed cells) number (drop i s))
+  -- The control octet is the least control part of its tag and length.
+  small-short : shortControl (drop i s) ≡ true
+  unfolding shortControl shortPart leastControl leastCode same
+  small-short =
+      let c = getD s i 0 in
+      let t = small .tag-small in
+      let l = small .length-small in
+      let m = and-mask c 4 in
+      let d : c / 16 * 16 + bitAnd c 15 ≡ c = omega arith in
+      rw (small-control, drop-cons s i 0 (small .here), lt-ltb (c / 16) 14 (omega arith), lt-ltb (bitAnd c 15) 12 l, eq-eqb (c / 16 * 16 + bitAnd c 15) c d) refl
+
+module _ (cells : List ℕ) (number : ℕ) (s : List ℕ) (i code : ℕ) (e : code ≡ smallCode cells number s i) where
+  -- A code says that there is such a field.
+  pub code-small : code < 32 → smallAt s i ≡ true
+  unfolding smallCode
+  code-small h = go (smallAt s i) refl
+    where
+      go : (t : Bool) → smallAt s i ≡ t → t ≡ true
+      go true t = refl
+      go false t = let z : code ≡ 32 = rw t at e in absurd (omega arith)
+
+  module _ (h : code < 32) where
+    abbrev end : ℕ
+    end = i + 1 + bitAnd (getD s i 0) 15
+
+    abbrev inside : List ℕ
+    inside = take (end - (i + 1)) (drop (i + 1) s)
+
+    code-is : code ≡ codeIn (cellFor cells number (getD s i 0 / 16))
+    unfolding smallCode
+    code-is = rw (code-small h) at e
+
+    -- The step by the code and the contents.
+    small-field : nextAt (i + 1) (shortContents (meaningOf code) inside) (stepByKind (meaningOf code) 0 inside) ≡ nextOf (indexed cells) number s i
     unfolding indexed meaningIn
-    small-field = rw (small .found) (field-at s i (octet / 16) len 1 small-control (indexed cells) number (small .fits))
+    small-field =
+        let w = small s i (code-small h) in
+        let k = w .here in
+        let f = w .fits in
+        rw code-is
+        (field-at s i (getD s i 0 / 16) (bitAnd (getD s i 0) 15) 1 (small-control s i (code-small h)) (indexed cells) number (omega arith) true
+        (sym (small-short s i (code-small h))))
 
-    pub small-text : code ≡ 4 → text (take (i + 1 + len - (i + 1)) (drop (i + 1) s)) ≡ true → Over (i + 1 + len) ≡ nextAt i (step (indexed cells) number (drop i s))
-    small-text k t = text-at code s (i + 1) (i + 1 + len) (omega arith, small-inside) k t ∙ small-field
+    pub passed-next : (r : ℕ) → r ≡ end → Passes code (i + 1) r s → Over r true ≡ nextOf (indexed cells) number s i
+    unfolding Passes
+    passed-next r d p = p ∙ rw d small-field
 
-    no-wide-number : (len ≤ 8) ⊎ ((code ≡ 0) ⊎ (code ≡ 3)) → 8 < i + 1 + len - (i + 1) → (code ≡ 1) ⊎ (code ≡ 2) → ⊥
-    no-wide-number (inl l) w c = omega arith
-    no-wide-number (inr (inl z)) w (inl c) = omega arith
-    no-wide-number (inr (inl z)) w (inr c) = omega arith
-    no-wide-number (inr (inr z)) w (inl c) = omega arith
-    no-wide-number (inr (inr z)) w (inr c) = omega arith
-
-    pub small-plain : code < 4 → (len ≤ 8) ⊎ ((code ≡ 0) ⊎ (code ≡ 3)) → Over (i + 1 + len) ≡ nextAt i (step (indexed cells) number (drop i s))
-    small-plain k n =
-        plain-at code s (i + 1) (i + 1 + len) (omega arith, small-inside) k (λ w c. no-wide-number n w (inl c)) (λ w c. no-wide-number n w (inr c))
+    pub small-message : 4 < code → Into (code - 5) (i + 1) end true ≡ nextOf (indexed cells) number s i
+    small-message k =
+        ap (Into (code - 5) (i + 1) end) (sym (short-message code inside k))
+        ∙ message-at code s (i + 1) end (omega arith, small-inside s i (code-small h) .1) (shortContents (meaningOf code) inside) k
         ∙ small-field
+
+-- ---- a field that passes by the code, where its contents start and where they end
+
+module _ (code : ℕ) (s : List ℕ) (a e : ℕ) (h : (a ≤ e) × (e ≤ length s)) where
+  pub text-passes : code ≡ 4 → text (take (e - a) (drop a s)) ≡ true → Passes code a e s
+  unfolding Passes
+  text-passes k t = let b = take (e - a) (drop a s) in rw (short-text code b k) (text-at code s a e h true k t)
+
+  -- Contents in their shortest form, and a number of at most eight octets.
+  pub plain-passes : code < 4 → (8 < e - a → code ≡ 1 → ⊥) → (8 < e - a → code ≡ 2 → ⊥)
+      → shortContents (meaningOf code) (take (e - a) (drop a s)) ≡ true → Passes code a e s
+  unfolding Passes
+  plain-passes k x y t = rw t (plain-at code s a e h true k x y)
 
 -- ---- the step that an answer comes from
 
-pub record OverFrom (i e : ℕ) (x : Step) : Type 0 where
+pub record OverFrom (i e : ℕ) (b t : Bool) (x : Step) : Type 0 where
   pub size : ℕ
   pub len : ℕ
   pub is : x ≡ steps.Over size len
   pub end-is : e ≡ i + size + len
+  pub short-is : t ≡ b
 
-pub record IntoFrom (i m a e : ℕ) (x : Step) : Type 0 where
+pub record IntoFrom (i m a e : ℕ) (b t : Bool) (x : Step) : Type 0 where
   pub size : ℕ
   pub len : ℕ
   pub is : x ≡ steps.Into m size len
   pub start-is : a ≡ i + size
   pub end-is : e ≡ i + size + len
+  pub short-is : t ≡ b
 
-unfoldable pub NextFrom : ℕ → Step → Next → Type 0
-NextFrom i x Done = x ≡ steps.Done
-NextFrom i x (Fault reason) = x ≡ steps.Fault reason
-NextFrom i x (Over e) = OverFrom i e x
-NextFrom i x (Into m a e) = IntoFrom i m a e x
+unfoldable pub NextFrom : ℕ → Bool → Step → Next → Type 0
+NextFrom i b x Done = x ≡ steps.Done
+NextFrom i b x (Fault reason) = x ≡ steps.Fault reason
+NextFrom i b x (Over e t) = OverFrom i e b t x
+NextFrom i b x (Into m a e t) = IntoFrom i m a e b t x
 
-next-from : (i : ℕ) (x : Step) → NextFrom i x (nextAt i x)
+next-from : (i : ℕ) (b : Bool) (x : Step) → NextFrom i b x (nextAt i b x)
 unfolding nextAt NextFrom
-next-from i steps.Done = refl
-next-from i (steps.Fault reason) = refl
-next-from i (steps.Over k l) = record { size = k; len = l; is = refl; end-is = refl }
-next-from i (steps.Into m k l) = record { size = k; len = l; is = refl; start-is = refl; end-is = refl }
+next-from i b steps.Done = refl
+next-from i b (steps.Fault reason) = refl
+next-from i b (steps.Over k l) = record { size = k; len = l; is = refl; end-is = refl; short-is = refl }
+next-from i b (steps.Into m k l) = record { size = k; len = l; is = refl; start-is = refl; end-is = refl; short-is = refl }
 
-pub came-from : (i : ℕ) (x : Step) (r : Next) → nextAt i x ≡ r → NextFrom i x r
-came-from i x r e = subst (NextFrom i x) e (next-from i x)
+pub came-from : (sc : Schema) (n : ℕ) (s : List ℕ) (i : ℕ) (r : Next) → nextOf sc n s i ≡ r → NextFrom i (shortField sc n (drop i s)) (step sc n (drop i s)) r
+unfolding nextOf
+came-from sc n s i r e = let b = shortField sc n (drop i s) in let x = step sc n (drop i s) in subst (NextFrom i b x) e (next-from i b x)

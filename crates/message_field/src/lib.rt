@@ -1,11 +1,13 @@
 // Reads the field at an offset of a message: its head, or the step over it or into it.
 use octets::Control;
 ghost use mathlib.Core.Path.{_≡_};
+ghost use mathlib.Core.Bool.{_&&_};
 ghost use Prim.Native.Nat.{_-_, _≤_};
 ghost use lib.ListN.{length, take, drop};
-ghost use Rattle.message.specs.Reading.{step as step-of, stepByKind};
+ghost use Rattle.message.specs.Reading.{stepByKind};
+ghost use Rattle.message.specs.internal.Short.{shortContents};
 ghost use Rattle.message_field.specs.internal.Heads.{headAt};
-ghost use Rattle.message_field.specs.internal.Nexts.{nextAt};
+ghost use Rattle.message_field.specs.internal.Nexts.{nextAt, nextOf};
 ghost use Rattle.table_index.specs.internal.Cells.{meaningOf, indexed};
 
 // The head of a field: its tag and the span of its contents. Or there is no field: the message ends there, or it has a fault with this
@@ -17,43 +19,58 @@ pub enum Head {
 }
 
 // What a message has at an offset: its end; a fault with a refusal; a field that is no message, with the offset after it; a field that is a
-// message, with its message number and the span of its contents.
+// message, with its message number and the span of its contents. Each field comes with whether it is in its shortest form; of a field that
+// is a message this is said of the control part alone.
 pub enum Next {
     Done,
     Fault(u64),
-    Over(usize),
-    Into(u64, usize, usize),
+    Over(usize, bool),
+    Into(u64, usize, usize, bool),
 }
 
-// The step at a whole field, by the code of its tag's kind and the span of its contents. Comparing the code takes less time than a match on
-// the kind, which the compiler makes a jump table.
-fn by_code(code: u64, s: &[u8], a: usize, e: usize) -> Next
+// Returns whether the octets of a uint, code 1, or of an int are its shortest form.
+fn shortest_number(code: u64, s: &[u8]) -> bool
+    requires { ⌜ (1 ≤ code) × (code ≤ 2) ⌝ }
+    ensures { λ r. ⌜ r ≡ shortContents (meaningOf code) (now (s .entry)) ⌝ }
+{
+    if code == 1 {
+        return octets_read::uint(s).shortest;
+    }
+    octets_read::int(s).shortest
+}
+
+// The step at a whole field, by the code of its tag's kind, the span of its contents, and whether its control part is in its shortest form.
+// Comparing the code takes less time than a match on the kind, which the compiler makes a jump table.
+fn by_code(code: u64, s: &[u8], a: usize, e: usize, short: bool) -> Next
     requires { ⌜ (a ≤ e) × (e ≤ length (now s)) ⌝ }
-    ensures { λ r. ⌜ r ≡ nextAt a (stepByKind (meaningOf code) 0 (take (e - a) (drop a (now (s .entry))))) ⌝ }
+    ensures { λ r. ⌜ r ≡ nextAt a (short && shortContents (meaningOf code) (take (e - a) (drop a (now (s .entry))))) (stepByKind (meaningOf code) 0 (take (e - a) (drop a (now (s .entry))))) ⌝ }
 {
     if 4 < code {
-        return Next::Into(code - 5, a, e);
+        return Next::Into(code - 5, a, e, short);
     }
     if code == 4 {
         if octets_text::text(&s[a..e]) {
-            return Next::Over(e);
+            return Next::Over(e, short);
         }
         return Next::Fault(reading::TEXT);
     }
-    if 8 < e - a {
-        if code == 1 || code == 2 {
+    if code == 1 || code == 2 {
+        if 8 < e - a {
             return Next::Fault(reading::NUMBER_TOO_WIDE);
         }
+        return Next::Over(e, short && shortest_number(code, &s[a..e]));
     }
-    Next::Over(e)
+    Next::Over(e, short)
 }
 
 // The step at an offset of a message, under the index of a table. It compares the announced length with the count of octets after the
 // control part, because adding a place to that length could overflow.
 pub fn step(cells: &[u32; 128], number: u64, s: &[u8], i: usize) -> Next
-    ensures { λ r. ⌜ r ≡ nextAt i (step-of (indexed (now (cells .entry))) number (drop i (now (s .entry)))) ⌝ }
+    ensures { λ r. ⌜ r ≡ nextOf (indexed (now (cells .entry))) number (now (s .entry)) i ⌝ }
 {
-    match octets_read::control_at(s, i) {
+    let read = octets_read::control_at(s, i);
+    let part = read.control;
+    match part {
         Control::Absent => Next::Done,
         Control::Partial => Next::Fault(reading::CUT),
         Control::Whole { tag, length, size } => {
@@ -64,7 +81,7 @@ pub fn step(cells: &[u32; 128], number: u64, s: &[u8], i: usize) -> Next
             }
             let end = start + (length as usize);
             let cell = table_index::cell(cells, number, tag);
-            by_code(table_index::code(cell), s, start, end)
+            by_code(table_index::code(cell), s, start, end, read.shortest)
         }
     }
 }
@@ -79,7 +96,8 @@ pub fn head_at(s: &[u8], i: usize, end: usize) -> Head
     if stop <= i {
         return Head::End;
     }
-    match octets_read::control(&s[i..stop]) {
+    let part = octets_read::control(&s[i..stop]).control;
+    match part {
         Control::Absent => Head::End,
         Control::Partial => Head::Fault(reading::CUT),
         Control::Whole { tag, length, size } => {

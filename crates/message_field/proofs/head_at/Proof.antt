@@ -27,10 +27,10 @@ module _ (d : tie.After-control) where
   before-stop : i ≤ stop
   before-stop = omega arith
 
-  read : d .control .result ≡ control octets
+  read : d .control .result .control ≡ control octets
   read =
       let a = d .before .before .before .before .before .args in
-      d .control .ensures ∙ ap control (span-is (now (a .s)) i (a .end) stop (d .before .before .before .smaller .ensures) before-stop)
+      d .control .ensures .0 ∙ ap control (span-is (now (a .s)) i (a .end) stop (d .before .before .before .smaller .ensures) before-stop)
 
   many : length octets ≡ stop - i
   many =
@@ -43,16 +43,16 @@ module _ (d : tie.After-control) where
 -- A whole control part was found.
 module _ (c : tie.After-known-told) where
   abbrev tag : ℕ
-  tag = c .before .tag .given .0 .0
+  tag = c .before .part .given .0 .0
 
   abbrev len : ℕ
-  len = c .before .tag .given .0 .1 .0
+  len = c .before .part .given .0 .1 .0
 
   abbrev size : ℕ
-  size = c .before .tag .given .0 .1 .1 .0
+  size = c .before .part .given .0 .1 .1 .0
 
   is : control (octets (c .before .before .before)) ≡ Whole tag len size
-  is = sym (read (c .before .before .before)) ∙ c .before .tag .given .1
+  is = sym (read (c .before .before .before)) ∙ c .before .part .given .1
 
 smaller-requires : tie.Need-smaller-requires
 smaller-requires c κs = search needs
@@ -81,8 +81,8 @@ enum-told c = search needs
 enum-told-2 : tie.Need-enum-told-2
 enum-told-2 c = search needs
 
-enum-known-tag : tie.Need-enum-known-tag
-enum-known-tag c = search needs
+enum-known-part : tie.Need-enum-known-part
+enum-known-part c = search needs
 
 add-start : tie.Need-add-start
 add-start c =
@@ -99,8 +99,8 @@ returns-2 c =
     let l = many d in
     head-past (i d) (octets d) (tag (c .before)) (len (c .before)) (size (c .before)) (is (c .before)) (omega arith)
 
-add-t19 : tie.Need-add-t19
-add-t19 c =
+add-t20 : tie.Need-add-t20
+add-t20 c =
     let h = size-fits (c .before .before .before .before) (tag (c .before)) (len (c .before)) (size (c .before)) (is (c .before)) in
     let g = c .before .before .before .before .before .before .before .before .before .good in
     omega arith
@@ -129,11 +129,11 @@ head-at-spec =
     control-requires
     enum-told
     enum-told-2
-    enum-known-tag
+    enum-known-part
     add-start
     sub-rest
     returns-2
-    add-t19
+    add-t20
     returns-3
     returns-4
     returns-5)
