@@ -2,7 +2,7 @@
 // accepted, and stores the rest of the result through the pointers that the caller passes. include/crudvim.h has the C prototypes.
 ghost use mathlib.Core.Path.{_≡_};
 ghost use lib.ListN.{length};
-ghost use Rattle.message_calls.specs.Calls.{checkOctets, shortenOctets, shortenBuffer, lookupOctets, lookupLastOctets};
+ghost use Rattle.message_calls.specs.Calls.{checkOctets, shortOctets, shortenOctets, shortenBuffer, lookupOctets, lookupLastOctets};
 ghost use Rattle.message_frame.specs.Frame.{frameRead, frameWritten, frameStored};
 ghost use Rattle.tib_msg.specs.CheckAndField.{check as tibmsg-check, field as tibmsg-field};
 ghost use Rattle.tib_rv.specs.CheckAndField.{check as tibrv-check, field as tibrv-field};
@@ -19,13 +19,17 @@ pub extern "C" fn crudvim_check(
     place: &mut u64,
     fields: &mut u64,
     depth: &mut u64,
+    shortest: &mut u64,
 ) -> u64
     ensures { λ r. ⌜ checkOctets (now (table .entry)) number (now (message .entry)) ≡ record { refusal = r; place = now (place .exit); fields = now (fields .exit); depth = now (depth .exit) } ⌝ }
+    ensures { λ _. ⌜ now (shortest .exit) ≡ flag-of (shortOctets (now (table .entry)) number (now (message .entry))) ⌝ }
 {
-    let checked = message_calls::check(table, number, message);
+    let c = message_calls::check(table, number, message);
+    let checked = c.checked;
     *place = checked.place;
     *fields = checked.fields;
     *depth = checked.depth;
+    *shortest = flag(c.shortest);
     checked.refusal
 }
 

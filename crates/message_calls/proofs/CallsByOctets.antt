@@ -2,10 +2,11 @@
 use Prim.Native.Nat.{ℕ, _*_, _≤_, _<_}
 use native.Mathlib.Omega.{arith}
 use mathlib.Core.Path.{_≡_, refl, sym, ap, _∙_}
-use mathlib.Core.Bool.{true}
+use mathlib.Core.Bool.{Bool, true, false}
 use mathlib.Core.List.{List}
 use lib.ListN.{length, replicate}
-use borrow.Author.Tests.{le-ltb, lt-ltb, eq-eqb, ne-eqb}
+use lib.Dec.{ltb, eqb}
+use borrow.Author.Tests.{ltb-true, ltb-false, le-ltb, lt-ltb, eqb-true, eqb-false, eq-eqb, ne-eqb}
 use Rattle.reading.specs.Refusals as refusals
 use Rattle.octets.specs.Number.{Octets}
 use Rattle.table.specs.Schema.{schema}
@@ -17,11 +18,13 @@ use Rattle.table.proofs.LoadResults.{loaded-valid}
 use Rattle.table_index.specs.internal.Cells.{insertedBefore, prefixEnd, indexed}
 use Rattle.table_index.proofs.IndexLaws.{octets-accepted, octets-refused, octets-schema}
 use Rattle.message_calls.proofs.CheckAnswers.{under-valid}
+use Rattle.message_calls.proofs.ShortAnswers.{short-under}
 use Rattle.message_calls.proofs.ShortenAnswers.{answer-under, buffer-under}
-use Rattle.message_calls.specs.Calls.{withTable, checkOctets, shortenOctets, shortenBuffer, lookupOctets, lookupLastOctets}
+use Rattle.message_calls.specs.Calls.{withTable, checkOctets, shortOctets, shortenOctets, shortenBuffer, lookupOctets, lookupLastOctets}
 use Rattle.reading.specs.Reading.{messageLimit}
 use Rattle.reading.specs.Checks as answers
 use Rattle.message_calls.specs.Check.{checkUnder, check}
+use Rattle.message_calls.specs.Short.{shortUnder, short}
 use Rattle.message_calls.specs.Shorten as shortens
 use Rattle.message_calls.specs.Shorten.{answer, buffer}
 use Rattle.message_calls.specs.internal.ShortenUnder.{shortenUnder, bufferUnder}
@@ -42,6 +45,23 @@ module _ {A : Type 0} (octets s : List ℕ) (under : Table → A) (refuse : ℕ 
     pub table-loaded : l .refusal ≡ 0 → under (l .table) ≡ withTable octets s under refuse
     unfolding withTable
     table-loaded z = rw (le-ltb messageLimit (length s) h, ← e, eq-eqb (l .refusal) 0 z)
+
+  -- Where a call is not refused, the message is within the limit and the table loads.
+  pub not-refused : (reasonOf : A → ℕ) → ((reason place : ℕ) → reasonOf (refuse reason place) ≡ reason) → reasonOf (withTable octets s under refuse) ≡ 0
+      → (length s ≤ messageLimit) × (load octets .refusal ≡ 0)
+  not-refused reasonOf told z = let h = within (ltb messageLimit (length s)) refl in (h, found h (eqb (load octets .refusal) 0) refl)
+    where
+      within : (b : Bool) → ltb messageLimit (length s) ≡ b → length s ≤ messageLimit
+      within true e =
+          let k = sym (told refusals.tooLong 0) ∙ ap reasonOf (message-too-long (ltb-true messageLimit (length s) e)) ∙ z in
+          absurd (omega arith)
+      within false e = ltb-false messageLimit (length s) e
+
+      found : length s ≤ messageLimit → (b : Bool) → eqb (load octets .refusal) 0 ≡ b → load octets .refusal ≡ 0
+      found h true e = eqb-true (load octets .refusal) 0 e
+      found h false e =
+          sym (told (load octets .refusal) (load octets .place))
+          ∙ ap reasonOf (table-refused h (load octets) refl (eqb-false (load octets .refusal) 0 e)) ∙ z
 
 -- An index of a table's octets, made in cells that were cleared.
 module _ (octets s : List ℕ) (h : length s ≤ messageLimit) (n : ℕ)
@@ -75,6 +95,12 @@ module _ (octets s : List ℕ) (h : length s ≤ messageLimit) (n : ℕ)
         under-valid (load octets .table) m s h good (indexed cells) same
         ∙ table-loaded octets s (λ (t : Table). check t m s) answers.refusal h (load octets) refl loads
 
+    pub short-by-index : shortUnder (indexed cells) m s ≡ shortOctets octets m s
+    unfolding shortOctets
+    short-by-index =
+        short-under (load octets .table) m s h good (indexed cells) same
+        ∙ table-loaded octets s (λ (t : Table). short t m s) (λ (reason place : ℕ). false) h (load octets) refl loads
+
     pub shorten-by-index : (out : List ℕ) → shortenUnder (indexed cells) m s out ≡ shortenOctets octets m s out
     unfolding shortenOctets
     shorten-by-index out =
@@ -105,6 +131,10 @@ module _ (octets s : List ℕ) (z : load octets .refusal ≡ 0) (h : length s �
   pub check-as-loaded : checkOctets octets n s ≡ check (load octets .table) n s
   unfolding checkOctets
   check-as-loaded = sym (table-loaded octets s (λ (t : Table). check t n s) answers.refusal h (load octets) refl z)
+
+  pub short-as-loaded : shortOctets octets n s ≡ short (load octets .table) n s
+  unfolding shortOctets
+  short-as-loaded = sym (table-loaded octets s (λ (t : Table). short t n s) (λ (reason place : ℕ). false) h (load octets) refl z)
 
   pub shorten-as-loaded : (out : List ℕ) → shortenOctets octets n s out ≡ answer (load octets .table) n s out
   unfolding shortenOctets

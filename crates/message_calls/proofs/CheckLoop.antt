@@ -3,17 +3,19 @@ use Prim.Native.Nat.{ℕ, zero, suc, _+_, _-_, _≤_, _<_, max}
 use native.Mathlib.Nat.{add-zero}
 use native.Mathlib.Omega.{arith}
 use mathlib.Core.Path.{_≡_, refl, sym, ap, _∙_, subst}
+use mathlib.Core.Bool.{Bool}
 use mathlib.Core.List.{List}
 use lib.ListN.{length, take, drop, length-append, length-drop}
 use lib.Seq.{drop-drop, length-take-le}
 use Rattle.table.specs.Schema.{Schema}
 use Rattle.message.specs.Cut.{Cut, end, leaf, nested, depth, joined, Allowed}
 use Rattle.message.specs.declared.Step.the-variants as steps
+use Rattle.reading.specs.Refusals as refusals
 use Rattle.reading.specs.Reading.{Reading, accepted, refused}
 use Rattle.message.specs.Reading.{Inner, step, tagAt, afterStep, fieldsFrom, messageFrom}
 use Rattle.message.proofs.Steps.{StepMeans, step-means}
 use Rattle.octets.proofs.ControlPart.{part-size}
-use Rattle.message_field.specs.internal.Nexts.{nextAt}
+use Rattle.message_field.specs.internal.Nexts.{nextOf, shortField}
 use Rattle.message_field.specs.declared.Next.{Next}
 use Rattle.message_field.specs.declared.Next.the-variants.{Done, Fault, Over, Into}
 use Rattle.message_field.proofs.Nexts.{OverFrom, IntoFrom, NextFrom, came-from}
@@ -48,25 +50,25 @@ module _ (sc : Schema) (inner : Inner) (n at : ℕ) (s : List ℕ) where
   module _ (i f d : ℕ) (now : State i f d) where
     -- What the code finds after i octets.
     abbrev pub here : Next
-    here = nextAt i (step sc n (drop i s))
+    here = nextOf sc n s i
 
     pub at-end : here ≡ Done → Accepted f d ≡ whole
     unfolding fieldsFrom afterStep fields depth NextFrom
     at-end e =
-        let h = came-from i (step sc n (drop i s)) Done e in
+        let h = came-from sc n s i Done e in
         traversal.at-end fields depth (fieldsFrom sc inner n) at 0 s i f d now end refl refl (rw h)
 
     pub at-fault : (k : ℕ) → here ≡ Fault k → Refused k (at + i) ≡ whole
     unfolding fieldsFrom afterStep NextFrom
     at-fault k e =
-        let h = came-from i (step sc n (drop i s)) (Fault k) e in
+        let h = came-from sc n s i (Fault k) e in
         traversal.at-fault fields depth (fieldsFrom sc inner n) at 0 s i f d now k (at + i) (rw h)
 
     -- A field that is no message, by its end.
-    module _ (e : ℕ) (h : here ≡ Over e) where
-      found-leaf : OverFrom i e (step sc n (drop i s))
+    module _ (e : ℕ) (b : Bool) (h : here ≡ Over e b) where
+      found-leaf : OverFrom i e (shortField sc n (drop i s)) b (step sc n (drop i s))
       unfolding NextFrom
-      found-leaf = came-from i (step sc n (drop i s)) (Over e) h
+      found-leaf = came-from sc n s i (Over e b) h
 
       leaf-inside : (1 ≤ found-leaf .size) × (found-leaf .size + found-leaf .len ≤ length (drop i s))
       leaf-inside = step-inside sc n (drop i s) (found-leaf .size) (found-leaf .len) (found-leaf .is)
@@ -90,10 +92,10 @@ module _ (sc : Schema) (inner : Inner) (n at : ℕ) (s : List ℕ) where
           (λ x. refl) (λ x. refl) (rw (w .is))
 
     -- A field that is a message, by its number and the span of its contents.
-    module _ (m a e : ℕ) (h : here ≡ Into m a e) where
-      found-nested : IntoFrom i m a e (step sc n (drop i s))
+    module _ (m a e : ℕ) (b : Bool) (h : here ≡ Into m a e b) where
+      found-nested : IntoFrom i m a e (shortField sc n (drop i s)) b (step sc n (drop i s))
       unfolding NextFrom
-      found-nested = came-from i (step sc n (drop i s)) (Into m a e) h
+      found-nested = came-from sc n s i (Into m a e b) h
 
       nested-inside : (1 ≤ found-nested .size) × (found-nested .size + found-nested .len ≤ length (drop i s))
       nested-inside = step-inside-nested sc n (drop i s) m (found-nested .size) (found-nested .len) (found-nested .is)
@@ -170,12 +172,19 @@ counts-small sc levels n field at s f d e = go (messageFrom sc levels n field at
         (omega arith, omega arith)
     go (refused reason place) h w = let z : _≡_ {A = ℕ} 0 1 = cc in absurd (omega arith)
 
--- A message that may be one deep or more is the fields of one message.
-pub room-open : (sc : Schema) (levels n field at : ℕ) (s : List ℕ) → 1 ≤ levels
-    → whole sc (messageFrom sc (levels - 1)) n at s ≡ verdict (messageFrom sc levels n field at s)
+-- A message that may be one deep or more is the fields of one message. The place of its field is used only where it is too deep.
+pub open-reading : (sc : Schema) (levels n field at : ℕ) (s : List ℕ) → 1 ≤ levels
+    → fieldsFrom sc (messageFrom sc (levels - 1)) n (suc (length s)) (at + 0) (drop 0 s) ≡ messageFrom sc levels n field at s
 unfolding messageFrom
-room-open sc zero n field at s h = absurd (omega arith)
-room-open sc (suc levels) n field at s h = let k : suc levels - 1 ≡ levels = omega arith in rw (k, add-zero at)
+open-reading sc zero n field at s h = absurd (omega arith)
+open-reading sc (suc levels) n field at s h = let k : suc levels - 1 ≡ levels = omega arith in rw (k, add-zero at) refl
+
+pub any-field : (sc : Schema) (levels n field other at : ℕ) (s : List ℕ) → 1 ≤ levels → messageFrom sc levels n field at s ≡ messageFrom sc levels n other at s
+any-field sc levels n field other at s h = sym (open-reading sc levels n field at s h) ∙ open-reading sc levels n other at s h
+
+pub too-deep : (sc : Schema) (levels n field at : ℕ) (s : List ℕ) → levels ≡ 0 → Refused refusals.tooDeep field ≡ verdict (messageFrom sc levels n field at s)
+unfolding messageFrom verdictOf
+too-deep sc levels n field at s e = rw e refl
 
 -- A nested message's counts are small against its contents and the levels.
 pub nested-small : (sc : Schema) (levels n field at a e : ℕ) (s : List ℕ) (f d : ℕ) (r : Verdict) → a ≤ e → e ≤ length s

@@ -1,4 +1,6 @@
 pub mod CheckLoop
+pub mod ShortLoop
+pub mod PlainFields
 pub mod CheckAnswers
 pub mod AcceptedByCheck
 pub mod LookupLoop
@@ -18,3 +20,5 @@ pub mod CallsByOctets
 pub mod Demand3
 pub mod Demand1
 pub mod Samples
+pub mod ShortAnswers
+pub mod ShortAlready

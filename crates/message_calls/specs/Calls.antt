@@ -1,6 +1,6 @@
 -- The answers of the calls that take the octets of a field table.
 use Prim.Native.Nat.{ℕ}
-use mathlib.Core.Bool.{cond}
+use mathlib.Core.Bool.{Bool, false, cond}
 use mathlib.Core.List.{List}
 use lib.ListN.{length}
 use lib.Dec.{ltb, eqb}
@@ -12,6 +12,7 @@ use Rattle.table.specs.declared.Table.{Table}
 use Rattle.table.specs.declared.Loaded.{Loaded}
 use Rattle.message_calls.specs.Check as checks
 use Rattle.reading.specs.declared.Checked.{Checked}
+use Rattle.message_calls.specs.Short as shorts
 use Rattle.message_calls.specs.Shorten as shortens
 use Rattle.message_calls.specs.declared.Shortened.{Shortened}
 use Rattle.message_calls.specs.Lookup as lookups
@@ -25,6 +26,10 @@ withTable octets message under refuse =
 
 unfoldable pub checkOctets : List ℕ → ℕ → List ℕ → Checked
 checkOctets octets n s = withTable octets s (λ t. checks.check t n s) answers.refusal
+
+-- Whether the message is in its shortest form already.
+unfoldable pub shortOctets : List ℕ → ℕ → List ℕ → Bool
+shortOctets octets n s = withTable octets s (λ t. shorts.short t n s) (λ reason place. false)
 
 unfoldable pub shortenOctets : List ℕ → ℕ → List ℕ → List ℕ → Shortened
 shortenOctets octets n s out = withTable octets s (λ t. shortens.answer t n s out) shortens.refusal

@@ -3,8 +3,10 @@ pub mod Lookup
 pub mod InTree
 pub mod Written
 pub mod Shorten
+pub mod Short
 pub mod Demand3
 pub mod Calls
+pub mod ShortAlready
 pub mod Demand1
 pub mod Samples
 pub mod internal

@@ -1,11 +1,12 @@
--- Answers of `checkOctets` (Calls.antt) as one list under one statement: refusals with their places, and counts. They try the definitions that
--- the check's answer rests on; a comment names the one that a sample is about.
+-- Answers of `checkOctets` (Calls.antt) as one list under one statement: refusals with their places, and counts; and answers of `shortOctets` as
+-- another. They try the definitions that the check's answers rest on; a comment names the one that a sample is about.
 use Prim.Native.Nat.{ℕ}
 use mathlib.Core.Path.{_≡_}
+use mathlib.Core.Bool.{Bool, true, false}
 use mathlib.Core.List.{List, [], _∷_, _++_}
 use lib.ListN.{replicate}
 use Rattle.reading.specs.declared.Checked.{Checked}
-use Rattle.message_calls.specs.Calls.{checkOctets}
+use Rattle.message_calls.specs.Calls.{checkOctets, shortOctets}
 
 -- A sample: a table's octets, a message number, a message, and the check's answer.
 pub record Sample : Type 0 where
@@ -85,4 +86,56 @@ samples =
     accepts messages (0x10 ∷ []) 1 2 ∷
     accepts messages (0xc1 ∷ 0xf1 ∷ []) 1 1 ∷
     accepts shown (0x11 ∷ 0x2a ∷ 0x21 ∷ 0x8b ∷ 0xe6 ∷ 0x23 ∷ 0x02 ∷ 0x4b ∷ 0x57 ∷ 0x12 ∷ 0x01 ∷ 0xf4 ∷ 0x30 ∷ []) 6 2 ∷
+    []
+
+-- A sample of `shortOctets`: a table's octets, a message with number 0, and whether it is in its shortest form.
+pub record ShortSample : Type 0 where
+  pub table : List ℕ
+  pub message : List ℕ
+  pub expected : Bool
+
+unfoldable pub HoldShort : List ShortSample → Type 0
+HoldShort [] = Unit {0}
+HoldShort (x ∷ xs) = (shortOctets (x .table) 0 (x .message) ≡ x .expected) × HoldShort xs
+
+unfoldable pub isShort : List ℕ → List ℕ → ShortSample
+isShort table message = record { table = table; message = message; expected = true }
+
+unfoldable pub notShort : List ℕ → List ℕ → ShortSample
+notShort table message = record { table = table; message = message; expected = false }
+
+-- Tag 12 is a uint, or an int.
+unfoldable pub unsigned : List ℕ
+unsigned = line 0 0 12 1 0
+
+unfoldable pub signed : List ℕ
+signed = line 0 0 12 2 0
+
+unfoldable pub shortSamples : List ShortSample
+shortSamples =
+    -- `leastUint`: 0 in one octet, and in none.
+    notShort unsigned (0xc1 ∷ 0x00 ∷ []) ∷
+    isShort unsigned (0xc0 ∷ []) ∷
+    -- `leastInt`: 0 in one octet; minus 128 in one octet, and in two; minus 129 in two; 128 in two; 127 in two.
+    notShort signed (0xc1 ∷ 0x00 ∷ []) ∷
+    isShort signed (0xc1 ∷ 0x80 ∷ []) ∷
+    notShort signed (0xc2 ∷ 0x80 ∷ 0x80 ∷ []) ∷
+    isShort signed (0xc2 ∷ 0x80 ∷ 0x81 ∷ []) ∷
+    isShort signed (0xc2 ∷ 0x00 ∷ 0x80 ∷ []) ∷
+    notShort signed (0xc2 ∷ 0x00 ∷ 0x7f ∷ []) ∷
+    -- `leastContents`: a field whose tag the table does not have stays as it is. `leastControl`: its length, and then its tag and its length too,
+    -- take an octet more than they need.
+    isShort [] (0x91 ∷ 0x00 ∷ []) ∷
+    notShort [] (0x9c ∷ 0x01 ∷ 0x00 ∷ []) ∷
+    notShort [] (0xec ∷ 0x0d ∷ 0x05 ∷ replicate 5 0x78) ∷
+    -- `shortest`: an empty message in a message, of which the outer control part is too long, or the inner one, or neither.
+    notShort messages (0x1c ∷ 0x01 ∷ 0x10 ∷ []) ∷
+    notShort messages (0x12 ∷ 0x1c ∷ 0x00 ∷ []) ∷
+    isShort messages (0x11 ∷ 0x10 ∷ []) ∷
+    -- Eight messages, each in the one before; the number in the innermost is 42 in two octets, and in one.
+    notShort threeKinds (0x19 ∷ 0x18 ∷ 0x17 ∷ 0x16 ∷ 0x15 ∷ 0x14 ∷ 0x13 ∷ 0x22 ∷ 0x00 ∷ 0x2a ∷ []) ∷
+    isShort threeKinds (0x18 ∷ 0x17 ∷ 0x16 ∷ 0x15 ∷ 0x14 ∷ 0x13 ∷ 0x12 ∷ 0x21 ∷ 0x2a ∷ []) ∷
+    -- `short`: an empty message, and one that is refused.
+    isShort messages [] ∷
+    notShort messages (0xf1 ∷ []) ∷
     []

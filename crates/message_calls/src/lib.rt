@@ -13,8 +13,16 @@ use table::Table;
 ghost use mathlib.Core.Path.{_≡_};
 ghost use Rattle.message_calls.specs.Check.{check as check-of};
 ghost use Rattle.message_calls.specs.Lookup.{lookup as lookup-of, lookupLast};
+ghost use Rattle.message_calls.specs.Short.{short};
 ghost use Rattle.message_calls.specs.Shorten.{answer, buffer};
-ghost use Rattle.message_calls.specs.Calls.{checkOctets, shortenOctets, shortenBuffer, lookupOctets, lookupLastOctets};
+ghost use Rattle.message_calls.specs.Calls.{checkOctets, shortOctets, shortenOctets, shortenBuffer, lookupOctets, lookupLastOctets};
+
+// The answer of the check, and whether the message is in its shortest form: the shortener would return the same octets. A message that is
+// rejected is not.
+pub struct CheckedMessage {
+    pub checked: Checked,
+    pub shortest: bool,
+}
 
 // The shortener's answer: a refusal number (0 if the message was shortened), the place of the fault, and the length written.
 pub struct Shortened {
@@ -35,17 +43,18 @@ pub struct Found {
     pub length: u64,
 }
 
-// Checks a message: returns the count of its fields and its depth, or the first refusal.
-pub fn check(table: &[u8], number: u64, message: &[u8]) -> Checked
-    ensures { λ r. ⌜ r ≡ checkOctets (now (table .entry)) number (now (message .entry)) ⌝ }
+// Checks a message: returns the count of its fields, its depth and whether it is in its shortest form, or the first refusal.
+pub fn check(table: &[u8], number: u64, message: &[u8]) -> CheckedMessage
+    ensures { λ r. ⌜ r .checked ≡ checkOctets (now (table .entry)) number (now (message .entry)) ⌝ }
+    ensures { λ r. ⌜ r .shortest ≡ shortOctets (now (table .entry)) number (now (message .entry)) ⌝ }
 {
     if reading::MESSAGE_LIMIT < message.len() {
-        return reading::refused(reading::TOO_LONG, 0);
+        return traversal::refused(reading::TOO_LONG, 0);
     }
     let mut cells = [0u32; 128];
     let end = table_index::index(table, &mut cells) * 8;
     if end < table.len() {
-        return reading::refused(reading::TABLE, end as u64);
+        return traversal::refused(reading::TABLE, end as u64);
     }
     traversal::check_under(&cells, number, message)
 }
@@ -97,16 +106,17 @@ pub fn lookup_last(table: &[u8], number: u64, message: &[u8], tag: u64) -> Found
 }
 
 // The check under a table that was loaded.
-pub fn check_loaded(t: Table, number: u64, message: &[u8]) -> Checked
-    ensures { λ r. ⌜ r ≡ check-of t number (now (message .entry)) ⌝ }
+pub fn check_loaded(t: Table, number: u64, message: &[u8]) -> CheckedMessage
+    ensures { λ r. ⌜ r .checked ≡ check-of t number (now (message .entry)) ⌝ }
+    ensures { λ r. ⌜ r .shortest ≡ short t number (now (message .entry)) ⌝ }
 {
     let n = message.len();
     if reading::MESSAGE_LIMIT < n {
-        return reading::refused(reading::TOO_LONG, 0);
+        return traversal::refused(reading::TOO_LONG, 0);
     }
     let mut index = [0u32; 128];
     if !table_index::index_table(&t.words, t.count, &mut index) {
-        return reading::refused(reading::TABLE, 0);
+        return traversal::refused(reading::TABLE, 0);
     }
     traversal::check_under(&index, number, message)
 }

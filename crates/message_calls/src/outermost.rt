@@ -102,7 +102,7 @@ fn unsigned(kind: u64, s: &[u8]) -> u64
     if kind != 1 {
         return 0;
     }
-    octets_read::uint(s)
+    octets_read::uint(s).value
 }
 
 // The value of an int, 0 for any other kind.
@@ -112,7 +112,7 @@ fn signed(kind: u64, s: &[u8]) -> i64
     if kind != 2 {
         return 0;
     }
-    octets_read::int(s)
+    octets_read::int(s).value
 }
 
 // The answer for a field of a kind, by its contents and the offset where they start.
@@ -138,8 +138,8 @@ fn look_under(cells: &[u32; 128], number: u64, message: &[u8], tag: u64, which: 
     ensures { λ r. ⌜ r ≡ lookUnder (indexed (now (cells .entry))) number (now (message .entry)) tag which ⌝ }
 {
     let c = traversal::check_under(cells, number, message);
-    if c.refusal != 0 {
-        return refused(c.refusal, c.place);
+    if c.checked.refusal != 0 {
+        return refused(c.checked.refusal, c.checked.place);
     }
     match pick(message, tag, which) {
         OptionalSpan::Absent => refused(reading::ABSENT, 0),

@@ -6,11 +6,12 @@ use message_field::Head;
 use octets::Control;
 use octets::Least;
 ghost use mathlib.Core.Path.{_≡_};
+ghost use mathlib.Core.List.{_∷_};
 ghost use Prim.Native.Nat.{_+_, _*_, _-_, _≤_, _<_};
 ghost use lib.ListN.{length, drop};
 ghost use Rattle.octets.specs.Number.{Octets, bigEndian as number-of, octetsOf, leastUint};
 ghost use Rattle.octets.specs.Signed.{integer, leastInt};
-ghost use Rattle.octets.specs.Control.{leastControl};
+ghost use Rattle.octets.specs.Control.{leastControl, control as control-of};
 ghost use Rattle.octets_store.specs.Store.{stored};
 ghost use Rattle.octets_store.specs.internal.Moved.{moved};
 ghost use Rattle.table_index.specs.internal.Cells.{meaningOf, indexed};
@@ -20,7 +21,7 @@ ghost use Rattle.message.specs.internal.Accepts.{Accepts};
 ghost use Rattle.message.specs.Tree.{value};
 ghost use Rattle.message.specs.Shortest.{field, leastContents};
 ghost use Rattle.message_calls.specs.Shorten.{refusal};
-ghost use Rattle.message_calls.specs.internal.ShortenUnder.{shortenUnder, bufferUnder};
+ghost use Rattle.message_calls.specs.internal.ShortenUnder.{shortenUnder, bufferUnder, copyAnswer, copyBuffer};
 ghost use Rattle.message_calls.specs.internal.Stores.{shortestWithin, Put};
 
 // Stores the octets of a number and returns the place after them. Most numbers take at most one octet, which needs no loop.
@@ -112,7 +113,7 @@ fn put_uint(tag: u16, s: &[u8], out: &mut [u8], to: usize) -> usize
     if 8 < s.len() {
         return to;
     }
-    let v = octets_read::uint(s);
+    let v = octets_read::uint(s).value;
     put_least(tag, octets_least::uint_least(v), out, to)
 }
 
@@ -124,7 +125,7 @@ fn put_int(tag: u16, s: &[u8], out: &mut [u8], to: usize) -> usize
     if 8 < s.len() {
         return to;
     }
-    let v = octets_read::int(s);
+    let v = octets_read::int(s).value;
     put_least(tag, octets_least::int_least(v), out, to)
 }
 
@@ -159,6 +160,21 @@ fn wrap(tag: u16, out: &mut [u8], to: usize, n: usize) -> usize
     put_wide_control(tag, n, out, to) + n
 }
 
+// The control part with this first octet and these octets after it. Most take one octet, so that case is tested first. This does not call
+// `octets_read::control`: the compiler would not inline it here, and the shortener would take a fifth longer.
+fn control(c: u8, s: &[u8]) -> Control
+    ensures { λ r. ⌜ r ≡ control-of (c ∷ now (s .entry)) ⌝ }
+{
+    if c < 224 && c & 15 < 12 {
+        return Control::Whole {
+            tag: (c >> 4) as u64,
+            length: (c & 15) as u64,
+            size: 1,
+        };
+    }
+    octets_read::control_after(c, s).control
+}
+
 // The head of the field at the offset i of a message, as `message_field::head_at` returns it. That function has other callers, so the
 // compiler does not inline it into `write`, and the shortener then takes a fifth to a third longer.
 fn next_field(s: &[u8], i: usize) -> Head
@@ -167,7 +183,7 @@ fn next_field(s: &[u8], i: usize) -> Head
     if s.len() <= i {
         return Head::End;
     }
-    match octets_read::control(&s[i..]) {
+    match control(s[i], &s[i + 1..]) {
         Control::Absent => Head::End,
         Control::Partial => Head::Fault(reading::CUT),
         Control::Whole { tag, length, size } => {
@@ -227,6 +243,23 @@ pub(crate) fn refused(reason: u64, place: u64) -> Shortened
     }
 }
 
+// The answer for a message that is in its shortest form already: it is copied.
+fn copied(message: &[u8], out: &mut [u8]) -> Shortened
+    ensures { λ r. ⌜ r ≡ copyAnswer (now (message .entry)) (now (out .entry)) ⌝ }
+    ensures { λ r. ⌜ now (out .exit) ≡ copyBuffer (now (message .entry)) (now (out .entry)) ⌝ }
+{
+    let n = message.len();
+    if out.len() < n {
+        return refused(reading::NO_ROOM, 0);
+    }
+    octets_store::put_octets(out, 0, message);
+    Shortened {
+        refusal: 0,
+        place: 0,
+        length: n as u64,
+    }
+}
+
 // The shortener under any index. Internal: callers have already rejected tables that the loader cannot return.
 pub(crate) fn shorten_under(
     cells: &[u32; 128],
@@ -238,8 +271,11 @@ pub(crate) fn shorten_under(
     ensures { λ r. ⌜ now (out .exit) ≡ bufferUnder (indexed (now (cells .entry))) number (now (message .entry)) (now (out .entry)) ⌝ }
 {
     let c = traversal::check_under(cells, number, message);
-    if c.refusal != 0 {
-        return refused(c.refusal, c.place);
+    if c.checked.refusal != 0 {
+        return refused(c.checked.refusal, c.checked.place);
+    }
+    if c.shortest {
+        return copied(message, out);
     }
     if !sizes::has_room(cells, number, message, out.len()) {
         return refused(reading::NO_ROOM, 0);

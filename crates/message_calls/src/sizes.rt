@@ -22,7 +22,7 @@ fn uint_size(s: &[u8]) -> usize
     if 8 < s.len() {
         return 0;
     }
-    let v = octets_read::uint(s);
+    let v = octets_read::uint(s).value;
     octets_least::uint_least(v).width as usize
 }
 
@@ -34,7 +34,7 @@ fn int_size(s: &[u8]) -> usize
     if 8 < s.len() {
         return 0;
     }
-    let v = octets_read::int(s);
+    let v = octets_read::int(s).value;
     octets_least::int_least(v).width as usize
 }
 

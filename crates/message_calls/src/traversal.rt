@@ -1,15 +1,21 @@
 // The traversal of a message and of the messages nested in it, and the check that rests on it.
+use crate::CheckedMessage;
 use message_field::Next;
-use reading::Checked;
 use reading::Verdict;
 ghost use mathlib.Core.Path.{_≡_};
-ghost use Prim.Native.Nat.{_+_, _≤_};
-ghost use lib.ListN.{length, drop};
+ghost use mathlib.Core.Bool.{true, false};
+ghost use Prim.Native.Nat.{_+_, _≤_, _<_};
+ghost use lib.Bits.{bitAnd};
+ghost use lib.ListN.{length, getD};
 ghost use Rattle.reading.specs.Reading.{messageLimit, depthLimit};
+ghost use Rattle.reading.specs.Checks.{refusal};
+ghost use Rattle.reading.specs.declared.Verdict.the-variants.{Refused};
 ghost use Rattle.table_index.specs.internal.Cells.{indexed};
-ghost use Rattle.message.specs.Reading.{step as step-of, messageFrom};
-ghost use Rattle.message_field.specs.internal.Nexts.{nextAt, smallCode};
+ghost use Rattle.message.specs.Reading.{messageFrom};
+ghost use Rattle.message.specs.internal.Short.{shortReading};
+ghost use Rattle.message_field.specs.internal.Nexts.{nextOf, Passes, smallAt, smallCode};
 ghost use Rattle.message_calls.specs.Check.{checkUnder};
+ghost use Rattle.message_calls.specs.Short.{shortUnder};
 ghost use Rattle.message_calls.specs.internal.Verdicts.{verdict as verdict-of};
 
 // The code of the kind of the field at an offset, if its control part is one octet and its contents end within the message; else 32.
@@ -21,19 +27,39 @@ fn small_code(cells: &[u32; 128], number: u64, s: &[u8], i: usize) -> u64
     }
     let c = s[i];
     let n = (c & 15) as usize;
-    if 224 <= c || 12 <= n || s.len() - (i + 1) < n {
+    if 224 <= c || 12 <= n || s.len() - i <= n {
         return 32;
     }
     table_index::code(table_index::cell(cells, number, (c >> 4) as u64))
 }
 
-// Returns the end of the field at an offset, if its control part is one octet, its contents are allowed and end within the message, and it
-// is no message. Most fields are such. Else it returns 0, and the caller calls `step`. A check that calls `step` alone takes a quarter more
-// time.
-fn quick(cells: &[u32; 128], number: u64, s: &[u8], i: usize) -> usize
-    ensures { λ r. ⌜ (1 ≤ r → Next.Over r ≡ nextAt i (step-of (indexed (now (cells .entry))) number (drop i (now (s .entry))))) ⌝ }
+// Returns whether contents of a kind that is neither text nor message are plainly allowed and in their shortest form: no number, a number
+// without octets, a uint that does not begin with 0, or an int whose second octet makes it need the first.
+fn plain(code: u64, s: &[u8], a: usize, e: usize) -> bool
+    requires { ⌜ (code < 4) × (a ≤ e) × (e ≤ length (now s)) ⌝ }
+    ensures { λ r. ⌜ (r ≡ true → Passes code a e (now (s .entry))) ⌝ }
 {
-    let code = small_code(cells, number, s, i);
+    let n = e - a;
+    if code == 0 || code == 3 || n == 0 {
+        return true;
+    }
+    if 8 < n {
+        return false;
+    }
+    if code == 1 {
+        return s[a] != 0;
+    }
+    2 <= n && 128 < s[a + 1]
+}
+
+// Returns the end of the field at an offset with the code of `small_code`, if it is no message and its contents are allowed and in their
+// shortest form. Most fields are such. Else it returns 0, and the caller calls `next`. A number whose first octet has a bit of its magnitude
+// needs that octet. For a field without contents the test looks at the control octet, and is right whatever that is: so there is no branch
+// that the processor would often predict wrongly.
+fn quick(code: u64, s: &[u8], i: usize) -> usize
+    requires { ⌜ (code ≤ 4 → smallAt (now s) i ≡ true) ⌝ }
+    ensures { λ r. ⌜ (1 ≤ r → (code ≤ 4) × (r ≡ i + 1 + bitAnd (getD (now (s .entry)) i 0) 15) × Passes code (i + 1) r (now (s .entry))) ⌝ }
+{
     if 4 < code {
         return 0;
     }
@@ -46,64 +72,124 @@ fn quick(cells: &[u32; 128], number: u64, s: &[u8], i: usize) -> usize
         }
         return 0;
     }
-    if n <= 8 || code == 0 || code == 3 {
+    let first = if n == 0 { i } else { a };
+    if n <= 8 && s[first] & 127 != 0 {
+        return e;
+    }
+    if plain(code, s, a, e) {
         return e;
     }
     0
 }
 
-// Reads a message of number `n` whose octets start at the place `at`, in the field that starts at `from`. Returns the first refusal, or the
-// count of its fields and its depth. `levels` is how many messages deep it may be, itself counted; a nested message has one less.
-fn traverse(cells: &[u32; 128], n: u64, levels: u64, from: u64, at: u64, s: &[u8]) -> Verdict
-    requires { ⌜ at + length (now s) ≤ messageLimit ⌝ }
-    requires { ⌜ levels ≤ depthLimit ⌝ }
-    ensures { λ r. ⌜ r ≡ verdict-of (messageFrom (indexed (now (cells .entry))) levels n from at (now (s .entry))) ⌝ }
+// The step at an offset, by the code of `small_code` there. A field that is a message is entered without reading its control octet again.
+fn next(cells: &[u32; 128], number: u64, code: u64, s: &[u8], i: usize) -> Next
+    requires { ⌜ code ≡ smallCode (now cells) number (now s) i ⌝ }
+    ensures { λ r. ⌜ r ≡ nextOf (indexed (now (cells .entry))) number (now (s .entry)) i ⌝ }
 {
-    if levels == 0 {
-        return Verdict::Refused(reading::TOO_DEEP, from);
+    if 4 < code && code < 32 {
+        let a = i + 1;
+        return Next::Into(code - 5, a, a + ((s[i] & 15) as usize), true);
     }
+    message_field::step(cells, number, s, i)
+}
+
+// What the traversal of a message returns: its verdict, and whether the message is in its shortest form, which a rejected one is not.
+struct Traversed {
+    verdict: Verdict,
+    shortest: bool,
+}
+
+// What the traversal of a rejected message returns.
+fn rejected(reason: u64, place: u64) -> Traversed
+    ensures { λ r. ⌜ r .verdict ≡ Refused reason place ⌝ }
+    ensures { λ r. ⌜ r .shortest ≡ false ⌝ }
+{
+    Traversed {
+        verdict: Verdict::Refused(reason, place),
+        shortest: false,
+    }
+}
+
+// Reads a message of number `n` whose octets start at the place `at`. Returns the first refusal, or the count of its fields and its depth.
+// `levels` is how many messages deep it may be, itself counted; a nested message has one less.
+fn traverse(cells: &[u32; 128], n: u64, levels: u64, at: u64, s: &[u8]) -> Traversed
+    requires { ⌜ at + length (now s) ≤ messageLimit ⌝ }
+    requires { ⌜ (1 ≤ levels) × (levels ≤ depthLimit) ⌝ }
+    ensures { λ r. ⌜ r .verdict ≡ verdict-of (messageFrom (indexed (now (cells .entry))) levels n 0 at (now (s .entry))) ⌝ }
+    ensures { λ r. ⌜ r .shortest ≡ shortReading (indexed (now (cells .entry))) n (messageFrom (indexed (now (cells .entry))) levels n 0 at (now (s .entry))) ⌝ }
+{
     let mut i: usize = 0;
     let mut fields: u64 = 0;
     let mut depth: u64 = 1;
+    let mut shortest = true;
     loop {
-        let end = quick(cells, n, s, i);
+        let code = small_code(cells, n, s, i);
+        let end = quick(code, s, i);
         if end != 0 {
             i = end;
             fields = fields + 1;
             continue;
         }
-        match message_field::step(cells, n, s, i) {
-            Next::Done => return Verdict::Accepted(fields, depth),
-            Next::Fault(k) => return Verdict::Refused(k, at + (i as u64)),
-            Next::Over(e) => {
+        match next(cells, n, code, s, i) {
+            Next::Done => {
+                return Traversed {
+                    verdict: Verdict::Accepted(fields, depth),
+                    shortest,
+                };
+            }
+            Next::Fault(k) => return rejected(k, at + (i as u64)),
+            Next::Over(e, short) => {
                 i = e;
                 fields = fields + 1;
+                shortest = shortest & short;
             }
-            Next::Into(m, a, e) => {
-                let here = at + (i as u64);
-                let inside = at + (a as u64);
-                match traverse(cells, m, levels - 1, here, inside, &s[a..e]) {
+            Next::Into(m, a, e, short) => {
+                if levels == 1 {
+                    return rejected(reading::TOO_DEEP, at + (i as u64));
+                }
+                let inner = traverse(cells, m, levels - 1, at + (a as u64), &s[a..e]);
+                let verdict = inner.verdict;
+                match verdict {
                     Verdict::Accepted(f, d) => {
                         i = e;
                         fields = fields + (1 + f);
                         depth = numbers::larger(depth, d + 1);
+                        shortest = shortest & (short & inner.shortest);
                     }
-                    Verdict::Refused(k, p) => return Verdict::Refused(k, p),
+                    Verdict::Refused(k, p) => return rejected(k, p),
                 }
             }
         }
     }
 }
 
+// The answer of the check for a message that is rejected.
+pub(crate) fn refused(reason: u64, place: u64) -> CheckedMessage
+    ensures { λ r. ⌜ r .checked ≡ refusal reason place ⌝ }
+    ensures { λ r. ⌜ r .shortest ≡ false ⌝ }
+{
+    CheckedMessage {
+        checked: reading::refused(reason, place),
+        shortest: false,
+    }
+}
+
 // The check under any index. Internal: callers have already rejected tables that the loader cannot return.
-pub(crate) fn check_under(cells: &[u32; 128], number: u64, message: &[u8]) -> Checked
-    ensures { λ r. ⌜ r ≡ checkUnder (indexed (now (cells .entry))) number (now (message .entry)) ⌝ }
+pub(crate) fn check_under(cells: &[u32; 128], number: u64, message: &[u8]) -> CheckedMessage
+    ensures { λ r. ⌜ r .checked ≡ checkUnder (indexed (now (cells .entry))) number (now (message .entry)) ⌝ }
+    ensures { λ r. ⌜ r .shortest ≡ shortUnder (indexed (now (cells .entry))) number (now (message .entry)) ⌝ }
 {
     if reading::MESSAGE_LIMIT < message.len() {
-        return reading::refused(reading::TOO_LONG, 0);
+        return refused(reading::TOO_LONG, 0);
     }
     if reading::LAST_NUMBER < number {
-        return reading::refused(reading::TABLE, 0);
+        return refused(reading::TABLE, 0);
     }
-    reading::answer(traverse(cells, number, reading::DEPTH_LIMIT, 0, 0, message))
+    let t = traverse(cells, number, reading::DEPTH_LIMIT, 0, message);
+    let verdict = t.verdict;
+    CheckedMessage {
+        checked: reading::answer(verdict),
+        shortest: t.shortest,
+    }
 }

@@ -1,15 +1,22 @@
 // Checks and shortens messages.
 use crate::print;
 use crate::tables;
+use message_calls::CheckedMessage;
 use message_calls::Shortened;
-use reading::Checked;
 use table::Table;
 
-pub fn checked(c: Checked) {
+// Prints the answer of the check: the refusal, or the counts and whether the message is in its shortest form.
+pub fn checked(m: CheckedMessage) {
+    let c = m.checked;
     if c.refusal != 0 {
         program_lines::refusal(c.refusal, c.place);
+        return;
+    }
+    program_lines::counts(c.fields, c.depth);
+    if m.shortest {
+        program_lines::text(b", shortest");
     } else {
-        program_lines::counts(c.fields, c.depth);
+        program_lines::text(b", not the shortest");
     }
 }
 

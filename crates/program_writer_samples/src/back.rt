@@ -4,8 +4,8 @@ use crate::print;
 use message_calls::Found;
 use table::Table;
 
-// Returns whether the shortener returns the same octets.
-fn shortest(t: Table, number: u64, m: &[u8]) {
+// Prints whether the shortener returns the same octets, and a remark if the check said otherwise.
+fn shortest(t: Table, number: u64, m: &[u8], said: bool) {
     let mut out = [0u8; 65536];
     let s = message_calls::shorten_loaded(t, number, m, &mut out);
     if s.refusal != 0 {
@@ -14,19 +14,23 @@ fn shortest(t: Table, number: u64, m: &[u8]) {
     }
     let same = compare::equal(program_lines::part(&out, 0, s.length), m);
     print::either(same, b"shortest", b"not the shortest");
+    if said != same {
+        program_lines::text(b", but the check says otherwise");
+    }
 }
 
 pub fn message(t: Table, number: u64, m: &[u8]) {
     print::octets(m);
     program_lines::text(b", ");
-    let c = message_calls::check_loaded(t, number, m);
+    let answer = message_calls::check_loaded(t, number, m);
+    let c = answer.checked;
     if c.refusal != 0 {
         program_lines::refusal(c.refusal, c.place);
         return;
     }
     program_lines::counts(c.fields, c.depth);
     program_lines::text(b", ");
-    shortest(t, number, m);
+    shortest(t, number, m, answer.shortest);
 }
 
 // Prints the kind and the value of a field: the number of a uint or an int, the octets of the others.

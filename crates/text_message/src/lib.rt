@@ -44,7 +44,7 @@ pub fn message(t: Table, s: &[u8], from: u64, out: &mut [u8]) -> u64
     ensures { λ r. ⌜ r ≡ length (messageText t (now (s .entry))) ⌝ }
     ensures { λ _. ⌜ now (out .exit) ≡ window (now (out .entry)) from (messageText t (now (s .entry))) ⌝ }
 {
-    let c = message_calls::check_loaded(t, 0, s);
+    let c = message_calls::check_loaded(t, 0, s).checked;
     if c.refusal != 0 {
         return refusal(c.refusal, c.place, from, out);
     }

@@ -47,7 +47,7 @@ fn uint(out: &mut [u8], from: u64, at: u64, s: &[u8]) -> u64
     requires { ⌜ length (now s) ≤ 8 ⌝ }
     ensures { λ r. ⌜ Printed (now (out .entry)) from at (decimal (number-of (now (s .entry)))) r (now (out .exit)) ⌝ }
 {
-    let v = octets_read::uint(s);
+    let v = octets_read::uint(s).value;
     text_window::decimal(out, from, at, v)
 }
 
@@ -56,7 +56,7 @@ fn int(out: &mut [u8], from: u64, at: u64, s: &[u8]) -> u64
     requires { ⌜ length (now s) ≤ 8 ⌝ }
     ensures { λ r. ⌜ Printed (now (out .entry)) from at (signedDecimal (integer (now (s .entry)))) r (now (out .exit)) ⌝ }
 {
-    let v = octets_read::int(s);
+    let v = octets_read::int(s).value;
     text_window::signed(out, from, at, v)
 }
 

@@ -13,7 +13,7 @@ use Rattle.message_calls.proofs.outermost.look_under.Tie as tie
 -- The check refused nothing.
 passed : (c : tie.Else1)
     → checkUnder (indexed (c .before .before .before .before .args .cells .now)) (c .before .before .before .before .args .number) (now (c .before .before .before .before .args .message)) .refusal ≡ 0
-passed c = ap (λ (x : Checked). x .refusal) (sym (c .before .before .check-under .ensures)) ∙ c .if1 .left
+passed c = ap (λ (x : Checked). x .refusal) (sym (c .before .before .check-under .ensures .0)) ∙ c .if1 .left
 
 module _ (c : tie.After-start) where
   abbrev b : tie.Start
@@ -41,7 +41,7 @@ returns : tie.Need-returns
 returns c =
     let a = c .before .before .before .before .before .args in
     let k = c .before .before .before .check-under in
-    c .refused .ensures ∙ refused-under (indexed (a .cells .now)) (a .number) (now (a .message)) (a .tag) (a .which) (k .result) (k .ensures) (c .before .if1 .taken)
+    c .refused .ensures ∙ refused-under (indexed (a .cells .now)) (a .number) (now (a .message)) (a .tag) (a .which) (k .result .checked) (k .ensures .0) (c .before .if1 .taken)
 
 pick-requires : tie.Need-pick-requires
 pick-requires c κs = search needs

@@ -18,8 +18,9 @@ int-requires c κs = search needs
 returns-2 : tie.Need-returns-2
 unfolding intIn
 returns-2 c =
-    let z = toZ-ofZ w64 (c .int .result) (record { sfits = c .int .ok }) in
-    z ∙ rw (eq-eqb (c .before .before .before .args .kind) 2 (c .before .if1 .left), c .int .ensures)
+    let f = c .before .int in
+    let z = toZ-ofZ w64 (f .result .value) (record { sfits = c .struct-told .given .0 .1 }) in
+    z ∙ rw (eq-eqb (c .before .before .before .before .args .kind) 2 (c .before .before .if1 .left), f .ensures .0)
 
 pub signed-spec : {M : Type 1} → statement M
 signed-spec = tie.close (tie.spec returns int-requires returns-2)

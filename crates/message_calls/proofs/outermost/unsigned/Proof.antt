@@ -15,7 +15,7 @@ uint-requires c κs = search needs
 returns-2 : tie.Need-returns-2
 unfolding uintIn
 returns-2 c =
-    rw (eq-eqb (c .before .before .before .args .kind) 1 (c .before .if1 .left), c .uint .ensures)
+    rw (eq-eqb (c .before .before .before .args .kind) 1 (c .before .if1 .left), c .uint .ensures .0)
 
 pub unsigned-spec : {M : Type 1} → statement M
 unsigned-spec = tie.close (tie.spec returns uint-requires returns-2)

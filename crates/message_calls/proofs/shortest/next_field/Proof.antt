@@ -1,14 +1,14 @@
 -- `next_field` answers what the control part at the offset says, where the octets that it announces are there.
-use Prim.Native.Nat.{ℕ, _+_, _-_, _≤_, _<_}
+use Prim.Native.Nat.{ℕ, _+_, _≤_, _<_}
 use native.Mathlib.Omega.{arith}
-use mathlib.Core.Path.{_≡_, sym, _∙_}
+use mathlib.Core.Path.{_≡_, sym, ap, _∙_}
 use mathlib.Core.List.{List}
 use denote.Ref.{now}
 use lib.ListN.{length, drop, length-drop, drop-of-length-le}
-use lib.Seq.{take-all}
 use borrow.Author.Needs.{needs}
 use Rattle.octets.specs.Control.{control}
 use Rattle.octets.specs.declared.Control.the-variants.{Whole}
+use Rattle.octets_read.proofs.Leads.{octets-at}
 use Rattle.message_field.proofs.Fields.{size-inside}
 use Rattle.message_field.proofs.Heads.{head-none, head-absent, head-partial, head-past, head-field}
 use Rattle.message_calls.proofs.shortest.next_field.Statement.{statement}
@@ -17,18 +17,16 @@ use Rattle.message_calls.proofs.shortest.next_field.Tie as tie
 -- The control part was read.
 module _ (d : tie.After-control) where
   abbrev s : List ℕ
-  s = now (d .before .before .before .before .args .s)
+  s = now (d .before .before .before .before .before .args .s)
 
   abbrev i : ℕ
-  i = d .before .before .before .before .args .i
+  i = d .before .before .before .before .before .args .i
 
   before-end : i < length s
-  before-end = d .before .before .if1 .left
+  before-end = d .before .before .before .if1 .left
 
   read : d .control .result ≡ control (drop i s)
-  read =
-      let h = before-end in
-      d .control .ensures ∙ rw (take-all (length s - i) (drop i s) (simp length-drop (omega arith)))
+  read = d .control .ensures ∙ ap control (octets-at s i before-end)
 
   size-fits : (tag len size : ℕ) → control (drop i s) ≡ Whole tag len size → i + size ≤ length s
   size-fits tag len size e =
@@ -56,6 +54,12 @@ returns c =
     let a = c .before .before .args in
     head-none (a .i) (drop (a .i) (now (a .s))) (drop-of-length-le (now (a .s)) {i = a .i} (c .if1 .taken))
 
+shared-slice-read-control : tie.Need-shared-slice-read-control
+shared-slice-read-control c = search needs
+
+add-control : tie.Need-add-control
+add-control c = search needs
+
 sub-control : tie.Need-sub-control
 sub-control c = search needs
 
@@ -80,7 +84,7 @@ enum-known-tag c = search needs
 add-start : tie.Need-add-start
 add-start c =
     let h = size-fits (c .before .before .before) (tag c) (len c) (size c) (is c) in
-    let g = c .before .before .before .before .before .before .before .good in
+    let g = c .before .before .before .before .before .before .before .before .good in
     omega arith
 
 sub-remaining : tie.Need-sub-remaining
@@ -92,10 +96,10 @@ returns-2 c =
     let l = length-drop (i d) (s d) in
     head-past (i d) (drop (i d) (s d)) (tag (c .before)) (len (c .before)) (size (c .before)) (is (c .before)) (omega arith)
 
-add-t16 : tie.Need-add-t16
-add-t16 c =
+add-t19 : tie.Need-add-t19
+add-t19 c =
     let h = size-fits (c .before .before .before .before) (tag (c .before)) (len (c .before)) (size (c .before)) (is (c .before)) in
-    let g = c .before .before .before .before .before .before .before .before .good in
+    let g = c .before .before .before .before .before .before .before .before .before .good in
     omega arith
 
 returns-3 : tie.Need-returns-3
@@ -115,6 +119,8 @@ next-field-spec =
     tie.close
     (tie.spec
     returns
+    shared-slice-read-control
+    add-control
     sub-control
     part-control-start
     part-control-end
@@ -125,7 +131,7 @@ next-field-spec =
     add-start
     sub-remaining
     returns-2
-    add-t16
+    add-t19
     returns-3
     returns-4
     returns-5)

@@ -27,9 +27,10 @@ put-least-requires : tie.Need-put-least-requires
 put-least-requires c κs =
     let y = c .before in
     let x = y .before in
-    let a = x .before .before .before .before in
-    let z = toZ-ofZ w64 (x .int .result) (record { sfits = x .int .ok }) in
-    let o = int-contents (now (a .args .s)) (x .int .result) (y .int-least .result) (x .int .ensures) (a .pre .0) (y .int-least .ensures ∙ ap intWidthBits z) in
+    let f = x .before .int in
+    let a = x .before .before .before .before .before in
+    let z = toZ-ofZ w64 (f .result .value) (record { sfits = x .struct-told .given .0 .1 }) in
+    let o = int-contents (now (a .args .s)) (f .result .value) (y .int-least .result) (f .ensures .0) (a .pre .0) (y .int-least .ensures ∙ ap intWidthBits z) in
     rw o (a .pre .1)
 
 same-length : tie.Need-same-length
@@ -39,9 +40,10 @@ returns-2 : tie.Need-returns-2
 returns-2 c =
     let y = c .before .before .before .before in
     let x = y .before in
-    let a = x .before .before .before .before in
-    let z = toZ-ofZ w64 (x .int .result) (record { sfits = x .int .ok }) in
-    let o = int-contents (now (a .args .s)) (x .int .result) (y .int-least .result) (x .int .ensures) (a .pre .0) (y .int-least .ensures ∙ ap intWidthBits z) in
+    let f = x .before .int in
+    let a = x .before .before .before .before .before in
+    let z = toZ-ofZ w64 (f .result .value) (record { sfits = x .struct-told .given .0 .1 }) in
+    let o = int-contents (now (a .args .s)) (f .result .value) (y .int-least .result) (f .ensures .0) (a .pre .0) (y .int-least .ensures ∙ ap intWidthBits z) in
     rw (← o) (c .before .before .put-least .ensures)
 
 pub put-int-spec : {M : Type 1} → statement M

@@ -24,7 +24,7 @@ put-least-requires c κs =
     let y = c .before in
     let x = y .before in
     let a = x .before .before .before .before in
-    let o = uint-contents (now (a .args .s)) (x .uint .result) (y .uint-least .result) (x .uint .ensures) (a .pre .0) (y .uint-least .ensures) in
+    let o = uint-contents (now (a .args .s)) (x .uint .result .value) (y .uint-least .result) (x .uint .ensures .0) (a .pre .0) (y .uint-least .ensures) in
     rw o (a .pre .1)
 
 same-length : tie.Need-same-length
@@ -35,7 +35,7 @@ returns-2 c =
     let y = c .before .before .before .before in
     let x = y .before in
     let a = x .before .before .before .before in
-    let o = uint-contents (now (a .args .s)) (x .uint .result) (y .uint-least .result) (x .uint .ensures) (a .pre .0) (y .uint-least .ensures) in
+    let o = uint-contents (now (a .args .s)) (x .uint .result .value) (y .uint-least .result) (x .uint .ensures .0) (a .pre .0) (y .uint-least .ensures) in
     rw (← o) (c .before .before .put-least .ensures)
 
 pub put-uint-spec : {M : Type 1} → statement M

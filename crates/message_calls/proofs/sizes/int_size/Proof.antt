@@ -29,9 +29,10 @@ returns-2 : tie.Need-returns-2
 returns-2 c =
     let y = c in
     let x = c .before in
-    let a = x .before .before .before in
-    let z = toZ-ofZ w64 (x .int .result) (record { sfits = x .int .ok }) in
-    let o = int-contents (now (a .args .s)) (x .int .result) (y .int-least .result) (x .int .ensures) (a .pre) (y .int-least .ensures ∙ ap intWidthBits z) in
+    let f = x .before .int in
+    let a = x .before .before .before .before in
+    let z = toZ-ofZ w64 (f .result .value) (record { sfits = x .struct-told .given .0 .1 }) in
+    let o = int-contents (now (a .args .s)) (f .result .value) (y .int-least .result) (f .ensures .0) (a .pre) (y .int-least .ensures ∙ ap intWidthBits z) in
     sym (length-octetsOf (y .int-least .result .width) (y .int-least .result .bits)) ∙ ap length o
 
 pub int-size-spec : {M : Type 1} → statement M

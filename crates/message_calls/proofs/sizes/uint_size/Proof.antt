@@ -27,7 +27,7 @@ returns-2 c =
     let y = c in
     let x = c .before in
     let a = x .before .before .before in
-    let o = uint-contents (now (a .args .s)) (x .uint .result) (y .uint-least .result) (x .uint .ensures) (a .pre) (y .uint-least .ensures) in
+    let o = uint-contents (now (a .args .s)) (x .uint .result .value) (y .uint-least .result) (x .uint .ensures .0) (a .pre) (y .uint-least .ensures) in
     sym (length-octetsOf (y .uint-least .result .width) (y .uint-least .result .bits)) ∙ ap length o
 
 pub uint-size-spec : {M : Type 1} → statement M

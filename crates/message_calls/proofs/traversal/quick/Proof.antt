@@ -1,14 +1,15 @@
--- `quick` answers the end of a field that a step goes over.
+-- `quick` answers the end of a field that passes.
+use Prim.Native.Nat.{ℕ, _+_, _-_, _%_, _≤_, _<_}
 use native.Mathlib.Omega.{arith}
-use mathlib.Core.Path.{sym, _∙_}
-use mathlib.Core.Logic.{inl, inr, ⊎-elim}
+use mathlib.Core.Path.{_≡_, refl, sym, _∙_, subst}
+use mathlib.Core.Logic.{⊎-elim}
 use denote.Ref.{now}
-use Prim.Native.Nat.{ℕ, _+_, _≤_, _<_}
-use mathlib.Core.Path.{_≡_}
-use lib.Bits.{bitAnd, mask-lt}
+use lib.Bits.{bitAnd, mask-lt, and-mask}
 use lib.ListN.{length, getD}
-use borrow.Author.Tests.{eqb-true}
-use Rattle.message_field.proofs.Nexts.{small-inside, small-text, small-plain}
+use borrow.Author.Tests.{eqb-false, not-true}
+use Rattle.octets.proofs.Number.{octets-of-slice}
+use Rattle.message_field.proofs.Nexts.{small-inside, text-passes}
+use Rattle.message_calls.proofs.PlainFields.{none-passes, first-passes}
 use borrow.Author.Needs.{needs}
 use Rattle.message_calls.proofs.traversal.quick.Statement.{statement}
 use Rattle.message_calls.proofs.traversal.quick.Tie as tie
@@ -16,30 +17,28 @@ use Rattle.message_calls.proofs.traversal.quick.Tie as tie
 below-four : {code : ℕ} → code ≤ 4 → (code ≡ 4 → ⊥) → code < 4
 below-four h d = omega (arith, d)
 
-small-code-requires : tie.Need-small-code-requires
-small-code-requires c κs = search needs
+bits : (x : ℕ) → (bitAnd x 127 ≡ 0 → ⊥) → 1 ≤ x % 128
+bits x h = let m = and-mask x 7 in omega (arith, h)
 
 returns : tie.Need-returns
 returns c = λ h. absurd (omega arith)
 
--- A field with a code ends within the octets.
-inside : (c : tie.Else1) → let a = c .before .before .before .args in a .i + 1 + bitAnd (getD (now (a .s)) (a .i) 0) 15 ≤ length (now (a .s))
-inside c =
-    let a = c .before .before .before .args in
-    let h = c .if1 .left in
-    small-inside (now (a .cells)) (a .number) (now (a .s)) (a .i) (c .before .small-code .result) (c .before .small-code .ensures) (omega arith)
+-- The field lies within the octets.
+inside : (c : tie.Else1) → let a = c .before .before .args in
+    (a .i < length (now (a .s))) × (a .i + 1 + bitAnd (getD (now (a .s)) (a .i) 0) 15 ≤ length (now (a .s)))
+inside c = let b = c .before .before in let a = b .args in small-inside (now (a .s)) (a .i) (b .pre (c .if1 .left))
 
 shared-slice-read-n : tie.Need-shared-slice-read-n
-shared-slice-read-n c = let h = inside (c .before) in omega arith
+shared-slice-read-n c = inside (c .before) .0
 
 cast-n : tie.Need-cast-n
-cast-n c = let a = c .before .before .before .before .args in let h = mask-lt (getD (now (a .s)) (a .i) 0) 4 in omega arith
+cast-n c = let a = c .before .before .before .args in let h = mask-lt (getD (now (a .s)) (a .i) 0) 4 in omega arith
 
 add-a : tie.Need-add-a
-add-a c = let h = inside (c .before) in omega arith
+add-a c = let h = inside (c .before) .1 in omega arith
 
 add-e : tie.Need-add-e
-add-e c = let h = inside (c .before) in omega arith
+add-e c = let h = inside (c .before) .1 in omega arith
 
 sub-text : tie.Need-sub-text
 sub-text c = search needs
@@ -48,40 +47,66 @@ part-text-start : tie.Need-part-text-start
 part-text-start c = search needs
 
 part-text-end : tie.Need-part-text-end
-part-text-end c = let h = inside (c .before .before) in omega arith
+part-text-end c = let h = inside (c .before .before) .1 in omega arith
 
 text-requires : tie.Need-text-requires
 text-requires c κs = search needs
 
 returns-2 : tie.Need-returns-2
 returns-2 c =
-    let b = c .before .before .before .before .before in
-    let a = b .before .before .before .args in
-    let k = b .before .small-code .result in
-    let h = b .if1 .left in
-    λ p. small-text (now (a .cells)) (a .number) (now (a .s)) (a .i) k (b .before .small-code .ensures) (omega arith) (c .before .before .before .if2 .taken)
-    (sym (c .before .text .ensures) ∙ c .if3 .taken)
+    let d = c .before .before .before .before .before in
+    let a = d .before .before .args in
+    λ h. (d .if1 .left, refl, text-passes (a .code) (now (a .s)) (a .i + 1) _ (omega arith, inside d .1) (c .before .before .before .if2 .taken) (sym (c .before .text .ensures) ∙ c .if3 .taken))
 
 returns-3 : tie.Need-returns-3
 returns-3 c = λ h. absurd (omega arith)
 
+shared-slice-read-if6 : tie.Need-shared-slice-read-if6
+shared-slice-read-if6 c =
+    let j = c .before .before in
+    let d = j .before .before .before in
+    let a = d .before .before .args in
+    let n = bitAnd (getD (now (a .s)) (a .i) 0) 15 in
+    ⊎-elim (λ w. let e : j .if4 .first ≡ a .i = w .1 in let h = inside d .0 in omega arith)
+    (λ w. let e : j .if4 .first ≡ a .i + 1 = w .1 in let h = inside d .1 in let z : n ≡ 0 → ⊥ = w .0 .left in omega (arith, z)) (j .if4 .came)
+
 returns-4 : tie.Need-returns-4
 returns-4 c =
-    let b = c .before .before .before in
-    let a = b .before .before .before .args in
-    let k = b .before .small-code .result in
-    let h = b .if1 .left in
-    λ p. small-plain (now (a .cells)) (a .number) (now (a .s)) (a .i) k (b .before .small-code .ensures) (omega arith) (below-four h (c .before .if2 .left))
-    (⊎-elim (λ w. inl (w .taken)) (⊎-elim (λ w. inr (inl (eqb-true k 0 (w .1 .taken)))) (λ w. inr (inr (eqb-true k 3 (w .2 .taken))))) (c .if4 .came))
+    let j = c .before .before .before in
+    let d = j .before .before .before in
+    let b = d .before .before in
+    let a = b .args in
+    let s = now (a .s) in
+    let n = bitAnd (getD s (a .i) 0) 15 in
+    let e = a .i + 1 + n in
+    let four = below-four (d .if1 .left) (j .before .if2 .left) in
+    let z : e - (a .i + 1) ≡ n = omega arith in
+    let few : n ≤ 8 = c .before .before .if5 .taken in
+    let o = octets-of-slice s (λ k. c .before .shared-slice-known3 .given k .fits) in
+    λ h. (
+      d .if1 .left,
+      refl,
+      ⊎-elim (λ w. none-passes (a .code) s (a .i + 1) e (omega arith, inside d .1) four (let y : n ≡ 0 = w .0 .taken in omega arith))
+          (λ w. first-passes (a .code) s (a .i + 1) e (omega arith, inside d .1) four o (let y : n ≡ 0 → ⊥ = w .0 .left in omega (arith, y)) (omega arith)
+          (let y : j .if4 .first ≡ a .i + 1 = w .1 in bits (getD s (a .i + 1) 0) (subst (λ (q : ℕ). bitAnd (getD s q 0) 127 ≡ 0 → ⊥) y (eqb-false _ 0 (not-true _ (c .if6 .taken))))))
+          (j .if4 .came),
+    )
+
+plain-requires : tie.Need-plain-requires
+plain-requires c κs =
+    let d = c .before .before .before .before in
+    (below-four (d .if1 .left) (c .before .before .if2 .left), omega arith, inside d .1)
 
 returns-5 : tie.Need-returns-5
-returns-5 c = λ h. absurd (omega arith)
+returns-5 c = λ h. (c .before .before .before .before .before .before .if1 .left, refl, c .before .plain .ensures (c .if7 .taken))
+
+returns-6 : tie.Need-returns-6
+returns-6 c = λ h. absurd (omega arith)
 
 pub quick-spec : {M : Type 1} → statement M
 quick-spec =
     tie.close
     (tie.spec
-    small-code-requires
     returns
     shared-slice-read-n
     cast-n
@@ -93,5 +118,8 @@ quick-spec =
     text-requires
     returns-2
     returns-3
+    shared-slice-read-if6
     returns-4
-    returns-5)
+    plain-requires
+    returns-5
+    returns-6)

@@ -16,10 +16,11 @@ int-requires : tie.Need-int-requires
 int-requires c κs = search needs
 
 -- What the machine reads back from the bits of the value is the value.
-value-is : (c : tie.After-int) → toZ w64 (ofZ w64 (c .int .result)) ≡ integer (now (c .before .before .before .args .s))
+value-is : (c : tie.After-struct-told) → toZ w64 (ofZ w64 (c .before .int .result .value)) ≡ integer (now (c .before .before .before .before .args .s))
 value-is c =
-    let b = c .before .before .before in
-    toZ-ofZ w64 (c .int .result) (record { sfits = c .int .ok }) ∙ c .int .ensures ∙ signed-is (now (b .args .s)) (b .pre)
+    let b = c .before .before .before .before in
+    let f = c .before .int in
+    toZ-ofZ w64 (f .result .value) (record { sfits = c .struct-told .given .0 .1 }) ∙ f .ensures .0 ∙ signed-is (now (b .args .s)) (b .pre)
 
 signed-requires : tie.Need-signed-requires
 signed-requires c κs = search needs
@@ -29,8 +30,9 @@ same-length c = search needs
 
 returns : tie.Need-returns
 returns c =
-    let b = c .before .before .before .before .before .before .before in
-    same-place (signedDecimal (integer (now (b .args .s)))) (ap signedDecimal (value-is (c .before .before .before .before))) (c .before .before .signed .ensures)
+    let d = c .before .before .before .before in
+    let b = d .before .before .before .before in
+    same-place (signedDecimal (integer (now (b .args .s)))) (ap signedDecimal (value-is d)) (c .before .before .signed .ensures)
 
 pub int-spec : {M : Type 1} → statement M
 int-spec = tie.close (tie.spec int-requires signed-requires same-length returns)

@@ -21,7 +21,7 @@ same-length c = search needs
 returns : tie.Need-returns
 returns c =
     let b = c .before .before .before .before .before .before .before in
-    let e = c .before .before .before .before .uint .ensures ∙ unsigned-is (now (b .args .s)) (b .pre) in
+    let e = c .before .before .before .before .uint .ensures .0 ∙ unsigned-is (now (b .args .s)) (b .pre) in
     same-place (decimal (bigEndian (now (b .args .s)))) (ap decimal e) (c .before .before .decimal .ensures)
 
 pub uint-spec : {M : Type 1} → statement M

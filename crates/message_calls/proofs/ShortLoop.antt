@@ -1,0 +1,196 @@
+-- The loop invariant of the traversal for its answer whether the message is in its shortest form.
+use Prim.Native.Nat.{ℕ, suc, _+_, _-_, _≤_, _<_}
+use native.Mathlib.Omega.{arith}
+use mathlib.Core.Path.{_≡_, refl, sym, ap, ap₂, _∙_, subst}
+use mathlib.Core.Bool.{Bool, true, false, _&&_}
+use mathlib.Core.List.{List}
+use lib.ListN.{length, take, drop, take-append-drop, length-drop}
+use lib.Seq.{drop-drop, length-take-le}
+use Rattle.octets.specs.Short.{shortPart, shortControl}
+use Rattle.octets.specs.Control.{control}
+use Rattle.octets.specs.declared.Control.the-variants.{Whole}
+use Rattle.octets.proofs.Bools.{true-second, and-false, and-assoc}
+use Rattle.octets.proofs.ControlPart.{part-read}
+use Rattle.octets.proofs.Short.{short-front}
+use Rattle.table.specs.Entry.{innerOf}
+use Rattle.table.specs.Schema.{Schema}
+use Rattle.table.specs.declared.Meaning.the-variants.{Message}
+use Rattle.reading.specs.Reading.{Reading, accepted, refused, onAccepted, inOrder}
+use Rattle.reading.specs.declared.Verdict.{Verdict}
+use Rattle.reading.specs.declared.Verdict.the-variants.{Accepted, Refused}
+use Rattle.reading.specs.internal.Verdicts.{verdictOf}
+use Rattle.message.specs.Cut.{Cut, leaf, nested, WholeField, depth}
+use Rattle.message.specs.Reading.{Inner, step, tagAt, afterStep, fieldsFrom}
+use Rattle.message.specs.internal.Short.{shortContents, shortCut, shortReading}
+use Rattle.message.specs.declared.Step.the-variants as steps
+use Rattle.message.proofs.Steps.{StepMeans, step-means}
+use Rattle.message_field.specs.internal.Nexts.{nextOf, shortFrom, shortField}
+use Rattle.message_field.specs.declared.Next.{Next}
+use Rattle.message_field.specs.declared.Next.the-variants.{Done, Fault, Over, Into}
+use Rattle.message_field.proofs.Nexts.{OverFrom, IntoFrom, NextFrom, came-from}
+use Rattle.message_calls.specs.internal.Verdicts.{fields, verdict}
+use Rattle.message_calls.proofs.CheckLoop.{step-inside, step-inside-nested}
+
+-- ---- one field
+
+-- The control part that a step found.
+whole-at : (s : List ℕ) (k l : ℕ) → WholeField (tagAt s) (take k s) (take l (drop k s)) → k + l ≤ length s → control s ≡ Whole (tagAt s) l k
+whole-at s k l w h =
+    let d = length-drop k s in
+    let a = length-take-le k s (omega arith) in
+    let b = length-take-le l (drop k s) (omega arith) in
+    let p = part-read (tagAt s) (length (take l (drop k s))) (take k s) w (drop k s) in
+    rw (take-append-drop k s, a, b) at p
+
+module _ (sc : Schema) (n : ℕ) (s : List ℕ) (k l : ℕ) where
+  front-is : control s ≡ Whole (tagAt s) l k
+      → shortField sc n s ≡ shortControl (take k s) && shortContents (sc .means n (tagAt s)) (take l (drop k s))
+  unfolding shortField shortFrom shortControl
+  front-is e =
+      let f : shortControl (take k s) ≡ shortPart s (Whole (tagAt s) l k) = short-front s (tagAt s) l k e ∙ ap (shortPart s) e in
+      rw (e, ← f) refl
+
+  leaf-short : step sc n s ≡ steps.Over k l → shortField sc n s ≡ shortControl (take k s) && shortContents (sc .means n (tagAt s)) (take l (drop k s))
+  unfolding StepMeans
+  leaf-short e = let h = subst (StepMeans sc n s) e (step-means sc n s) in front-is (whole-at s k l (h .0 .whole) (h .2))
+
+  nested-short : (m : ℕ) → step sc n s ≡ steps.Into m k l → (shortField sc n s ≡ shortControl (take k s)) × (sc .means n (tagAt s) ≡ Message m)
+  unfolding StepMeans shortContents
+  nested-short m e =
+      let h = subst (StepMeans sc n s) e (step-means sc n s) in
+      let f = front-is (whole-at s k l (h .0 .whole) (h .2)) in
+      (rw (h .0 .allowed) at f ∙ sym (true-second (shortControl (take k s)) true refl), h .0 .allowed)
+
+-- ---- a field and those after it
+
+module _ (sc : Schema) (n : ℕ) where
+  short-over : (tag : ℕ) (c b : List ℕ) (r : Reading Cut)
+      → shortReading sc n (onAccepted (leaf tag c b) r) ≡ (shortControl c && shortContents (sc .means n tag) b) && shortReading sc n r
+  unfolding shortReading shortCut onAccepted
+  short-over tag c b (accepted cut) = refl
+  short-over tag c b (refused reason place) = sym (and-false (shortControl c && shortContents (sc .means n tag) b))
+
+  -- A field that is a message of the number m, which was accepted.
+  short-into : (m tag : ℕ) (c : List ℕ) (q r : Reading Cut) → sc .means n tag ≡ Message m → (f d : ℕ) → verdict q ≡ Accepted f d
+      → shortReading sc n (inOrder (nested tag c) q r) ≡ (shortControl c && shortReading sc m q) && shortReading sc n r
+  unfolding shortReading shortCut inOrder onAccepted innerOf verdictOf
+  short-into m tag c (accepted x) (accepted cut) e f d v = rw e refl
+  short-into m tag c (accepted x) (refused reason place) e f d v = sym (and-false (shortControl c && shortCut sc m x))
+  short-into m tag c (refused k p) r e f d v = let z : _≡_ {A = ℕ} 0 1 = cc in absurd (omega arith)
+
+  short-refused : (h : Cut → Cut → Cut) (q r : Reading Cut) (k p : ℕ) → verdict q ≡ Refused k p → shortReading sc n (inOrder h q r) ≡ false
+  unfolding shortReading inOrder verdictOf
+  short-refused h (accepted x) r k p v = let z : _≡_ {A = ℕ} 0 1 = cc in absurd (omega arith)
+  short-refused h (refused reason place) r k p v = refl
+
+-- ---- the loop
+
+module _ (sc : Schema) (inner : Inner) (n at : ℕ) (s : List ℕ) where
+  -- The reading of the fields after i octets.
+  abbrev rest : ℕ → ℕ → Reading Cut
+  rest fuel i = fieldsFrom sc inner n fuel (at + i) (drop i s)
+
+  abbrev pub whole-short : Bool
+  whole-short = shortReading sc n (rest (suc (length s)) 0)
+
+  -- After i octets, where t says whether the fields so far are in their shortest form, the fields after them decide.
+  pub record ShortSoFar (i : ℕ) (t : Bool) : Type 0 where
+    fuel : ℕ
+    enough : length s < i + fuel
+    same : whole-short ≡ t && shortReading sc n (rest fuel i)
+
+  pub short-start : ShortSoFar 0 true
+  short-start = record { fuel = suc (length s); enough = omega arith; same = refl }
+
+  module _ (i : ℕ) (t : Bool) (now : ShortSoFar i t) (inside : i ≤ length s) where
+    -- There is still fuel, so the field after i octets is read.
+    looked : whole-short ≡ t && shortReading sc n (rest (suc (now .fuel - 1)) i)
+    looked =
+        let b = now .enough in
+        let e : now .fuel ≡ suc (now .fuel - 1) = omega arith in
+        now .same ∙ ap (λ (fuel : ℕ). t && shortReading sc n (rest fuel i)) e
+
+    pub short-at-end : nextOf sc n s i ≡ Done → t ≡ whole-short
+    unfolding NextFrom fieldsFrom afterStep shortReading shortCut
+    short-at-end e = let h = came-from sc n s i Done e in let f = rw h at looked in sym (f ∙ sym (true-second t true refl))
+
+    pub short-at-fault : (k : ℕ) → nextOf sc n s i ≡ Fault k → false ≡ whole-short
+    unfolding NextFrom fieldsFrom afterStep shortReading
+    short-at-fault k e = let h = came-from sc n s i (Fault k) e in let f = rw h at looked in sym (f ∙ and-false t)
+
+    -- A field of `size` and `len` octets that adds x.
+    stepped : (size len e : ℕ) (x : Bool) → e ≡ i + size + len → 1 ≤ size
+        → shortReading sc n (rest (suc (now .fuel - 1)) i)
+        ≡ x && shortReading sc n (fieldsFrom sc inner n (now .fuel - 1) (at + i + size + len) (drop (size + len) (drop i s)))
+        → ShortSoFar e (t && x)
+    stepped size len e x p h f =
+        let b = now .enough in
+        let q : at + i + size + len ≡ at + e = omega arith in
+        let r : e ≡ i + (size + len) = omega arith in
+        record {
+          fuel = now .fuel - 1;
+          enough = omega arith;
+          same =
+              looked
+              ∙ ap (λ (y : Bool). t && y) f
+              ∙ and-assoc t x (shortReading sc n (fieldsFrom sc inner n (now .fuel - 1) (at + i + size + len) (drop (size + len) (drop i s))))
+              ∙ rw (q, r, drop-drop (size + len) i s) refl;
+        }
+
+    -- A field that is no message.
+    pub short-leaf : (e : ℕ) (b : Bool) → nextOf sc n s i ≡ Over e b → ShortSoFar e (t && b)
+    unfolding NextFrom fieldsFrom afterStep
+    short-leaf e b h =
+        let r = drop i s in
+        let w = came-from sc n s i (Over e b) h in
+        let f = w .short-is ∙ leaf-short sc n r (w .size) (w .len) (w .is) in
+        let after = fieldsFrom sc inner n (now .fuel - 1) (at + i + w .size + w .len) (drop (w .size + w .len) r) in
+        stepped (w .size) (w .len) e b (w .end-is) (step-inside sc n r (w .size) (w .len) (w .is) .0)
+        (rw (w .is)
+        (short-over sc n (tagAt r) (take (w .size) r) (take (w .len) (drop (w .size) r)) after ∙ ap (λ (x : Bool). x && shortReading sc n after) (sym f)))
+
+    -- A field that is a message, by its number, the span of its contents, and the verdict on them.
+    module _ (m a e : ℕ) (b : Bool) (h : nextOf sc n s i ≡ Into m a e b) (v : Verdict)
+        (is : v ≡ verdict (inner m (at + i) (at + a) (take (e - a) (drop a s)))) where
+      found : IntoFrom i m a e (shortField sc n (drop i s)) b (step sc n (drop i s))
+      unfolding NextFrom
+      found = came-from sc n s i (Into m a e b) h
+
+      abbrev nested-reading : Reading Cut
+      nested-reading = inner m (at + i) (at + i + found .size) (take (found .len) (drop (found .size) (drop i s)))
+
+      same-reading : inner m (at + i) (at + a) (take (e - a) (drop a s)) ≡ nested-reading
+      same-reading =
+          let w = found in
+          let p = w .start-is in
+          let q = w .end-is in
+          let x : at + i + w .size ≡ at + a = omega arith in
+          let y : e - a ≡ w .len = omega arith in
+          rw (x, y, drop-drop (w .size) i s, ← p) refl
+
+      -- x says whether the nested message is in its shortest form.
+      pub short-nested : (x : Bool) → x ≡ shortReading sc m (inner m (at + i) (at + a) (take (e - a) (drop a s))) → (f d : ℕ) → v ≡ Accepted f d
+          → ShortSoFar e (t && (b && x))
+      unfolding fieldsFrom afterStep
+      short-nested x g f d u =
+          let r = drop i s in
+          let w = found in
+          let k = nested-short sc n r (w .size) (w .len) m (w .is) in
+          let after = fieldsFrom sc inner n (now .fuel - 1) (at + i + w .size + w .len) (drop (w .size + w .len) r) in
+          let y = w .short-is ∙ k .0 in
+          let z = g ∙ ap (shortReading sc m) same-reading in
+          stepped (w .size) (w .len) e (b && x) (w .end-is) (step-inside-nested sc n r m (w .size) (w .len) (w .is) .0)
+          (rw (w .is)
+          (short-into sc n m (tagAt r) (take (w .size) r) nested-reading after (k .1) f d (ap verdict (sym same-reading) ∙ sym is ∙ u)
+          ∙ ap₂ (λ (p q : Bool). (p && q) && shortReading sc n after) (sym y) (sym z)))
+
+      pub short-nested-refused : (reason place : ℕ) → v ≡ Refused reason place → false ≡ whole-short
+      unfolding fieldsFrom afterStep
+      short-nested-refused reason place u =
+          let r = drop i s in
+          let w = found in
+          let after = fieldsFrom sc inner n (now .fuel - 1) (at + i + w .size + w .len) (drop (w .size + w .len) r) in
+          let f =
+          short-refused sc n (nested (tagAt r) (take (w .size) r)) nested-reading after reason place (ap verdict (sym same-reading) ∙ sym is ∙ u) in
+          let g = rw (w .is) at looked in
+          sym (g ∙ ap (λ (y : Bool). t && y) f ∙ and-false t)

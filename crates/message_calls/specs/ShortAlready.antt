@@ -1,0 +1,22 @@
+-- What document 02, item 2, asks of the check: it answers yes exactly where the shortener would give back the same octets. It is stated of any
+-- functions that say what the calls answer: the check's refusal and its answer whether the message is short, the shortener's answer, and the
+-- second buffer afterwards. The law `short-already` of this crate shows it of the functions that the contracts of the calls name.
+use Prim.Native.Nat.{ℕ}
+use mathlib.Core.Path.{_≡_}
+use mathlib.Core.Bool.{Bool, true, false}
+use mathlib.Core.List.{List, []}
+use mathlib.Core.Logic.{_↔_}
+use lib.ListN.{take}
+use Rattle.reading.specs.declared.Checked.{Checked}
+use Rattle.message_calls.specs.declared.Shortened.{Shortened}
+
+-- For all table octets, message numbers and messages.
+pub record ShortAlready (check : List ℕ → ℕ → List ℕ → Checked) (short : List ℕ → ℕ → List ℕ → Bool)
+    (shorten : List ℕ → ℕ → List ℕ → List ℕ → Shortened) (buffer : List ℕ → ℕ → List ℕ → List ℕ → List ℕ) : Type 0 where
+  -- A message that is refused is not short.
+  pub refused-not-short : (table : List ℕ) (n : ℕ) (s : List ℕ) → (check table n s .refusal ≡ 0 → ⊥) → short table n s ≡ false
+  -- Where the shortener has room, the message is short exactly if the octets that it writes are the message.
+  pub short-exactly : (table : List ℕ) (n : ℕ) (s out : List ℕ) → shorten table n s out .refusal ≡ 0
+      → (short table n s ≡ true) ↔ (take (shorten table n s out .length) (buffer table n s out) ≡ s)
+  -- An empty message is short.
+  pub empty-short : (table : List ℕ) (n : ℕ) → check table n [] .refusal ≡ 0 → short table n [] ≡ true
