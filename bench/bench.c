@@ -2,6 +2,7 @@
  *
  *   bench                        compare all answers, then time every row and both curves
  *   bench --compare              only compare the answers
+ *   bench --time                 compare the answers to the rows alone, without the result `shortest`, then time (compare.py)
  *   bench --list                 the rows: name, call, octets, fields
  *   bench --count ROW SIDE [N]   call a row N times (100 if not said). ROW is as a-meter-table-6:check, SIDE is library or plain.
  *                                It is for counting instructions (counts.py), so it compares and times nothing
@@ -42,7 +43,7 @@ struct row {
 
 struct side {
     const char *name;
-    uint64_t (*check)(const uint8_t *, size_t, uint64_t, const uint8_t *, size_t, uint64_t *, uint64_t *, uint64_t *);
+    uint64_t (*check)(const uint8_t *, size_t, uint64_t, const uint8_t *, size_t, uint64_t *, uint64_t *, uint64_t *, uint64_t *);
     uint64_t (*shorten)(const uint8_t *, size_t, uint64_t, const uint8_t *, size_t, uint8_t *, size_t, uint64_t *, uint64_t *);
     uint64_t (*tibmsg)(const uint8_t *, size_t, uint64_t *, uint64_t *, uint64_t *);
     uint64_t (*tibrv)(const uint8_t *, size_t, uint64_t *, uint64_t *, uint64_t *);
@@ -58,6 +59,7 @@ struct answer {
     uint64_t place;
     uint64_t first;
     uint64_t second;
+    uint64_t shortest;
 };
 
 static struct row rows[MAX_ROWS];
@@ -147,19 +149,30 @@ static void put_field(struct octets *to, unsigned tag, const void *contents, siz
     put(to, contents, len);
 }
 
-static void put_uint(struct octets *to, unsigned tag, uint64_t value)
+/* A uint on at least so many octets. Where that is 0 it has its shortest form; else its length stands on an octet of its own. */
+static void put_wide_uint(struct octets *to, unsigned tag, uint64_t value, size_t least)
 {
-    size_t count = octets_for(value);
-    put_control(to, tag, count, 0, 0);
+    size_t count = octets_for(value) < least ? least : octets_for(value);
+    put_control(to, tag, count, 0, least > 0);
     put_number(to, value, count);
 }
 
-/* An int of a size below 2^55, in its shortest form but for the lone negative powers of two, which the bench does not need. */
+static void put_uint(struct octets *to, unsigned tag, uint64_t value)
+{
+    put_wide_uint(to, tag, value, 0);
+}
+
+/* The same for an int of a size below 2^55. Lone negative powers of two are not in their shortest form; the bench needs none. */
+static void put_wide_int(struct octets *to, unsigned tag, int negative, uint64_t size, size_t least)
+{
+    size_t count = octets_for(size << 1) < least ? least : octets_for(size << 1);
+    put_control(to, tag, count, 0, least > 0);
+    put_number(to, negative && count > 0 ? size | (uint64_t)1 << (8 * count - 1) : size, count);
+}
+
 static void put_int(struct octets *to, unsigned tag, int negative, uint64_t size)
 {
-    size_t count = octets_for(size << 1);
-    put_control(to, tag, count, 0, 0);
-    put_number(to, negative && count > 0 ? size | (uint64_t)1 << (8 * count - 1) : size, count);
+    put_wide_int(to, tag, negative, size, 0);
 }
 
 static void put_record(struct octets *to, unsigned number, unsigned tag, enum kind kind, unsigned inner)
@@ -231,18 +244,20 @@ static struct octets kinds_table(void)
 
 /* ---- messages ---- */
 
-/* 82 fields: four of the message's own, and 26 readings of a register and a value. */
-static struct octets meter_message(void)
+/* 82 fields: four of the message's own, and 26 readings of a register and a value. Where it is wide, registers have two octets and
+ * the other numbers eight, and lengths stand on an octet of their own; else every field has its shortest form. */
+static struct octets meter_message(int wide)
 {
     struct octets message = room(LIMIT);
-    put_uint(&message, 1, 40871236);
-    put_uint(&message, 2, 1760000000);
+    size_t number = wide ? 8 : 0;
+    put_wide_uint(&message, 1, 40871236, number);
+    put_wide_uint(&message, 2, 1760000000, number);
     put_field(&message, 3, "kWh", 3);
     put_field(&message, 9, "\x07", 1);
     for (unsigned i = 0; i < 26; i++) {
         struct octets reading = room(32);
-        put_uint(&reading, 0, i);
-        put_int(&reading, 1, i % 4 == 3, 700 + random_below(i % 2 ? 90000 : 6000000));
+        put_wide_uint(&reading, 0, i, wide ? 2 : 0);
+        put_wide_int(&reading, 1, i % 4 == 3, 700 + random_below(i % 2 ? 90000 : 6000000), number);
         put_field(&message, 4, reading.data, reading.len);
         free(reading.data);
     }
@@ -504,12 +519,17 @@ static void add_hproto_rows(void)
     struct octets rising = full_table(0);
     struct octets shuffled = full_table(1);
     struct octets kinds = kinds_table();
-    struct octets meter = meter_message();
+    /* The wide reading draws the same numbers again, so the rows behind it do not depend on it. */
+    uint64_t state = random_state;
+    struct octets meter = meter_message(0);
+    random_state = state;
+    struct octets wide_meter = meter_message(1);
     add("load-0", CHECK, none, 0, none, 0);
     add("load-6", CHECK, six, 0, none, 0);
     add("load-64-rising", CHECK, rising, 14, none, 0);
     add("load-64-shuffled", CHECK, shuffled, 14, none, 0);
     add_both("a-meter-table-6", six, 0, meter);
+    add_both("a-meter-wide-table-6", six, 0, wide_meter);
     add_both("b-meter-table-64-rising", rising, 14, meter);
     add_both("b-meter-table-64-shuffled", shuffled, 14, meter);
     add_both("c-small-fields-64K", kinds, 0, small_fields(LIMIT));
@@ -576,14 +596,14 @@ static void add_curve_rows(void)
 
 static struct answer ask(const struct side *side, const struct row *row, uint8_t *out)
 {
-    struct answer answer = {77, 77, 77, 0};
+    struct answer answer = {77, 77, 77, 0, 77};
     const uint8_t *table = row->table.data;
     const uint8_t *message = row->message.data;
     size_t len = row->message.len;
     switch (row->call) {
     case CHECK:
         answer.refusal = side->check(table, row->table.len, row->number, message, len, &answer.place, &answer.first,
-                                     &answer.second);
+                                     &answer.second, &answer.shortest);
         break;
     case SHORTEN:
         answer.refusal = side->shorten(table, row->table.len, row->number, message, len, out, row->out_len, &answer.place,
@@ -610,14 +630,19 @@ __attribute__((noinline)) static uint64_t repeat(const struct side *side, const 
 
 static uint64_t compared;
 static uint64_t refused_with[32];
+static uint64_t short_checks[2]; /* accepted checks of messages that could be shortened, and of short ones */
+/* compare.py may link an archive from before crudvim_check had the result `shortest`. On x86-64 such a function does not see the
+ * pointer to it and leaves it unset, so what compare.py runs does not compare it. */
+static int compare_shortest = 1;
 
 static void show_difference(const struct row *row, const struct answer answers[2])
 {
     printf("the answers differ in %s (%s), table of %zu octets, number %llu, message of %zu octets, room %zu\n", row->name,
            call_names[row->call], row->table.len, (unsigned long long)row->number, row->message.len, row->out_len);
     for (int i = 0; i < 2; i++)
-        printf("  %-8s refusal %llu place %llu results %llu %llu\n", sides[i].name, (unsigned long long)answers[i].refusal,
-               (unsigned long long)answers[i].place, (unsigned long long)answers[i].first, (unsigned long long)answers[i].second);
+        printf("  %-8s refusal %llu place %llu results %llu %llu shortest %llu\n", sides[i].name,
+               (unsigned long long)answers[i].refusal, (unsigned long long)answers[i].place, (unsigned long long)answers[i].first,
+               (unsigned long long)answers[i].second, (unsigned long long)answers[i].shortest);
     printf("  table");
     for (size_t i = 0; i < row->table.len; i++)
         printf(" %02x", row->table.data[i]);
@@ -637,12 +662,16 @@ static struct answer compare(const struct row *row)
     for (int i = 0; i < 2; i++) {
         memset(outs[i], 0xa5, used);
         answers[i] = ask(&sides[i], row, outs[i]);
+        if (!compare_shortest)
+            answers[i].shortest = 0;
     }
     int same = memcmp(&answers[0], &answers[1], sizeof answers[0]) == 0 && memcmp(outs[0], outs[1], used) == 0;
     if (!same)
         show_difference(row, answers);
     compared++;
     refused_with[answers[0].refusal & 31]++;
+    if (row->call == CHECK && answers[0].refusal == CRUDVIM_ACCEPTED)
+        short_checks[answers[0].shortest & 1]++;
     return answers[0];
 }
 
@@ -876,7 +905,10 @@ static void compare_all(void)
     for (int i = 0; i < 32; i++)
         if (refused_with[i] > 0)
             printf(" %d:%llu", i, (unsigned long long)refused_with[i]);
-    printf("\n\n");
+    printf("\nhproto messages that the check accepted: %llu short already, %llu not\n\n", (unsigned long long)short_checks[1],
+           (unsigned long long)short_checks[0]);
+    if (short_checks[0] == 0 || short_checks[1] == 0)
+        fail("no short message, or none that is not");
 }
 
 /* What a row can only know from an answer: its count of fields, and the room that is just enough where none was said. */
@@ -995,6 +1027,7 @@ int main(int argc, char **argv)
         complete_all();
         compare_all();
     } else if (argc == 2 && strcmp(argv[1], "--time") == 0) {
+        compare_shortest = 0;
         complete_all();
         compare_rows();
         time_all();

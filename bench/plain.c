@@ -1,7 +1,8 @@
 /* The baseline of the bench: a plain C implementation of the check, the shortener and the two Tib checks.
  *
  * It is what a C programmer would write first and keep: one pass of recursion per task, a table that is searched from its start,
- * and a shortener that writes a nested message where it will most likely stand and moves it if its length needs more octets.
+ * and a shortener that writes a nested message where it will most likely stand and moves it if its length needs more octets. The
+ * check finds in its one pass whether a message is short already, and the shortener copies such a message.
  */
 #include "plain.h"
 
@@ -47,6 +48,7 @@ struct walk {
     uint64_t fields;
     uint64_t depth;
     uint64_t place;
+    int longer; /* some control part or number has more octets than it needs */
 };
 
 static uint64_t big_endian(const uint8_t *octets, size_t count)
@@ -87,7 +89,8 @@ static int record_good(const uint8_t *record)
     return record[7] <= (kind == MESSAGE ? 15 : 0);
 }
 
-static uint64_t load(struct table *table, const uint8_t *octets, size_t len, uint64_t *place)
+/* Not inlined, so that its loop has the registers for itself. */
+__attribute__((noinline)) static uint64_t load(struct table *table, const uint8_t *octets, size_t len, uint64_t *place)
 {
     table->count = 0;
     for (size_t at = 0; at < len; at += RECORD_SIZE) {
@@ -111,8 +114,10 @@ static uint64_t load(struct table *table, const uint8_t *octets, size_t len, uin
 
 /* ---- reading one field ---- */
 
-/* Reads the field that starts at `at`, which is before the end. Looks at its control part and its length, not at its contents. */
-static uint64_t read_field(const struct table *table, unsigned number, const uint8_t *at, const uint8_t *end, struct field *field)
+/* Reads the field that starts at `at`, which is before the end. Looks at its control part and its length, not at its contents. Always
+ * inlined: gcc would else call it for each field. */
+__attribute__((always_inline)) static inline uint64_t read_field(const struct table *table, unsigned number, const uint8_t *at,
+                                                                 const uint8_t *end, struct field *field)
 {
     size_t left = (size_t)(end - at);
     unsigned high = at[0] >> 4;
@@ -172,10 +177,44 @@ static int text_good(const uint8_t *at, size_t length)
 
 /* ---- the check ---- */
 
+/* Whether the control part at `at` has more octets than its tag and length need. Forms within one octet never have. */
+static inline int control_longer(const uint8_t *at, const struct field *field)
+{
+    static const uint64_t least[] = {12, 256, 65536, (uint64_t)1 << 32};
+    unsigned high = at[0] >> 4;
+    unsigned low = at[0] & 15;
+    if (high >= 14 && field->tag < (high == 14 ? 14 : 256))
+        return 1;
+    return low >= 12 && field->length < least[low - 12];
+}
+
+/* Whether an int has an octet more than it needs: a sign alone in front of a size that leaves the sign bit of the next octet free,
+ * or of a negative power of two, which that bit alone stands for. A sign and no size is the lowest number, and needs its octets. */
+static inline int int_longer(const uint8_t *contents, size_t length)
+{
+    if (length < 2)
+        return length == 1 && contents[0] == 0;
+    if ((contents[0] & 0x7f) != 0)
+        return 0;
+    if (contents[0] == 0)
+        return contents[1] < 0x80;
+    uint64_t size = big_endian(contents + 1, length - 1);
+    return size != 0 && size <= (uint64_t)1 << (8 * (length - 1) - 1);
+}
+
+/* Whether a uint or an int has more octets than it needs. */
+static inline int number_longer(const struct field *field)
+{
+    if (field->kind == INT)
+        return int_longer(field->contents, field->length);
+    return field->length > 0 && field->contents[0] == 0;
+}
+
 /* Not to be inlined into itself: gcc would make copies for the outer depths that read a field by a call, a quarter slower. */
 __attribute__((noinline)) static uint64_t check_message(struct walk *walk, unsigned number, const uint8_t *at, const uint8_t *end,
                                                         unsigned depth)
 {
+    int longer = 0;
     if (depth > walk->depth)
         walk->depth = depth;
     while (at < end) {
@@ -190,6 +229,8 @@ __attribute__((noinline)) static uint64_t check_message(struct walk *walk, unsig
                 refusal = CRUDVIM_TOO_DEEP;
             else if ((field.kind == UINT || field.kind == INT) && field.length > 8)
                 refusal = CRUDVIM_NUMBER_TOO_WIDE;
+            else if (field.kind == UINT || field.kind == INT)
+                longer |= number_longer(&field);
             else if (field.kind == TEXT && !text_good(field.contents, field.length))
                 refusal = CRUDVIM_TEXT;
         }
@@ -197,9 +238,11 @@ __attribute__((noinline)) static uint64_t check_message(struct walk *walk, unsig
             walk->place = (uint64_t)(at - walk->start);
             return refusal;
         }
+        longer |= control_longer(at, &field);
         walk->fields++;
         at = field.contents + field.length;
     }
+    walk->longer |= longer;
     return CRUDVIM_ACCEPTED;
 }
 
@@ -212,6 +255,7 @@ static uint64_t load_and_check(struct table *table, struct walk *walk, const uin
     walk->fields = 0;
     walk->depth = 0;
     walk->place = 0;
+    walk->longer = 0;
     if (message_len > MESSAGE_LIMIT)
         return CRUDVIM_TOO_LONG;
     uint64_t refusal = load(table, octets, octets_len, &walk->place);
@@ -223,7 +267,7 @@ static uint64_t load_and_check(struct table *table, struct walk *walk, const uin
 }
 
 uint64_t plain_check(const uint8_t *octets, size_t octets_len, uint64_t number, const uint8_t *message, size_t message_len,
-                     uint64_t *place, uint64_t *fields, uint64_t *depth)
+                     uint64_t *place, uint64_t *fields, uint64_t *depth, uint64_t *shortest)
 {
     struct table table;
     struct walk walk;
@@ -231,6 +275,7 @@ uint64_t plain_check(const uint8_t *octets, size_t octets_len, uint64_t number, 
     *place = walk.place;
     *fields = refusal == CRUDVIM_ACCEPTED ? walk.fields : 0;
     *depth = refusal == CRUDVIM_ACCEPTED ? walk.depth : 0;
+    *shortest = refusal == CRUDVIM_ACCEPTED && !walk.longer;
     return refusal;
 }
 
@@ -350,8 +395,16 @@ uint64_t plain_shorten(const uint8_t *octets, size_t octets_len, uint64_t number
     *place = walk.place;
     if (refusal != CRUDVIM_ACCEPTED)
         return refusal;
-    /* The shortest form is never longer than the message, so only a smaller buffer makes the measuring needed. */
     const uint8_t *end = message + message_len;
+    if (!walk.longer) {
+        if (out_len < message_len)
+            return CRUDVIM_NO_ROOM;
+        if (message_len > 0)
+            memcpy(out, message, message_len);
+        *length = message_len;
+        return CRUDVIM_ACCEPTED;
+    }
+    /* The shortest form is never longer than the message, so only a smaller buffer makes the measuring needed. */
     if (out_len < message_len && short_length(&table, (unsigned)number, message, end) > out_len)
         return CRUDVIM_NO_ROOM;
     *length = (uint64_t)(write_short(&table, (unsigned)number, message, end, out) - out);

@@ -1,6 +1,10 @@
-/* Reads frames from standard input, checks each message under a field table, shortens it, and writes it in a frame to standard output.
+/* Reads frames from standard input, checks each message under a field table, and writes its shortest form in a frame to standard
+ * output.
  *
  *     concentrator TABLE-FILE [MESSAGE-NUMBER] < frames > shortened-frames
+ *
+ * A message that is in its shortest form already is passed on from the input buffer; any other is shortened first. The last line on
+ * standard error counts both under "shortened", and the first of them again under "already short".
  *
  * A message that is refused is left out and reported on standard error, with the refusal's number, its meaning and its place. Frames
  * have no mark by which a start could be found: after a refused message the next frame follows where the prefix says, and where a
@@ -23,8 +27,15 @@ struct stream {
     uint64_t past; /* octets that were dropped from the buffer's front so far */
 };
 
+/* What the messages are read under: the octets of a field table, and a message number. */
+struct rules {
+    const uint8_t *table;
+    size_t length;
+    uint64_t number;
+};
+
 struct counts {
-    uint64_t frames, shortened, refused, skipped, octets_in, octets_out;
+    uint64_t frames, shortened, already_short, refused, skipped, octets_in, octets_out;
 };
 
 static void drop_front(struct stream *in, size_t n)
@@ -58,13 +69,22 @@ static int put_frame(const uint8_t *message, size_t length, struct counts *c)
     return fwrite(frame, 1, framed, stdout) == framed;
 }
 
-/* A whole frame stands at the buffer's front. */
-static int take_frame(const struct stream *in, uint64_t start, uint64_t end, const uint8_t *table, size_t table_length,
-                      uint64_t number, struct counts *c)
+/* The check accepted the message, and the buffer takes every message, so the shortener accepts too. */
+static int put_shortened(const uint8_t *message, size_t length, const struct rules *rules, struct counts *c)
 {
     static uint8_t out[MESSAGE_MOST];
-    uint64_t place, length;
-    uint64_t refusal = crudvim_shorten(table, table_length, number, in->octets + start, end - start, out, sizeof out, &place, &length);
+    uint64_t place, least;
+    uint64_t refusal = crudvim_shorten(rules->table, rules->length, rules->number, message, length, out, sizeof out, &place, &least);
+    return refusal == CRUDVIM_ACCEPTED && put_frame(out, least, c);
+}
+
+/* A whole frame stands at the buffer's front. */
+static int take_frame(const struct stream *in, uint64_t start, uint64_t end, const struct rules *rules, struct counts *c)
+{
+    const uint8_t *message = in->octets + start;
+    size_t length = end - start;
+    uint64_t place, fields, depth, shortest;
+    uint64_t refusal = crudvim_check(rules->table, rules->length, rules->number, message, length, &place, &fields, &depth, &shortest);
     c->frames++;
     c->octets_in += end;
     if (refusal != CRUDVIM_ACCEPTED) {
@@ -73,7 +93,8 @@ static int take_frame(const struct stream *in, uint64_t start, uint64_t end, con
         return 1;
     }
     c->shortened++;
-    return put_frame(out, length, c);
+    c->already_short += shortest;
+    return shortest ? put_frame(message, length, c) : put_shortened(message, length, rules, c);
 }
 
 /* A prefix that is cut, or contents that are, may be whole once more is read. */
@@ -93,7 +114,7 @@ static void skip(struct stream *in, uint64_t refusal, uint64_t place, struct cou
     drop_front(in, n);
 }
 
-static int run(struct stream *in, const uint8_t *table, size_t table_length, uint64_t number, struct counts *c)
+static int run(struct stream *in, const struct rules *rules, struct counts *c)
 {
     while (in->held > 0 || !in->ended) {
         uint64_t place, start, end;
@@ -103,7 +124,7 @@ static int run(struct stream *in, const uint8_t *table, size_t table_length, uin
         } else if (refusal != CRUDVIM_ACCEPTED) {
             skip(in, refusal, place, c);
         } else {
-            if (!take_frame(in, start, end, table, table_length, number, c))
+            if (!take_frame(in, start, end, rules, c))
                 return 0;
             drop_front(in, end);
         }
@@ -125,10 +146,10 @@ static size_t read_table(const char *name, uint8_t *table)
 }
 
 /* A table or a number that is refused would refuse every message: it is found with an empty one. */
-static void check_table(const uint8_t *table, size_t length, uint64_t number)
+static void check_table(const struct rules *rules)
 {
-    uint64_t place, fields, depth;
-    uint64_t refusal = crudvim_check(table, length, number, NULL, 0, &place, &fields, &depth);
+    uint64_t place, fields, depth, shortest;
+    uint64_t refusal = crudvim_check(rules->table, rules->length, rules->number, NULL, 0, &place, &fields, &depth, &shortest);
     if (refusal != CRUDVIM_ACCEPTED) {
         fprintf(stderr, "table: refused %" PRIu64 " at %" PRIu64 " (%s)\n", refusal, place, crudvim_refusal_text(refusal));
         exit(2);
@@ -139,21 +160,21 @@ int main(int argc, char **argv)
 {
     static struct stream in;
     static uint8_t table[TABLE_MOST + 1];
-    struct counts c = {0, 0, 0, 0, 0, 0};
-    uint64_t number = argc > 2 ? strtoull(argv[2], NULL, 10) : 0;
-    size_t table_length;
+    struct counts c = {0, 0, 0, 0, 0, 0, 0};
+    struct rules rules = {table, 0, argc > 2 ? strtoull(argv[2], NULL, 10) : 0};
     if (argc < 2 || argc > 3) {
         fprintf(stderr, "usage: %s TABLE-FILE [MESSAGE-NUMBER] < frames > shortened-frames\n", argv[0]);
         return 2;
     }
-    table_length = read_table(argv[1], table);
-    check_table(table, table_length, number);
-    if (!run(&in, table, table_length, number, &c) || fflush(stdout) != 0) {
+    rules.length = read_table(argv[1], table);
+    check_table(&rules);
+    if (!run(&in, &rules, &c) || fflush(stdout) != 0) {
         perror("standard output");
         return 1;
     }
     fprintf(stderr,
-            "frames %" PRIu64 " shortened %" PRIu64 " refused %" PRIu64 " octets in %" PRIu64 " out %" PRIu64 " skipped %" PRIu64 "\n",
-            c.frames, c.shortened, c.refused, c.octets_in, c.octets_out, c.skipped);
+            "frames %" PRIu64 " shortened %" PRIu64 " refused %" PRIu64 " octets in %" PRIu64 " out %" PRIu64 " skipped %" PRIu64
+            " already short %" PRIu64 "\n",
+            c.frames, c.shortened, c.refused, c.octets_in, c.octets_out, c.skipped, c.already_short);
     return 0;
 }

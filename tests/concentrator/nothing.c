@@ -17,9 +17,15 @@ int main(void)
 {
     uint64_t a = 99, b = 99, c = 99, d = 99, e = 99, f = 99, g = 99, h = 99, i = 99, j = 99;
     int64_t s = 99;
-    expect("check", crudvim_check(NULL, 0, 0, NULL, 0, &a, &b, &c), CRUDVIM_ACCEPTED);
+    expect("check", crudvim_check(NULL, 0, 0, NULL, 0, &a, &b, &c, &d), CRUDVIM_ACCEPTED);
+    expect("check place", a, 0);
     expect("check fields", b, 0);
     expect("check depth", c, 1);
+    expect("check shortest", d, 1);
+    a = b = c = d = 99;
+    expect("check of number 16", crudvim_check(NULL, 0, 16, NULL, 0, &a, &b, &c, &d), CRUDVIM_TABLE);
+    expect("check of number 16: its results", a | b | c | d, 0);
+    a = b = c = d = 99;
     expect("shorten", crudvim_shorten(NULL, 0, 0, NULL, 0, NULL, 0, &a, &b), CRUDVIM_ACCEPTED);
     expect("shorten length", b, 0);
     expect("shorten into nothing", crudvim_shorten(NULL, 0, 0, (const uint8_t *)"\xc0", 1, NULL, 0, &a, &b), CRUDVIM_NO_ROOM);

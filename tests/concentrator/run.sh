@@ -1,7 +1,8 @@
 #!/usr/bin/env bash
 # Builds the C example with every warning an error, installs the library into a scratch folder and builds against that, and runs the
-# example on a stored stream with damaged frames, README's program, calls with null pointers under valgrind, and the measurement of the
-# stack; and looks at what the archive needs. It needs target/staticlib/libcrudvim.a, which `rt staticlib crudvim` makes.
+# example on two stored streams, one with damaged frames and one with messages in short and in longer forms, README's program, calls with
+# null pointers under valgrind, and the measurement of the stack; and looks at what the archive needs. It needs
+# target/staticlib/libcrudvim.a, which `rt staticlib crudvim` makes.
 set -eu
 cd "$(dirname "$0")/../.."
 here=tests/concentrator
@@ -18,13 +19,17 @@ else
     echo "no g++: the header is not tried as C++"
 fi
 
+# Runs the example on a stream, and compares every octet that it writes and every line that it reports.
+try_stream() {
+    python3 $here/unhex.py < "$here/$1.hex" > "$work/stream"
+    python3 $here/unhex.py < "$here/$2.hex" > "$work/expected"
+    "$work/concentrator" "$work/table" < "$work/stream" > "$work/output" 2> "$work/report"
+    cmp "$work/expected" "$work/output"
+    diff "$here/$2.txt" "$work/report"
+}
 python3 $here/unhex.py < $here/table.hex > "$work/table"
-python3 $here/unhex.py < $here/stream.hex > "$work/stream"
-python3 $here/unhex.py < $here/expected.hex > "$work/expected"
-
-"$work/concentrator" "$work/table" < "$work/stream" > "$work/output" 2> "$work/report"
-cmp "$work/expected" "$work/output"
-diff $here/expected.txt "$work/report"
+try_stream stream expected
+try_stream forms forms-expected
 
 # The program in README.md.
 sed -n '/^```c$/,/^```$/p' README.md | sed '1d;$d' > "$work/readme.c"

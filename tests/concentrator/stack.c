@@ -11,17 +11,20 @@
 
 enum { STACK = 1 << 18, FILL = 0xa5, MARGIN = 256 };
 
-static uint8_t nest[65536], shorter[65536], tib[65536];
+static uint8_t nest[65536], least[65536], shorter[65536], tib[65536];
 static uint64_t a, b, c, d, e, f, g, h, i, j;
 static int64_t s;
 
 /* Tag 1 of message 0 is message 0, tag 2 an int, tag 3 text, tag 16 a uint. A table with a tag from 16 on takes the most stack. */
 static const uint8_t table[] = {1, 0, 5, 0, 0, 1, 5, 0, 1, 0, 5, 0, 0, 2, 2, 0, 1, 0, 5, 0, 0, 3, 4, 0, 1, 0, 5, 0, 0, 16, 1, 0};
 static size_t nest_length, tib_length;
+static uint64_t least_length;
 
-static void *check(void *x) { crudvim_check(table, sizeof table, 0, nest, nest_length, &a, &b, &c); return x; }
+static void *check(void *x) { crudvim_check(table, sizeof table, 0, nest, nest_length, &a, &b, &c, &d); return x; }
+static void *check_least(void *x) { crudvim_check(table, sizeof table, 0, least, least_length, &a, &b, &c, &d); return x; }
 static void *shorten(void *x) { crudvim_shorten(table, sizeof table, 0, nest, nest_length, shorter, nest_length / 2, &a, &b); return x; }
 static void *shorten_all(void *x) { crudvim_shorten(table, sizeof table, 0, nest, nest_length, shorter, nest_length, &a, &b); return x; }
+static void *shorten_least(void *x) { crudvim_shorten(table, sizeof table, 0, least, least_length, shorter, least_length, &a, &b); return x; }
 static void *frame_read(void *x) { crudvim_frame_read((const uint8_t *)"\xff\0\0\0\0\0\0\0\0", 9, &a, &b, &c); return x; }
 static void *frame_write(void *x) { crudvim_frame_write(nest, nest_length, shorter, sizeof shorter, &a, &b); return x; }
 static void *lookup(void *x) { crudvim_lookup(table, sizeof table, 0, nest, nest_length, 1, 0, &a, &b, &c, &s, &d, &e); return x; }
@@ -83,6 +86,16 @@ static void fill_nest(void)
     memmove(nest, nest + at, nest_length);
 }
 
+/* The shortest form of the nested message. Answers whether the check says that this one is short and the nested one is not, so that
+ * the shortener copies the one and writes the other. */
+static int fill_least(void)
+{
+    uint64_t refusal = crudvim_shorten(table, sizeof table, 0, nest, nest_length, least, sizeof least, &a, &least_length);
+    if (refusal != 0 || crudvim_check(table, sizeof table, 0, nest, nest_length, &a, &b, &c, &d) != 0 || c != 8 || d != 0)
+        return 0;
+    return crudvim_check(table, sizeof table, 0, least, least_length, &a, &b, &c, &d) == 0 && c == 8 && d == 1;
+}
+
 /* Eight levels of TibrvMsg: a header and one field of type 1. */
 static void fill_tib(void)
 {
@@ -106,15 +119,16 @@ static void fill_tib(void)
 int main(int argc, char **argv)
 {
     static const struct { const char *name; void *(*call)(void *); } entries[] = {
-        {"crudvim_check", check}, {"crudvim_shorten", shorten_all}, {"crudvim_shorten, measured first", shorten},
+        {"crudvim_check", check}, {"crudvim_check, short already", check_least}, {"crudvim_shorten", shorten_all},
+        {"crudvim_shorten, measured first", shorten}, {"crudvim_shorten, short already", shorten_least},
         {"crudvim_frame_read", frame_read}, {"crudvim_frame_write", frame_write}, {"crudvim_lookup", lookup},
         {"crudvim_lookup_last", lookup_last}, {"crudvim_tibmsg_check", tibmsg_check}, {"crudvim_tibmsg_field", tibmsg_field},
         {"crudvim_tibrv_check", tibrv_check}, {"crudvim_tibrv_field", tibrv_field}, {"crudvim_fractions", fractions}};
     size_t limit = argc > 1 ? strtoul(argv[1], NULL, 10) : STACK, most = 0;
     fill_nest();
     fill_tib();
-    if (crudvim_check(table, sizeof table, 0, nest, nest_length, &a, &b, &c) != 0 || c != 8)
-        return printf("the nested message is not eight deep\n"), 2;
+    if (!fill_least())
+        return printf("the nested message is not eight deep, or short, or its shortest form is not\n"), 2;
     if (crudvim_tibrv_check(tib, tib_length, &a, &b, &c) != 0 || c != 8)
         return printf("the TibrvMsg is not eight deep\n"), 2;
     for (size_t k = 0; k < sizeof entries / sizeof entries[0]; k++) {

@@ -36,7 +36,7 @@ enum entry {
     ENTRIES
 };
 
-static const unsigned result_counts[ENTRIES] = {2, 1, 5, 5, 2, 1, 2, 9, 2, 5, 1};
+static const unsigned result_counts[ENTRIES] = {3, 1, 5, 5, 2, 1, 2, 9, 2, 5, 1};
 
 enum placement { EXACT, BEFORE_A_PAGE, AFTER_A_PAGE, PLACEMENTS };
 
@@ -156,7 +156,7 @@ static uint64_t call(const struct input *in, const uint8_t *t, const uint8_t *m,
     size_t tl = in->table_len, ml = in->message_len;
     uint64_t bits = 0;
     switch (in->entry) {
-    case CHECK: return crudvim_check(t, tl, in->number, m, ml, p, r, r + 1);
+    case CHECK: return crudvim_check(t, tl, in->number, m, ml, p, r, r + 1, r + 2);
     case SHORTEN: return crudvim_shorten(t, tl, in->number, m, ml, out, in->room, p, r);
     case LOOKUP:
         return crudvim_lookup(t, tl, in->number, m, ml, in->first, in->second, p, r, r + 1, (int64_t *)(r + 2), r + 3, r + 4);
@@ -232,16 +232,37 @@ static int same_answer(const struct answer *one, const struct answer *other, uns
 
 /* What holds of the accepted calls of each entry. */
 
+/* The check of a message and of its shortest form, of `length` octets: the counts are the same, the shortest form is short, and the
+ * message is short exactly where it is its own shortest form. */
+static void compare_checks(const struct input *in, const uint8_t *shortest, size_t length)
+{
+    struct input message = *in, shortened = *in;
+    message.entry = shortened.entry = CHECK;
+    message.room = shortened.room = 0;
+    shortened.message = shortest;
+    shortened.message_len = length;
+    struct answer counts = ask(&message, NULL), short_counts = ask(&shortened, NULL);
+    int unchanged = length == in->message_len && same(shortest, in->message, length);
+    HOLDS(counts.refusal == CRUDVIM_ACCEPTED && same_answer(&counts, &short_counts, 2));
+    HOLDS(counts.results[2] == (unchanged ? 1 : 0));
+    HOLDS(short_counts.results[2] == 1);
+}
+
 static void after_check(const struct input *in, const struct answer *answer)
 {
     HOLDS(answer->results[0] <= in->message_len);
     HOLDS(answer->results[1] >= 1 && answer->results[1] <= 8);
+    HOLDS(answer->results[2] <= 1);
     struct input shorten = *in;
     shorten.entry = SHORTEN;
     shorten.room = in->message_len;
-    struct answer short_answer = ask(&shorten, NULL);
+    uint8_t *written = malloc(in->message_len + 1);
+    HOLDS(written != NULL);
+    struct answer short_answer = ask(&shorten, written);
     HOLDS(short_answer.refusal == CRUDVIM_ACCEPTED);
     HOLDS(short_answer.results[0] <= in->message_len);
+    compare_checks(in, written, short_answer.results[0]);
+    free(written);
 }
 
 /* The tag of the first word means the same in the message and in the shortened one. */
@@ -259,14 +280,10 @@ static void after_shorten(const struct input *in, const struct answer *answer, c
     size_t length = answer->results[0];
     HOLDS(length <= in->message_len && length <= in->room);
     HOLDS(is_poison(written, length, in->room));
-    struct input shortened = *in, check = *in;
+    compare_checks(in, written, length);
+    struct input shortened = *in;
     shortened.message = written;
     shortened.message_len = length;
-    shortened.room = 0;
-    check.entry = shortened.entry = CHECK;
-    check.room = 0;
-    struct answer counts = ask(&check, NULL), short_counts = ask(&shortened, NULL);
-    HOLDS(counts.refusal == CRUDVIM_ACCEPTED && same_answer(&counts, &short_counts, 2));
     compare_lookups(in, &shortened);
     shortened.entry = SHORTEN;
     shortened.room = length;

@@ -87,8 +87,8 @@ impl Call {
     /// How many results the entry has after the place.
     pub fn result_count(&self) -> usize {
         match self {
-            Call::Check(_) | Call::FrameRead { .. } => 2,
-            Call::TibmsgCheck { .. } | Call::TibrvCheck { .. } => 2,
+            Call::Check(_) => 3,
+            Call::FrameRead { .. } | Call::TibmsgCheck { .. } | Call::TibrvCheck { .. } => 2,
             Call::Shorten { .. } | Call::FrameWrite { .. } | Call::Fractions { .. } => 1,
             Call::Lookup { .. } | Call::LookupLast { .. } | Call::TibrvField { .. } => 5,
             Call::TibmsgField { .. } => 9,
@@ -119,7 +119,7 @@ impl Call {
     /// The results of the entries that are lent no buffer.
     fn results(&self) -> Result<Vec<u64>, Refusal> {
         match self {
-            Call::Check(on) => message::check(&on.table, on.number, &on.message).map(pair),
+            Call::Check(on) => message::check(&on.table, on.number, &on.message).map(checked),
             Call::Lookup { on, tag, k } => lookup::kth(&on.table, on.number, &on.message, *tag, *k).map(found),
             Call::LookupLast { on, tag } => lookup::last(&on.table, on.number, &on.message, *tag).map(found),
             Call::FrameRead { buffer } => frame::read(buffer).map(|(start, end)| vec![start as u64, end as u64]),
@@ -190,6 +190,10 @@ fn put_in_front(out: &mut [u8], octets: &[u8]) -> Vec<u64> {
 
 fn pair((first, second): (u64, u64)) -> Vec<u64> {
     vec![first, second]
+}
+
+fn checked((fields, depth, short): (u64, u64, bool)) -> Vec<u64> {
+    vec![fields, depth, u64::from(short)]
 }
 
 fn found(found: Found) -> Vec<u64> {

@@ -15,6 +15,7 @@ mod c {
             place: *mut u64,
             fields: *mut u64,
             depth: *mut u64,
+            shortest: *mut u64,
         ) -> u64;
         pub fn crudvim_shorten(
             table: *const u8,
@@ -199,14 +200,15 @@ pub fn call(call: &Call, poison: &[u8], rng: &mut Rng) -> Result<Outcome, String
     Ok(Outcome { refusal, place: results.all[0], results: results.all[1..results.used].to_vec(), out: out.contents().to_vec() })
 }
 
-/// The check of a message of number 0 with no guard octets, for loops of many calls: refusal, place, fields and depth.
-pub fn only_check(table: &[u8], message: &[u8]) -> [u64; 4] {
-    let mut results = [u64::MAX; 3];
-    let [place, fields, depth] = &mut results;
+/// The check of a message of number 0 with no guard octets, for loops of many calls: refusal, place, fields, depth and shortest.
+pub fn only_check(table: &[u8], message: &[u8]) -> [u64; 5] {
+    let mut results = [u64::MAX; 4];
+    let [place, fields, depth, shortest] = &mut results;
     // The pointers are to live, separate memory of the given lengths, as the header asks.
-    let refusal =
-        unsafe { c::crudvim_check(table.as_ptr(), table.len(), 0, message.as_ptr(), message.len(), place, fields, depth) };
-    [refusal, results[0], results[1], results[2]]
+    let refusal = unsafe {
+        c::crudvim_check(table.as_ptr(), table.len(), 0, message.as_ptr(), message.len(), place, fields, depth, shortest)
+    };
+    [refusal, results[0], results[1], results[2], results[3]]
 }
 
 type Input<'a> = (&'static str, &'a [u8]);
@@ -248,8 +250,20 @@ fn make(call: &Call, first: &mut Lent, second: &mut Lent, out: &mut Lent, result
 // In each of these the pointers are to live, separate memory of the given lengths, as the header asks.
 
 fn check(on: &Hproto, table: &mut Lent, message: &mut Lent, results: &mut Results) -> u64 {
-    let [place, fields, depth] = results.pointers();
-    unsafe { c::crudvim_check(table.pointer(), table.length, on.number, message.pointer(), message.length, place, fields, depth) }
+    let [place, fields, depth, shortest] = results.pointers();
+    unsafe {
+        c::crudvim_check(
+            table.pointer(),
+            table.length,
+            on.number,
+            message.pointer(),
+            message.length,
+            place,
+            fields,
+            depth,
+            shortest,
+        )
+    }
 }
 
 fn shorten(on: &Hproto, table: &mut Lent, message: &mut Lent, out: &mut Lent, results: &mut Results) -> u64 {

@@ -6,6 +6,7 @@
 pub mod corpus;
 pub mod damage;
 pub mod exhaustive;
+pub mod forms;
 pub mod frames;
 pub mod hproto;
 pub mod reals;

@@ -16,6 +16,9 @@ pub static CURRENT_CASE: AtomicU64 = AtomicU64::new(NO_CASE);
 /// How many refusal numbers there are, with 0 for accepted.
 const NUMBERS: usize = 19;
 const PATHS: usize = 24;
+/// The check's number among the entries, and what is added to the depth of a short message for its kind of answer.
+const CHECK: usize = 0;
+const SHORT: usize = 9;
 
 /// Counts per entry: of each refusal number, and of each kind of accepted answer.
 #[derive(Clone, Default)]
@@ -58,6 +61,14 @@ impl Tally {
             }
             println!();
         }
+        let [longer, short] = self.short_messages();
+        println!("accepted messages that the check called short: {short}, that it did not: {longer}");
+    }
+
+    /// How many messages that the check accepts could be shortened, and how many were short.
+    fn short_messages(&self) -> [u64; 2] {
+        let counts = &self.paths[CHECK];
+        [counts[..SHORT].iter().sum(), counts[SHORT..].iter().sum()]
     }
 
     /// What has to be reached and was not. The refusals 8, 10, 11 and 12 are the writer's, which has no C entry.
@@ -80,7 +91,7 @@ impl Tally {
 /// The refusal numbers (0 for accepted) and the kinds of accepted answers that an entry has to reach.
 fn wanted(entry: &str) -> (&'static [usize], &'static [usize]) {
     match entry {
-        "check" => (&[0, 1, 2, 3, 4, 5, 6, 7], &[1, 2, 3, 4, 5, 6, 7, 8]),
+        "check" => (&[0, 1, 2, 3, 4, 5, 6, 7], &[1, 2, 3, 4, 5, 6, 7, 8, 10, 11, 12, 13, 14, 15, 16, 17]),
         "shorten" => (&[0, 1, 2, 3, 4, 5, 6, 7, 9], &[0, 1]),
         "lookup" | "lookup_last" => (&[0, 1, 2, 3, 4, 5, 6, 7, 18], &[0, 1, 2, 3, 4, 5]),
         "frame_read" => (&[0, 1, 3, 4], &[1, 2, 3, 5, 9]),
@@ -100,7 +111,8 @@ fn wanted(entry: &str) -> (&'static [usize], &'static [usize]) {
 fn path(call: &Call, outcome: &Outcome) -> usize {
     let results = &outcome.results;
     let path = match call {
-        Call::Check(_) | Call::TibrvCheck { .. } => results[1],
+        Call::Check(_) => results[1] + results[2] * SHORT as u64,
+        Call::TibrvCheck { .. } => results[1],
         Call::Shorten { on, .. } => u64::from(results[0] < on.message.len() as u64),
         Call::Lookup { .. } | Call::LookupLast { .. } => results[0],
         Call::FrameRead { .. } => results[0],
@@ -118,6 +130,7 @@ fn path(call: &Call, outcome: &Outcome) -> usize {
 
 fn path_name(entry: usize, index: usize) -> String {
     match ENTRIES[entry] {
+        "check" if index >= SHORT => format!("depth {} short", index - SHORT),
         "check" | "tibrv_check" => format!("depth {index}"),
         "shorten" => ["same length", "shorter"][index].to_string(),
         "lookup" | "lookup_last" => ["raw", "uint", "int", "string", "text", "message"][index].to_string(),

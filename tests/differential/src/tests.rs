@@ -13,9 +13,19 @@ fn at<T>(number: u64, place: u64) -> Answer<T> {
     Err(Refusal { number, place })
 }
 
-/// The check's answer for a message of number 0.
+/// The fields and the depth of a message of number 0.
 fn check(table: &str, octets_of_message: &str) -> Answer<(u64, u64)> {
-    message::check(&entries(table), 0, &octets(octets_of_message))
+    counts(&entries(table), &octets(octets_of_message))
+}
+
+/// The same from octets.
+fn counts(table: &[u8], message: &[u8]) -> Answer<(u64, u64)> {
+    message::check(table, 0, message).map(|(fields, depth, _)| (fields, depth))
+}
+
+/// Whether an accepted message of number 0 is short.
+fn is_short(table: &str, octets_of_message: &str) -> bool {
+    message::check(&entries(table), 0, &octets(octets_of_message)).unwrap().2
 }
 
 /// The shortened message of number 0.

@@ -49,6 +49,6 @@ fn run_family(family: &Family, seed: u64, first: u64, counts: &mut Counts) -> Re
     Ok(())
 }
 
-fn outcome([refusal, place, fields, depth]: [u64; 4]) -> Outcome {
-    Outcome { refusal, place, results: vec![fields, depth], out: vec![] }
+fn outcome([refusal, place, fields, depth, shortest]: [u64; 5]) -> Outcome {
+    Outcome { refusal, place, results: vec![fields, depth, shortest], out: vec![] }
 }

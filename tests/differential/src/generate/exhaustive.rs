@@ -1,7 +1,7 @@
 //! Small inputs in full: every one of a family is a case of its own, whatever the seed.
 
 use super::samples::{entries, octets};
-use super::short_texts;
+use super::{forms, short_texts};
 use crate::call::{Call, Hproto};
 use std::sync::OnceLock;
 
@@ -11,9 +11,12 @@ const TEXTS: u64 = TEXT_LIMITS.pow(4);
 
 type Family = (u64, fn(u64) -> Vec<Call>);
 
-const FAMILIES: [Family; 11] = [
+const FAMILIES: [Family; 14] = [
     (1 + 256 + TWO_OCTETS, short_message),
     (TWO_OCTETS, signed_number),
+    (forms::ALL_BUT_ONE, all_but_one),
+    (forms::NUMBERS, number_at_limits),
+    (forms::CONTROLS, control_at_limits),
     (TEXTS, text),
     (TWO_OCTETS, tibmsg_type_and_size),
     (3 * TWO_OCTETS, tibmsg_hint),
@@ -48,7 +51,11 @@ fn table() -> &'static [u8] {
 }
 
 fn check_and_shorten(message: &[u8]) -> Vec<Call> {
-    let on = Hproto { table: table().into(), number: 0, message: message.into() };
+    check_and_shorten_under(table(), message)
+}
+
+fn check_and_shorten_under(table: &[u8], message: &[u8]) -> Vec<Call> {
+    let on = Hproto { table: table.into(), number: 0, message: message.into() };
     vec![Call::Check(on.clone()), Call::Shorten { on, room: message.len() }]
 }
 
@@ -69,6 +76,20 @@ fn signed_number(number: u64) -> Vec<Call> {
     let on = Hproto { table: table().into(), number: 0, message: message[..].into() };
     calls.push(Call::Lookup { on, tag: 1, k: 0 });
     calls
+}
+
+/// Messages that are short but for one control part or one number.
+fn all_but_one(number: u64) -> Vec<Call> {
+    check_and_shorten_under(forms::table(), &forms::all_but_one(number))
+}
+
+fn number_at_limits(number: u64) -> Vec<Call> {
+    check_and_shorten_under(forms::table(), &forms::number_at_limits(number))
+}
+
+fn control_at_limits(number: u64) -> Vec<Call> {
+    let (table, message) = forms::control_at_limits(number);
+    check_and_shorten_under(&table, &message)
 }
 
 /// Texts of four octets at the limits of what text allows. All shorter ones are in `short_texts`, for the check alone.

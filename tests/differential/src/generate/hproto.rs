@@ -1,7 +1,7 @@
 //! Cases for the check, the shortener and lookup.
 
 use super::trees::{self, Maker, Style};
-use super::{damage, tables, texts};
+use super::{damage, forms, tables, texts};
 use crate::call::{Call, Hproto};
 use crate::oracle::message::{self, Field, Value};
 use crate::oracle::shorten::shortest;
@@ -22,6 +22,15 @@ pub fn random(rng: &mut Rng) -> Vec<Call> {
         86..=125 => {
             table = TEXT_TABLE.to_vec();
             long_text(rng)
+        }
+        126..=155 => {
+            let fields = good_tree(rng, &tables::loaded(&table), number);
+            forms::almost_short(rng, &fields)
+        }
+        156..=185 => {
+            table = self_nested_table(rng);
+            let fields = forms::deep_tree(rng);
+            forms::almost_short(rng, &fields)
         }
         _ => some_message(rng, &tables::loaded(&table), number),
     };

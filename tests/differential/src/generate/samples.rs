@@ -319,6 +319,9 @@ fn message_limits() -> Vec<Sample> {
     }
     let inner = large_field(0x20, 65_526 - 12);
     messages.push([large_field_with(0x10, &inner), vec![0x20]].concat());
+    // One inside another, as large as may be: short, and with an octet in the inner length that is not needed.
+    messages.push([&[0x1d, 0xff, 0xfd, 0x2d, 0xff, 0xfa][..], &vec![7; 65_530]].concat());
+    messages.push([&[0x1d, 0xff, 0xfd, 0x2e, 0, 0, 0xff, 0xf8][..], &vec![7; 65_528]].concat());
     messages.iter().map(|message| message_sample(&entries(NESTED), 0, message)).collect()
 }
 

@@ -77,12 +77,12 @@ impl Family {
         }
     }
 
-    /// What the oracle says of a message: refusal, place, fields and depth.
-    pub fn expected(&self, message: &[u8]) -> [u64; 4] {
+    /// What the oracle says of a message: refusal, place, fields, depth and shortest. No control part is longer than it needs.
+    pub fn expected(&self, message: &[u8]) -> [u64; 5] {
         let end = message.len() - 1;
         match is_text(&message[end - self.length()..end]) {
-            true => [0, 0, FIELDS, 1],
-            false => [TEXT, PLACE, 0, 0],
+            true => [0, 0, FIELDS, 1, 1],
+            false => [TEXT, PLACE, 0, 0, 0],
         }
     }
 }

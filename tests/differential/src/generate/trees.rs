@@ -65,7 +65,7 @@ pub fn field(tag: u16, value: Value) -> Field {
     Field { tag, value, start: 0, length: 0 }
 }
 
-fn signed(rng: &mut Rng) -> i64 {
+pub fn signed(rng: &mut Rng) -> i64 {
     let size = rng.number() as i64;
     if rng.chance(50) {
         size.wrapping_neg()
@@ -84,6 +84,12 @@ fn some_octets(rng: &mut Rng) -> Vec<u8> {
     rng.octets(length)
 }
 
+/// Chooses the forms of a message. A tag, a length or a number has so many forms, the shortest first; the answer is the one to take.
+pub trait Choose {
+    fn control(&mut self, forms: usize) -> usize;
+    fn number(&mut self, forms: usize) -> usize;
+}
+
 /// How often, of 100, a longer form than the shortest is taken.
 #[derive(Clone, Copy)]
 pub struct Style {
@@ -97,28 +103,56 @@ impl Style {
     }
 }
 
+struct AtRandom<'a> {
+    rng: &'a mut Rng,
+    style: Style,
+}
+
+impl AtRandom<'_> {
+    fn choose(&mut self, longer: usize, forms: usize) -> usize {
+        if self.rng.chance(longer) {
+            self.rng.below(forms)
+        } else {
+            0
+        }
+    }
+}
+
+impl Choose for AtRandom<'_> {
+    fn control(&mut self, forms: usize) -> usize {
+        self.choose(self.style.control, forms)
+    }
+
+    fn number(&mut self, forms: usize) -> usize {
+        self.choose(self.style.number, forms)
+    }
+}
+
 /// The octets of a tree, in forms as the style says.
 pub fn octets(rng: &mut Rng, fields: &[Field], style: Style) -> Vec<u8> {
+    octets_in(fields, &mut AtRandom { rng, style })
+}
+
+/// The octets of a tree, in the forms that are chosen.
+pub fn octets_in(fields: &[Field], choose: &mut impl Choose) -> Vec<u8> {
     let mut all = Vec::new();
     for field in fields {
-        let contents = contents(rng, &field.value, style);
-        all.extend(control(rng, field.tag, contents.len() as u64, style.control));
+        let contents = contents(&field.value, choose);
+        all.extend(control_in(field.tag, contents.len() as u64, choose));
         all.extend(contents);
     }
     all
 }
 
-fn contents(rng: &mut Rng, value: &Value, style: Style) -> Vec<u8> {
-    let forms = match value {
+fn contents(value: &Value, choose: &mut impl Choose) -> Vec<u8> {
+    let mut forms = match value {
         Value::Uint(number) => uint_forms(*number),
         Value::Int(number) => (0..=8).filter_map(|octets| int_in(*number, octets)).collect(),
-        Value::Message(fields) => return octets(rng, fields, style),
+        Value::Message(fields) => return octets_in(fields, choose),
         Value::Raw(octets) | Value::String(octets) | Value::Text(octets) => return octets.clone(),
     };
-    if rng.chance(style.number) {
-        return forms[rng.below(forms.len())].clone();
-    }
-    forms[0].clone()
+    let chosen = choose.number(forms.len());
+    forms.swap_remove(chosen)
 }
 
 fn uint_forms(number: u64) -> Vec<Vec<u8>> {
@@ -133,11 +167,16 @@ fn uint_forms(number: u64) -> Vec<Vec<u8>> {
 
 /// A control part in the shortest or, so often of 100, any form.
 pub fn control(rng: &mut Rng, tag: u16, length: u64, longer: usize) -> Vec<u8> {
+    control_in(tag, length, &mut AtRandom { rng, style: Style { control: longer, number: 0 } })
+}
+
+/// A control part in the forms that are chosen: first that of the tag, then that of the length.
+pub fn control_in(tag: u16, length: u64, choose: &mut impl Choose) -> Vec<u8> {
     let tag = u64::from(tag);
     let tag_forms = [(14, tag as u8, 0), (256, 0xe, 1), (65_536, 0xf, 2)];
     let length_forms = [(12, length as u8, 0), (256, 0xc, 1), (65_536, 0xd, 2), (1 << 32, 0xe, 4), (u64::MAX, 0xf, 8)];
-    let (high, tag_octets) = form(rng, &tag_forms, tag, longer);
-    let (low, length_octets) = form(rng, &length_forms, length, longer);
+    let (high, tag_octets) = form(&tag_forms, tag, choose);
+    let (low, length_octets) = form(&length_forms, length, choose);
     let mut part = vec![(high << 4) | low];
     part.extend(&tag.to_be_bytes()[8 - tag_octets..]);
     part.extend(&length.to_be_bytes()[8 - length_octets..]);
@@ -145,8 +184,8 @@ pub fn control(rng: &mut Rng, tag: u16, length: u64, longer: usize) -> Vec<u8> {
 }
 
 /// One of the forms (limit, nybble, octets that follow) that can hold the number.
-fn form(rng: &mut Rng, forms: &[(u64, u8, usize)], number: u64, longer: usize) -> (u8, usize) {
+fn form(forms: &[(u64, u8, usize)], number: u64, choose: &mut impl Choose) -> (u8, usize) {
     let shortest = forms.iter().position(|form| number < form.0).unwrap_or(forms.len() - 1);
-    let chosen = if rng.chance(longer) { rng.from_to(shortest, forms.len() - 1) } else { shortest };
+    let chosen = shortest + choose.control(forms.len() - shortest);
     (forms[chosen].1, forms[chosen].2)
 }

@@ -1,5 +1,6 @@
 //! The reading of an hproto message into its tree, with the first refusal.
 
+use super::shorten::shortest;
 use super::table::{load, Kind, Table};
 use super::{
     big_endian, refuse, Answer, CUT, DEPTH_LIMIT, MESSAGE_LIMIT, NUMBER_TOO_WIDE, PAST_THE_END, TABLE, TEXT, TOO_DEEP, TOO_LONG,
@@ -75,10 +76,10 @@ pub fn read(table: &[u8], number: u64, message: &[u8]) -> Answer<Vec<Field>> {
     reader.fields(number as u8, 0, message.len(), 1)
 }
 
-/// The field count and the depth, as the check answers them.
-pub fn check(table: &[u8], number: u64, message: &[u8]) -> Answer<(u64, u64)> {
+/// The field count, the depth, and whether the message is its own shortest form, as the check answers them.
+pub fn check(table: &[u8], number: u64, message: &[u8]) -> Answer<(u64, u64, bool)> {
     let fields = read(table, number, message)?;
-    Ok((count(&fields), depth(&fields)))
+    Ok((count(&fields), depth(&fields), shortest(&fields) == message))
 }
 
 struct Control {

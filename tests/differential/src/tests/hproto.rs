@@ -92,6 +92,107 @@ fn limits_of_the_control_octet() {
 }
 
 #[test]
+fn short_numbers() {
+    assert!(is_short(UINT, ""));
+    for short in
+        ["c0", "c1 01", "c1 80", "c1 ff", "c2 01 00", "c2 80 00", "c8 01 00 00 00 00 00 00 00", "c8 ff ff ff ff ff ff ff ff"]
+    {
+        assert!(is_short(UINT, short), "{short}");
+    }
+    for longer in ["c1 00", "c2 00 00", "c2 00 01", "c2 00 ff", "c3 00 01 00", "c8 00 ff ff ff ff ff ff ff", "c0 c1 00", "c1 00 c0"]
+    {
+        assert!(!is_short(UINT, longer), "{longer}");
+    }
+    // 0, 1, -1, 127, -127, -128, 128, -129, 32767, -32768, 32768, -32769, and the least and greatest of eight octets.
+    for short in [
+        "c0",
+        "c1 01",
+        "c1 81",
+        "c1 7f",
+        "c1 ff",
+        "c1 80",
+        "c2 00 80",
+        "c2 80 81",
+        "c2 7f ff",
+        "c2 ff ff",
+        "c2 80 00",
+        "c3 00 80 00",
+        "c3 80 80 01",
+        "c3 80 00 00",
+        "c8 80 00 00 00 00 00 00 00",
+        "c8 80 80 00 00 00 00 00 01",
+        "c8 7f ff ff ff ff ff ff ff",
+    ] {
+        assert!(is_short(INT, short), "{short}");
+    }
+    for longer in [
+        "c1 00",
+        "c2 00 00",
+        "c2 00 01",
+        "c2 00 7f",
+        "c2 80 01",
+        "c2 80 7f",
+        "c2 80 80",
+        "c3 00 00 80",
+        "c3 00 7f ff",
+        "c3 80 00 01",
+        "c3 80 7f ff",
+        "c3 80 80 00",
+        "c8 80 80 00 00 00 00 00 00",
+        "c8 80 7f ff ff ff ff ff ff",
+        "c8 00 7f ff ff ff ff ff ff",
+    ] {
+        assert!(!is_short(INT, longer), "{longer}");
+    }
+}
+
+#[test]
+fn short_control_parts() {
+    for short in ["c0", "d0", "e0 0e", "e0 ff", "f0 01 00", "f0 ff ff"] {
+        assert!(is_short("", short), "{short}");
+    }
+    for longer in ["e0 00", "e0 0c", "e0 0d", "f0 00 0d", "f0 00 0e", "f0 00 ff", "0c 00", "0d 00 00", "0e 00 00 00 00"] {
+        assert!(!is_short("", longer), "{longer}");
+    }
+    let with_zeros = |control: &str, length: usize| [octets(control), vec![0; length]].concat();
+    let short = |control: &str, length| message::check(&entries("0 1 4 0"), 0, &with_zeros(control, length)).unwrap().2;
+    for tag in ["0", "1"] {
+        let control = |rest: &str| format!("{tag}{rest}");
+        assert!(short(&control("b"), 11));
+        assert!(!short(&control("c 0b"), 11));
+        assert!(short(&control("c 0c"), 12));
+        assert!(!short(&control("d 00 0c"), 12));
+        assert!(short(&control("c ff"), 255));
+        assert!(!short(&control("d 00 ff"), 255));
+        assert!(short(&control("d 01 00"), 256));
+        assert!(!short(&control("e 00 00 01 00"), 256));
+        assert!(!short(&control("f 00 00 00 00 00 00 01 00"), 256));
+        // The longest that a message of 65,536 octets has room for.
+        assert!(short(&control("d ff fd"), 65_533));
+        assert!(!short(&control("e 00 00 ff fb"), 65_531));
+    }
+}
+
+#[test]
+fn short_at_every_depth() {
+    let table = "0 1 5 0, 0 2 1 0, 0 3 2 0";
+    // The innermost of eight levels has a uint of 5, and an int of -128.
+    assert!(is_short(table, "1b 1a 19 18 17 16 15 21 05 31 80 00"));
+    assert!(!is_short(table, "1c 0c 1b 1a 19 18 17 16 22 00 05 31 80 00"));
+    assert!(!is_short(table, "1c 0c 1b 1a 19 18 17 16 21 05 32 80 80 00"));
+    assert!(!is_short(table, "1c 0c 1b 1a 19 18 17 16 2c 01 05 31 80 00"));
+    assert!(!is_short(table, "1c 0c 1b 1a 19 18 17 16 e1 02 05 31 80 00"));
+    assert!(!is_short(table, "1c 0c 1b 1a 19 18 17 1c 05 21 05 31 80 00"));
+    // Twelve octets inside, of which eleven are needed: the length is right for what stands there.
+    assert!(!is_short(table, "1c 0c 00 00 00 00 00 00 00 00 00 00 21 00"));
+    assert!(is_short(table, "1b 00 00 00 00 00 00 00 00 00 00 20"));
+    // Raw fields are not entered, and their octets are not numbers.
+    assert!(is_short("", "15 22 00 05 31 00"));
+    assert!(is_short("0 1 3 0", "12 00 00"));
+    assert!(is_short("0 1 4 0", "12 00 00"));
+}
+
+#[test]
 fn nested_lengths_follow_the_shortened_contents() {
     let table = "0 1 5 1, 1 0 1 0";
     let long = "1c 0c 08 00 00 00 00 00 00 00 2a 02 00 07";
@@ -159,7 +260,7 @@ const BAD_TEXTS: [&str; 8] = [
 fn text() {
     let text = |contents: &str| {
         let contents = octets(contents);
-        message::check(&entries("0 1 4 0"), 0, &[&[0x1c, contents.len() as u8], &contents[..]].concat())
+        counts(&entries("0 1 4 0"), &[&[0x1c, contents.len() as u8], &contents[..]].concat())
     };
     for good in GOOD_TEXTS.iter().flat_map(|texts| texts.split(',')) {
         assert_eq!(text(good), Ok((1, 1)), "{good}");
@@ -194,7 +295,7 @@ fn text_as_the_standard_library_has_it() {
 
 #[test]
 fn message_length() {
-    assert_eq!(message::check(&[], 0, &vec![0; 65_536]), Ok((65_536, 1)));
+    assert_eq!(message::check(&[], 0, &vec![0; 65_536]), Ok((65_536, 1, true)));
     assert_eq!(message::check(&[], 0, &vec![0; 65_537]), at(1, 0));
 }
 

@@ -1,8 +1,9 @@
 //! Laws that the oracle has to keep on generated and on all small inputs.
 
 use super::*;
-use crate::generate::{self, hproto, reals, short_texts, tables, texts, trees};
-use crate::oracle::message::{count, depth, is_text, read, Field};
+use crate::call::Call;
+use crate::generate::{self, forms, hproto, reals, short_texts, tables, texts, trees};
+use crate::oracle::message::{count, depth, is_text, read, Field, Value};
 use crate::oracle::real::fractions;
 use crate::oracle::shorten::shortest;
 use crate::rng::Rng;
@@ -20,10 +21,84 @@ fn a_tree_is_read_back_from_every_form() {
         let style = trees::Style::random(&mut rng);
         let octets = trees::octets(&mut rng, &tree, style);
         assert_eq!(read(&table, 0, &octets).as_ref(), Ok(&tree), "case {case}");
-        assert_eq!(message::check(&table, 0, &octets), Ok((count(&tree), depth(&tree))));
         let short = shortest(&tree);
+        assert_eq!(message::check(&table, 0, &octets), Ok((count(&tree), depth(&tree), octets == short)));
         assert!(short.len() <= octets.len());
         assert_eq!(read(&table, 0, &short).as_ref(), Ok(&tree), "case {case}");
+    }
+}
+
+/// A second opinion on whether a message is short: by the octets of each control part and of each number, without writing them.
+fn nothing_longer(octets: &[u8], start: usize, fields: &[Field]) -> bool {
+    let mut place = start;
+    fields.iter().all(|field| {
+        let control = field.start - place;
+        place = field.start + field.length;
+        let contents = &octets[field.start..place];
+        let least = match &field.value {
+            Value::Uint(_) => contents.first() != Some(&0),
+            Value::Int(_) => least_int_octets(contents),
+            Value::Message(inner) => nothing_longer(octets, field.start, inner),
+            Value::Raw(_) | Value::String(_) | Value::Text(_) => true,
+        };
+        least && control == 1 + octets_of_tag(field.tag) + octets_of_length(field.length)
+    })
+}
+
+fn octets_of_tag(tag: u16) -> usize {
+    usize::from(tag >= 14) + usize::from(tag >= 256)
+}
+
+/// No message has room for a length from 65,536 on.
+fn octets_of_length(length: usize) -> usize {
+    usize::from(length >= 12) + usize::from(length >= 256)
+}
+
+/// Whether no int of fewer octets has the same value.
+fn least_int_octets(contents: &[u8]) -> bool {
+    let zeros = |octets: &[u8]| octets.iter().all(|octet| *octet == 0);
+    match contents {
+        [] => true,
+        [one] => *one != 0,
+        [0x00, second, ..] => *second >= 0x80,
+        [0x80, second, rest @ ..] => zeros(&contents[1..]) || *second > 0x80 || *second == 0x80 && !zeros(rest),
+        _ => true,
+    }
+}
+
+/// Both opinions agree on the messages that the differential test makes, and there are many that are short and many that are not.
+#[test]
+fn short_by_two_ways() {
+    let mut seen = [0, 0];
+    let fixed = generate::fixed_cases();
+    for case in (0..fixed).step_by(7).chain(fixed..fixed + 40_000) {
+        for call in generate::case(6, case) {
+            let Call::Check(on) = call else {
+                continue;
+            };
+            let Ok(fields) = read(&on.table, on.number, &on.message) else {
+                continue;
+            };
+            let short = message::check(&on.table, on.number, &on.message).unwrap().2;
+            assert_eq!(short, nothing_longer(&on.message, 0, &fields), "case {case}");
+            seen[usize::from(short)] += 1;
+        }
+    }
+    assert!(seen.iter().all(|count| *count > 5_000), "{seen:?}");
+}
+
+/// The trees that are short but for one part: with none they are short, and with any but one without longer forms they are not.
+#[test]
+fn short_but_for_one() {
+    for depth in 1..=8 {
+        let tree = forms::tree(depth);
+        let parts = forms::parts(depth);
+        let short = |octets: &[u8]| message::check(forms::table(), 0, octets) == Ok((count(&tree), depth as u64, true));
+        assert_eq!(forms::short_but_for(&tree, parts, 1), (shortest(&tree), parts));
+        assert!(short(&shortest(&tree)));
+        let kept = (0..parts).filter(|one| short(&forms::short_but_for(&tree, *one, 1).0)).count();
+        // The tag 300 has one form only.
+        assert_eq!(kept, depth);
     }
 }
 
@@ -74,7 +149,7 @@ fn short_texts_are_cases() {
         for number in (0..family.count()).step_by(50_021).chain([family.count() - 1]) {
             family.put(number, &mut message);
             let expected = match family.expected(&message) {
-                [0, 0, fields, depth] => Ok((fields, depth)),
+                [0, 0, fields, depth, short] => Ok((fields, depth, short == 1)),
                 [refusal, place, ..] => at(refusal, place),
             };
             assert_eq!(message::check(short_texts::table(), 0, &message), expected, "{message:02x?}");

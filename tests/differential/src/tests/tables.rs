@@ -73,5 +73,5 @@ fn the_length_comes_first_and_then_the_table_and_the_number() {
     assert_eq!(message::check(&[], 16, &[0xf1]), at(2, 0));
     assert_eq!(message::check(&[], 256, &[]), at(2, 0));
     assert_eq!(message::check(&[], u64::MAX, &[]), at(2, 0));
-    assert_eq!(message::check(&[], 15, &[]), Ok((0, 1)));
+    assert_eq!(message::check(&[], 15, &[]), Ok((0, 1, true)));
 }
