@@ -210,9 +210,7 @@ static inline int number_longer(const struct field *field)
     return field->length > 0 && field->contents[0] == 0;
 }
 
-/* Not to be inlined into itself: gcc would make copies for the outer depths that read a field by a call, a quarter slower. */
-__attribute__((noinline)) static uint64_t check_message(struct walk *walk, unsigned number, const uint8_t *at, const uint8_t *end,
-                                                        unsigned depth)
+static uint64_t check_message(struct walk *walk, unsigned number, const uint8_t *at, const uint8_t *end, unsigned depth)
 {
     int longer = 0;
     if (depth > walk->depth)

@@ -313,7 +313,7 @@ fn message_limits() -> Vec<Sample> {
         messages.push(large_field(0x20, length));
         messages.push(large_field(0x10, length));
     }
-    for length in [65_532u16, 65_533, 65_534] {
+    for length in [255u16, 256, 65_532, 65_533, 65_534] {
         let front = [&[0x2d][..], &length.to_be_bytes()].concat();
         messages.push([front, vec![0; length.into()]].concat());
     }
