@@ -36,6 +36,24 @@ pub step-inside-nested : (sc : Schema) (n : ℕ) (s : List ℕ) (m k l : ℕ) �
 unfolding StepMeans
 step-inside-nested sc n s m k l e = let h = subst (StepMeans sc n s) e (step-means sc n s) in (h .1, h .2)
 
+-- A field that is a message, by its number and the span of its contents.
+module _ (sc : Schema) (n : ℕ) (s : List ℕ) (i m a e : ℕ) (b : Bool) (h : nextOf sc n s i ≡ Into m a e b) where
+  pub found-nested : IntoFrom i m a e (shortField sc n (drop i s)) b (step sc n (drop i s))
+  unfolding NextFrom
+  found-nested = came-from sc n s i (Into m a e b) h
+
+  -- Its reading by the span and by the sizes that the step names.
+  pub same-reading : (inner : Inner) (at : ℕ)
+      → inner m (at + i) (at + a) (take (e - a) (drop a s))
+      ≡ inner m (at + i) (at + i + found-nested .size) (take (found-nested .len) (drop (found-nested .size) (drop i s)))
+  same-reading inner at =
+      let w = found-nested in
+      let p = w .start-is in
+      let q = w .end-is in
+      let x : at + i + w .size ≡ at + a = omega arith in
+      let y : e - a ≡ w .len = omega arith in
+      rw (x, y, drop-drop (w .size) i s, ← p) refl
+
 module _ (sc : Schema) (inner : Inner) (n at : ℕ) (s : List ℕ) where
   abbrev pub whole : Verdict
   whole = traversal.whole fields depth (fieldsFrom sc inner n) at 0 s
@@ -93,16 +111,15 @@ module _ (sc : Schema) (inner : Inner) (n at : ℕ) (s : List ℕ) where
 
     -- A field that is a message, by its number and the span of its contents.
     module _ (m a e : ℕ) (b : Bool) (h : here ≡ Into m a e b) where
-      found-nested : IntoFrom i m a e (shortField sc n (drop i s)) b (step sc n (drop i s))
-      unfolding NextFrom
-      found-nested = came-from sc n s i (Into m a e b) h
+      abbrev found : IntoFrom i m a e (shortField sc n (drop i s)) b (step sc n (drop i s))
+      found = found-nested sc n s i m a e b h
 
-      nested-inside : (1 ≤ found-nested .size) × (found-nested .size + found-nested .len ≤ length (drop i s))
-      nested-inside = step-inside-nested sc n (drop i s) m (found-nested .size) (found-nested .len) (found-nested .is)
+      nested-inside : (1 ≤ found .size) × (found .size + found .len ≤ length (drop i s))
+      nested-inside = step-inside-nested sc n (drop i s) m (found .size) (found .len) (found .is)
 
       pub nested-ends : (i < a) × (a ≤ e) × (e ≤ length s)
       nested-ends =
-          let w = found-nested in
+          let w = found in
           let p = nested-inside .0 in
           let q = w .end-is in
           let b = w .start-is in
@@ -112,21 +129,15 @@ module _ (sc : Schema) (inner : Inner) (n at : ℕ) (s : List ℕ) where
       -- The verdict that the code returns for the contents.
       module _ (r : Verdict) (v : r ≡ verdict (inner m (at + i) (at + a) (take (e - a) (drop a s)))) where
         abbrev nested-reading : Reading Cut
-        nested-reading = inner m (at + i) (at + i + found-nested .size) (take (found-nested .len) (drop (found-nested .size) (drop i s)))
+        nested-reading = inner m (at + i) (at + i + found .size) (take (found .len) (drop (found .size) (drop i s)))
 
         nested-octets : r ≡ verdict nested-reading
-        nested-octets =
-            let w = found-nested in
-            let b = w .start-is in
-            let q = w .end-is in
-            let x : at + i + w .size ≡ at + a = omega arith in
-            let y : e - a ≡ w .len = omega arith in
-            v ∙ rw (x, y, drop-drop (w .size) i s, ← b)
+        nested-octets = v ∙ ap verdict (same-reading sc n s i m a e b h inner at)
 
         pub nested-turn : (g x c : ℕ) → r ≡ Accepted g x → g ≤ e - a → c ≡ max d (x + 1) → State e (f + (1 + g)) c
         unfolding fieldsFrom afterStep fields depth
         nested-turn g x c u b k =
-            let w = found-nested in
+            let w = found in
             let p = nested-inside .0 in
             let y = w .start-is in
             let q = w .end-is in
@@ -137,7 +148,7 @@ module _ (sc : Schema) (inner : Inner) (n at : ℕ) (s : List ℕ) where
         pub nested-refusal : (reason place : ℕ) → r ≡ Refused reason place → Refused reason place ≡ whole
         unfolding fieldsFrom afterStep
         nested-refusal reason place u =
-            let w = found-nested in
+            let w = found in
             traversal.at-nested-fault fields depth (fieldsFrom sc inner n) at 0 s i f d now (nested (tagAt (drop i s)) (take (w .size) (drop i s))) nested-reading
             (fieldsFrom sc inner n (now .fuel - 1) (at + i + w .size + w .len) (drop (w .size + w .len) (drop i s))) r reason place (rw (w .is)) nested-octets u
 

@@ -16,7 +16,7 @@ use Rattle.octets.proofs.Short.{none-short-uint, none-short-int, uint-by-first,
 use Rattle.table_index.specs.internal.Cells.{meaningOf}
 use Rattle.message.specs.internal.Short.{shortContents}
 use Rattle.message_field.specs.internal.Nexts.{Passes}
-use Rattle.message_field.proofs.Nexts.{short-uint, short-int, short-no-number, plain-passes, contents-length}
+use Rattle.message_field.proofs.Nexts.{contents-uint, contents-int, short-no-number, plain-passes, contents-length}
 
 module _ (code : ℕ) (s : List ℕ) (a e : ℕ) (h : (a ≤ e) × (e ≤ length s)) (k : code < 4) where
   abbrev contents : List ℕ
@@ -30,8 +30,8 @@ module _ (code : ℕ) (s : List ℕ) (a e : ℕ) (h : (a ≤ e) × (e ≤ length
   number-passes : e - a ≤ 8 → (code ≡ 1 → shortUint contents ≡ true) → (code ≡ 2 → shortInt contents ≡ true) → Passes code a e s
   number-passes few u i =
       up-to code 0 (λ z. no-number-passes (λ x. omega arith) (λ x. omega arith))
-      (λ z. up-to code 1 (λ y. passed (let x : code ≡ 1 = omega arith in short-uint code contents x ∙ u x))
-      (λ y. up-to code 2 (λ w. passed (let x : code ≡ 2 = omega arith in short-int code contents x ∙ i x))
+      (λ z. up-to code 1 (λ y. passed (let x : code ≡ 1 = omega arith in contents-uint code contents x ∙ u x))
+      (λ y. up-to code 2 (λ w. passed (let x : code ≡ 2 = omega arith in contents-int code contents x ∙ i x))
       (λ w. no-number-passes (λ x. omega arith) (λ x. omega arith))))
     where
       passed : shortContents (meaningOf code) contents ≡ true → Passes code a e s

@@ -40,7 +40,7 @@ unfolding checked checkOctets samples.Hold samples.samples samples.accepts sampl
 samples-hold = (refl, (refl, (refl, (refl, (refl, (refl, (refl, (refl, (refl, (refl, (refl, (refl, (refl, (refl, (refl, (refl, (refl, (refl, (refl, (refl, (refl, tt)))))))))))))))))))))
 
 pub short-samples-hold : samples.HoldShort samples.shortSamples
-unfolding checked shortOctets shorts.short samples.HoldShort samples.shortSamples samples.isShort samples.notShort samples.unsigned samples.signed
+unfolding checked shortOctets shorts.short samples.HoldShort samples.shortSamples samples.isShort samples.notShort samples.uintTable samples.intTable
     shortens.shortestByTable shortens.shortestUnder shortestOfReading shortests.shortest shortests.field shortests.leastContents same
     numbers.octetsOf numbers.width numbers.widthWithin numbers.leastUint signs.integer signs.withSign signs.lowest signs.leastInt signs.signedWidth
     signs.signedBits controls.leastControl controls.leastCode controls.firstFit

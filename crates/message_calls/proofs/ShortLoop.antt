@@ -19,17 +19,16 @@ use Rattle.reading.specs.Reading.{Reading, accepted, refused, onAccepted, inOrd
 use Rattle.reading.specs.declared.Verdict.{Verdict}
 use Rattle.reading.specs.declared.Verdict.the-variants.{Accepted, Refused}
 use Rattle.reading.specs.internal.Verdicts.{verdictOf}
-use Rattle.message.specs.Cut.{Cut, leaf, nested, WholeField, depth}
+use Rattle.message.specs.Cut.{Cut, leaf, nested, WholeField}
 use Rattle.message.specs.Reading.{Inner, step, tagAt, afterStep, fieldsFrom}
 use Rattle.message.specs.internal.Short.{shortContents, shortCut, shortReading}
 use Rattle.message.specs.declared.Step.the-variants as steps
 use Rattle.message.proofs.Steps.{StepMeans, step-means}
 use Rattle.message_field.specs.internal.Nexts.{nextOf, shortFrom, shortField}
-use Rattle.message_field.specs.declared.Next.{Next}
 use Rattle.message_field.specs.declared.Next.the-variants.{Done, Fault, Over, Into}
-use Rattle.message_field.proofs.Nexts.{OverFrom, IntoFrom, NextFrom, came-from}
-use Rattle.message_calls.specs.internal.Verdicts.{fields, verdict}
-use Rattle.message_calls.proofs.CheckLoop.{step-inside, step-inside-nested}
+use Rattle.message_field.proofs.Nexts.{IntoFrom, NextFrom, came-from}
+use Rattle.message_calls.specs.internal.Verdicts.{verdict}
+use Rattle.message_calls.proofs.CheckLoop.{step-inside, step-inside-nested, found-nested, same-reading}
 
 -- ---- one field
 
@@ -97,10 +96,10 @@ module _ (sc : Schema) (inner : Inner) (n at : ℕ) (s : List ℕ) where
   pub record ShortSoFar (i : ℕ) (t : Bool) : Type 0 where
     fuel : ℕ
     enough : length s < i + fuel
-    same : whole-short ≡ t && shortReading sc n (rest fuel i)
+    agrees : whole-short ≡ t && shortReading sc n (rest fuel i)
 
   pub short-start : ShortSoFar 0 true
-  short-start = record { fuel = suc (length s); enough = omega arith; same = refl }
+  short-start = record { fuel = suc (length s); enough = omega arith; agrees = refl }
 
   module _ (i : ℕ) (t : Bool) (now : ShortSoFar i t) (inside : i ≤ length s) where
     -- There is still fuel, so the field after i octets is read.
@@ -108,7 +107,7 @@ module _ (sc : Schema) (inner : Inner) (n at : ℕ) (s : List ℕ) where
     looked =
         let b = now .enough in
         let e : now .fuel ≡ suc (now .fuel - 1) = omega arith in
-        now .same ∙ ap (λ (fuel : ℕ). t && shortReading sc n (rest fuel i)) e
+        now .agrees ∙ ap (λ (fuel : ℕ). t && shortReading sc n (rest fuel i)) e
 
     pub short-at-end : nextOf sc n s i ≡ Done → t ≡ whole-short
     unfolding NextFrom fieldsFrom afterStep shortReading shortCut
@@ -130,7 +129,7 @@ module _ (sc : Schema) (inner : Inner) (n at : ℕ) (s : List ℕ) where
         record {
           fuel = now .fuel - 1;
           enough = omega arith;
-          same =
+          agrees =
               looked
               ∙ ap (λ (y : Bool). t && y) f
               ∙ and-assoc t x (shortReading sc n (fieldsFrom sc inner n (now .fuel - 1) (at + i + size + len) (drop (size + len) (drop i s))))
@@ -152,21 +151,14 @@ module _ (sc : Schema) (inner : Inner) (n at : ℕ) (s : List ℕ) where
     -- A field that is a message, by its number, the span of its contents, and the verdict on them.
     module _ (m a e : ℕ) (b : Bool) (h : nextOf sc n s i ≡ Into m a e b) (v : Verdict)
         (is : v ≡ verdict (inner m (at + i) (at + a) (take (e - a) (drop a s)))) where
-      found : IntoFrom i m a e (shortField sc n (drop i s)) b (step sc n (drop i s))
-      unfolding NextFrom
-      found = came-from sc n s i (Into m a e b) h
+      abbrev found : IntoFrom i m a e (shortField sc n (drop i s)) b (step sc n (drop i s))
+      found = found-nested sc n s i m a e b h
 
       abbrev nested-reading : Reading Cut
       nested-reading = inner m (at + i) (at + i + found .size) (take (found .len) (drop (found .size) (drop i s)))
 
-      same-reading : inner m (at + i) (at + a) (take (e - a) (drop a s)) ≡ nested-reading
-      same-reading =
-          let w = found in
-          let p = w .start-is in
-          let q = w .end-is in
-          let x : at + i + w .size ≡ at + a = omega arith in
-          let y : e - a ≡ w .len = omega arith in
-          rw (x, y, drop-drop (w .size) i s, ← p) refl
+      same : inner m (at + i) (at + a) (take (e - a) (drop a s)) ≡ nested-reading
+      same = same-reading sc n s i m a e b h inner at
 
       -- x says whether the nested message is in its shortest form.
       pub short-nested : (x : Bool) → x ≡ shortReading sc m (inner m (at + i) (at + a) (take (e - a) (drop a s))) → (f d : ℕ) → v ≡ Accepted f d
@@ -178,10 +170,10 @@ module _ (sc : Schema) (inner : Inner) (n at : ℕ) (s : List ℕ) where
           let k = nested-short sc n r (w .size) (w .len) m (w .is) in
           let after = fieldsFrom sc inner n (now .fuel - 1) (at + i + w .size + w .len) (drop (w .size + w .len) r) in
           let y = w .short-is ∙ k .0 in
-          let z = g ∙ ap (shortReading sc m) same-reading in
+          let z = g ∙ ap (shortReading sc m) same in
           stepped (w .size) (w .len) e (b && x) (w .end-is) (step-inside-nested sc n r m (w .size) (w .len) (w .is) .0)
           (rw (w .is)
-          (short-into sc n m (tagAt r) (take (w .size) r) nested-reading after (k .1) f d (ap verdict (sym same-reading) ∙ sym is ∙ u)
+          (short-into sc n m (tagAt r) (take (w .size) r) nested-reading after (k .1) f d (ap verdict (sym same) ∙ sym is ∙ u)
           ∙ ap₂ (λ (p q : Bool). (p && q) && shortReading sc n after) (sym y) (sym z)))
 
       pub short-nested-refused : (reason place : ℕ) → v ≡ Refused reason place → false ≡ whole-short
@@ -191,6 +183,6 @@ module _ (sc : Schema) (inner : Inner) (n at : ℕ) (s : List ℕ) where
           let w = found in
           let after = fieldsFrom sc inner n (now .fuel - 1) (at + i + w .size + w .len) (drop (w .size + w .len) r) in
           let f =
-          short-refused sc n (nested (tagAt r) (take (w .size) r)) nested-reading after reason place (ap verdict (sym same-reading) ∙ sym is ∙ u) in
+          short-refused sc n (nested (tagAt r) (take (w .size) r)) nested-reading after reason place (ap verdict (sym same) ∙ sym is ∙ u) in
           let g = rw (w .is) at looked in
           sym (g ∙ ap (λ (y : Bool). t && y) f ∙ and-false t)

@@ -105,24 +105,24 @@ unfoldable pub notShort : List ℕ → List ℕ → ShortSample
 notShort table message = record { table = table; message = message; expected = false }
 
 -- Tag 12 is a uint, or an int.
-unfoldable pub unsigned : List ℕ
-unsigned = line 0 0 12 1 0
+unfoldable pub uintTable : List ℕ
+uintTable = line 0 0 12 1 0
 
-unfoldable pub signed : List ℕ
-signed = line 0 0 12 2 0
+unfoldable pub intTable : List ℕ
+intTable = line 0 0 12 2 0
 
 unfoldable pub shortSamples : List ShortSample
 shortSamples =
     -- `leastUint`: 0 in one octet, and in none.
-    notShort unsigned (0xc1 ∷ 0x00 ∷ []) ∷
-    isShort unsigned (0xc0 ∷ []) ∷
+    notShort uintTable (0xc1 ∷ 0x00 ∷ []) ∷
+    isShort uintTable (0xc0 ∷ []) ∷
     -- `leastInt`: 0 in one octet; minus 128 in one octet, and in two; minus 129 in two; 128 in two; 127 in two.
-    notShort signed (0xc1 ∷ 0x00 ∷ []) ∷
-    isShort signed (0xc1 ∷ 0x80 ∷ []) ∷
-    notShort signed (0xc2 ∷ 0x80 ∷ 0x80 ∷ []) ∷
-    isShort signed (0xc2 ∷ 0x80 ∷ 0x81 ∷ []) ∷
-    isShort signed (0xc2 ∷ 0x00 ∷ 0x80 ∷ []) ∷
-    notShort signed (0xc2 ∷ 0x00 ∷ 0x7f ∷ []) ∷
+    notShort intTable (0xc1 ∷ 0x00 ∷ []) ∷
+    isShort intTable (0xc1 ∷ 0x80 ∷ []) ∷
+    notShort intTable (0xc2 ∷ 0x80 ∷ 0x80 ∷ []) ∷
+    isShort intTable (0xc2 ∷ 0x80 ∷ 0x81 ∷ []) ∷
+    isShort intTable (0xc2 ∷ 0x00 ∷ 0x80 ∷ []) ∷
+    notShort intTable (0xc2 ∷ 0x00 ∷ 0x7f ∷ []) ∷
     -- `leastContents`: a field whose tag the table does not have stays as it is. `leastControl`: its length, and then its tag and its length too,
     -- take an octet more than they need.
     isShort [] (0x91 ∷ 0x00 ∷ []) ∷

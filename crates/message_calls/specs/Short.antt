@@ -7,7 +7,6 @@ use lib.Dec.{eqb}
 use Rattle.octets.specs.Short.{same}
 use Rattle.table.specs.Schema.{Schema}
 use Rattle.table.specs.declared.Table.{Table}
-use Rattle.reading.specs.declared.Checked.{Checked}
 use Rattle.message_calls.specs.Check.{check, checkUnder}
 use Rattle.message_calls.specs.Shorten.{shortestUnder, shortestByTable}
 

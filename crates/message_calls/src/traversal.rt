@@ -9,11 +9,11 @@ ghost use lib.Bits.{bitAnd};
 ghost use lib.ListN.{length, getD};
 ghost use Rattle.reading.specs.Reading.{messageLimit, depthLimit};
 ghost use Rattle.reading.specs.Checks.{refusal};
-ghost use Rattle.reading.specs.declared.Verdict.the-variants.{Refused};
+ghost use Rattle.reading.specs.declared.Verdict.the-variants.{Accepted, Refused};
 ghost use Rattle.table_index.specs.internal.Cells.{indexed};
 ghost use Rattle.message.specs.Reading.{messageFrom};
 ghost use Rattle.message.specs.internal.Short.{shortReading};
-ghost use Rattle.message_field.specs.internal.Nexts.{nextOf, Passes, smallAt, smallCode};
+ghost use Rattle.message_field.specs.internal.Nexts.{nextOf, Passes, NoText, smallAt, smallCode};
 ghost use Rattle.message_calls.specs.Check.{checkUnder};
 ghost use Rattle.message_calls.specs.Short.{shortUnder};
 ghost use Rattle.message_calls.specs.internal.Verdicts.{verdict as verdict-of};
@@ -33,8 +33,8 @@ fn small_code(cells: &[u32; 128], number: u64, s: &[u8], i: usize) -> u64
     table_index::code(table_index::cell(cells, number, (c >> 4) as u64))
 }
 
-// Returns whether contents of a kind that is neither text nor message are plainly allowed and in their shortest form: no number, a number
-// without octets, a uint that does not begin with 0, or an int whose second octet makes it need the first.
+// Returns true only if contents of a kind that is neither text nor message are allowed and in their shortest form; false says nothing. It
+// knows these: no number; a number without octets; a uint whose first octet is not 0; an int whose second octet is above 80 (hex).
 fn plain(code: u64, s: &[u8], a: usize, e: usize) -> bool
     requires { ⌜ (code < 4) × (a ≤ e) × (e ≤ length (now s)) ⌝ }
     ensures { λ r. ⌜ (r ≡ true → Passes code a e (now (s .entry))) ⌝ }
@@ -54,10 +54,11 @@ fn plain(code: u64, s: &[u8], a: usize, e: usize) -> bool
 
 // Returns the end of the field at an offset with the code of `small_code`, if it is no message and its contents are allowed and in their
 // shortest form. Most fields are such. Else it returns 0, and the caller calls `next`. A number whose first octet has a bit of its magnitude
-// needs that octet. For a field without contents the test looks at the control octet, and is right whatever that is: so there is no branch
-// that the processor would often predict wrongly.
+// needs that octet. A field without contents has no first octet: the test then looks at the control octet, and either outcome is right. So
+// there is no branch on the length, which the processor would often predict wrongly.
 fn quick(code: u64, s: &[u8], i: usize) -> usize
     requires { ⌜ (code ≤ 4 → smallAt (now s) i ≡ true) ⌝ }
+    ensures { λ r. ⌜ (r ≡ 0 → NoText code (now (s .entry)) i) ⌝ }
     ensures { λ r. ⌜ (1 ≤ r → (code ≤ 4) × (r ≡ i + 1 + bitAnd (getD (now (s .entry)) i 0) 15) × Passes code (i + 1) r (now (s .entry))) ⌝ }
 {
     if 4 < code {
@@ -82,11 +83,16 @@ fn quick(code: u64, s: &[u8], i: usize) -> usize
     0
 }
 
-// The step at an offset, by the code of `small_code` there. A field that is a message is entered without reading its control octet again.
+// The step at an offset that `quick` does not pass, by the code of `small_code` there. Text that `quick` does not pass is a fault, and a field
+// that is a message is entered without reading its control octet again.
 fn next(cells: &[u32; 128], number: u64, code: u64, s: &[u8], i: usize) -> Next
     requires { ⌜ code ≡ smallCode (now cells) number (now s) i ⌝ }
+    requires { ⌜ NoText code (now s) i ⌝ }
     ensures { λ r. ⌜ r ≡ nextOf (indexed (now (cells .entry))) number (now (s .entry)) i ⌝ }
 {
+    if code == 4 {
+        return Next::Fault(reading::TEXT);
+    }
     if 4 < code && code < 32 {
         let a = i + 1;
         return Next::Into(code - 5, a, a + ((s[i] & 15) as usize), true);
@@ -100,6 +106,17 @@ struct Traversed {
     shortest: bool,
 }
 
+// What the traversal of an accepted message returns.
+fn accepted(fields: u64, depth: u64, shortest: bool) -> Traversed
+    ensures { λ r. ⌜ r .verdict ≡ Accepted fields depth ⌝ }
+    ensures { λ r. ⌜ r .shortest ≡ shortest ⌝ }
+{
+    Traversed {
+        verdict: Verdict::Accepted(fields, depth),
+        shortest,
+    }
+}
+
 // What the traversal of a rejected message returns.
 fn rejected(reason: u64, place: u64) -> Traversed
     ensures { λ r. ⌜ r .verdict ≡ Refused reason place ⌝ }
@@ -111,8 +128,8 @@ fn rejected(reason: u64, place: u64) -> Traversed
     }
 }
 
-// Reads a message of number `n` whose octets start at the place `at`. Returns the first refusal, or the count of its fields and its depth.
-// `levels` is how many messages deep it may be, itself counted; a nested message has one less.
+// Reads a message of number `n` whose octets start at the place `at`. Returns the first refusal, or the count of its fields, its depth and
+// whether it is in its shortest form. `levels` is how many messages deep it may be, itself counted; a nested message has one less.
 fn traverse(cells: &[u32; 128], n: u64, levels: u64, at: u64, s: &[u8]) -> Traversed
     requires { ⌜ at + length (now s) ≤ messageLimit ⌝ }
     requires { ⌜ (1 ≤ levels) × (levels ≤ depthLimit) ⌝ }
@@ -132,12 +149,7 @@ fn traverse(cells: &[u32; 128], n: u64, levels: u64, at: u64, s: &[u8]) -> Trave
             continue;
         }
         match next(cells, n, code, s, i) {
-            Next::Done => {
-                return Traversed {
-                    verdict: Verdict::Accepted(fields, depth),
-                    shortest,
-                };
-            }
+            Next::Done => return accepted(fields, depth, shortest),
             Next::Fault(k) => return rejected(k, at + (i as u64)),
             Next::Over(e, short) => {
                 i = e;

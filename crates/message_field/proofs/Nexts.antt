@@ -1,17 +1,17 @@
 -- The step at an offset of a message, and whether the field there is in its shortest form.
 use Prim.Native.Nat.{ℕ, _+_, _*_, _-_, _/_, _%_, _≤_, _<_}
 use native.Mathlib.Nat.{add-zero}
-use native.Mathlib.Numerals.{add-one}
 use native.Mathlib.Omega.{arith}
 use mathlib.Core.Path.{_≡_, refl, sym, ap, _∙_, subst}
 use mathlib.Core.Bool.{Bool, true, false, cond, _&&_}
 use mathlib.Core.List.{List, []}
-use mathlib.Core.Logic.{_⊎_, inl, inr}
+use mathlib.Core.Logic.{_⊎_}
 use lib.Bits.{bitAnd, and-mask}
 use lib.Dec.{leb, ltb}
 use lib.ListN.{length, getD, take, drop, length-drop}
 use lib.Seq.{drop-drop, drop-cons, length-take-le}
 use borrow.Author.Tests.{ltb-true, le-ltb, lt-ltb, eq-eqb}
+use Rattle.octets.specs.Number.{Octets}
 use Rattle.octets.specs.Text.{text}
 use Rattle.octets.specs.Control.{control, leastCode, leastControl}
 use Rattle.octets.specs.declared.Control.the-variants.{Absent, Partial, Whole}
@@ -19,6 +19,8 @@ use Rattle.octets.specs.Short.{same, shortPart, shortControl, shortUint, shortI
 use Rattle.octets.proofs.Text.{up-to}
 use Rattle.octets.proofs.ControlPart.{control-size}
 use Rattle.octets.proofs.Bools.{and-four}
+use Rattle.octets.proofs.Slices.{length-zero}
+use Rattle.octets.proofs.Short.{none-short-uint, none-short-int, uint-by-first, int-by-first}
 use Rattle.octets_read.proofs.Leads.{control-from, whole-direct}
 use Rattle.table_index.specs.internal.Cells.{cellFor, codeIn, meaningOf, meaningIn, indexed}
 use Rattle.table_index.proofs.Meanings as means
@@ -29,7 +31,7 @@ use Rattle.message.specs.Reading.{step, stepByKind}
 use Rattle.message.specs.internal.Short.{shortContents}
 use Rattle.message.specs.declared.Step.{Step}
 use Rattle.message.specs.declared.Step.the-variants as steps
-use Rattle.message_field.specs.internal.Nexts.{nextAt, shortFrom, shortField, nextOf, Passes, smallAt, smallCode}
+use Rattle.message_field.specs.internal.Nexts.{nextAt, shortFrom, shortField, nextOf, Passes, NoText, smallAt, smallCode}
 use Rattle.message_field.specs.declared.Next.{Next}
 use Rattle.message_field.specs.declared.Next.the-variants.{Done, Fault, Over, Into}
 use Rattle.message_field.proofs.Coded.{coded-message, coded-text, coded-wide, coded-over}
@@ -46,13 +48,13 @@ module _ (code : ℕ) (b : List ℕ) where
   unfolding shortContents
   short-text e = rw (← means.text code e) refl
 
-  pub short-uint : code ≡ 1 → shortContents (meaningOf code) b ≡ shortUint b
+  pub contents-uint : code ≡ 1 → shortContents (meaningOf code) b ≡ shortUint b
   unfolding shortContents
-  short-uint e = rw (← means.uint code e) refl
+  contents-uint e = rw (← means.uint code e) refl
 
-  pub short-int : code ≡ 2 → shortContents (meaningOf code) b ≡ shortInt b
+  pub contents-int : code ≡ 2 → shortContents (meaningOf code) b ≡ shortInt b
   unfolding shortContents
-  short-int e = rw (← means.int code e) refl
+  contents-int e = rw (← means.int code e) refl
 
   short-raw : code ≡ 0 → shortContents (meaningOf code) b ≡ true
   unfolding shortContents
@@ -61,6 +63,19 @@ module _ (code : ℕ) (b : List ℕ) where
   short-string : code ≡ 3 → shortContents (meaningOf code) b ≡ true
   unfolding shortContents
   short-string e = rw (← means.string code e) refl
+
+  -- A number without octets, and one whose first octet has a bit of the magnitude, is in its shortest form.
+  module _ (h : 1 ≤ code) (k : code ≤ 2) where
+    pub none-short : length b ≡ 0 → shortContents (meaningOf code) b ≡ true
+    none-short z =
+        let e : b ≡ [] = length-zero b z in
+        up-to code 1 (λ y. contents-uint (omega arith) ∙ rw e none-short-uint) (λ y. contents-int (omega arith) ∙ rw e none-short-int)
+
+    pub first-short : Octets b → length b ≤ 8 → 0 < length b → (bitAnd (getD b 0 0) 127 ≡ 0 → ⊥) → shortContents (meaningOf code) b ≡ true
+    first-short o few some first =
+        let m = and-mask (getD b 0 0) 7 in
+        let f : 1 ≤ getD b 0 0 % 128 = omega (arith, first) in
+        up-to code 1 (λ y. contents-uint (omega arith) ∙ uint-by-first b o some few (omega arith)) (λ y. contents-int (omega arith) ∙ int-by-first b o some few f)
 
   -- Contents that are no number have one form only.
   pub short-no-number : code < 4 → (code ≡ 1 → ⊥) → (code ≡ 2 → ⊥) → shortContents (meaningOf code) b ≡ true
@@ -148,9 +163,9 @@ module _ (s : List ℕ) (i tag len size : ℕ) (e : control (drop i s) ≡ Whole
     held-is : held ≡ take len (drop size (drop i s))
     held-is = let k : i + size + len - (i + size) ≡ len = omega arith in rw (k, drop-drop size i s) refl
 
-    field-short : shortControl (drop i s) && shortContents (sc .means n tag) held ≡ shortField sc n (drop i s)
+    short-field-is : shortControl (drop i s) && shortContents (sc .means n tag) held ≡ shortField sc n (drop i s)
     unfolding shortField shortFrom shortControl
-    field-short = rw (held-is, e) refl
+    short-field-is = rw (held-is, e) refl
 
     -- The step by the kind of the tag and the contents.
     pub field-at : len ≤ length s - (i + size) → (short : Bool) → short ≡ shortControl (drop i s)
@@ -161,7 +176,7 @@ module _ (s : List ℕ) (i tag len size : ℕ) (e : control (drop i s) ≡ Whole
         let k : size + len - size ≡ len = omega arith in
         let p : held ≡ b = held-is ∙ sym (ap (λ (x : ℕ). take x (drop size (drop i s))) k) in
         let t = short && shortContents (sc .means n tag) held in
-        let f : t ≡ shortField sc n (drop i s) = ap (λ (x : Bool). x && shortContents (sc .means n tag) held) c ∙ field-short in
+        let f : t ≡ shortField sc n (drop i s) = ap (λ (x : Bool). x && shortContents (sc .means n tag) held) c ∙ short-field-is in
         ap (λ (x : List ℕ). nextAt (i + size) t (stepByKind (sc .means n tag) 0 x)) p
         ∙ shifted i size b t (sc .means n tag)
         ∙ ap (nextAt i t) (whole-field sc n (drop i s) tag len size e (rw remaining-is h))
@@ -282,6 +297,11 @@ module _ (cells : List ℕ) (number : ℕ) (s : List ℕ) (i code : ℕ) (e : co
     pub passed-next : (r : ℕ) → r ≡ end → Passes code (i + 1) r s → Over r true ≡ nextOf (indexed cells) number s i
     unfolding Passes
     passed-next r d p = p ∙ rw d small-field
+
+    pub small-no-text : code ≡ 4 → NoText code s i → Fault 7 ≡ nextOf (indexed cells) number s i
+    unfolding NoText
+    small-no-text k t =
+        no-text-at code s (i + 1) end (omega arith, small-inside s i (code-small h) .1) (shortContents (meaningOf code) inside) k (t k) ∙ small-field
 
     pub small-message : 4 < code → Into (code - 5) (i + 1) end true ≡ nextOf (indexed cells) number s i
     small-message k =

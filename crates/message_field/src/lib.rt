@@ -28,11 +28,15 @@ pub enum Next {
     Into(u64, usize, usize, bool),
 }
 
-// Returns whether the octets of a uint, code 1, or of an int are its shortest form.
+// Returns whether the octets of a uint, code 1, or of an int are its shortest form. Most numbers have a first octet with a bit of the
+// magnitude, so they need it: these are not read.
 fn shortest_number(code: u64, s: &[u8]) -> bool
-    requires { ⌜ (1 ≤ code) × (code ≤ 2) ⌝ }
+    requires { ⌜ (1 ≤ code) × (code ≤ 2) × (length (now s) ≤ 8) ⌝ }
     ensures { λ r. ⌜ r ≡ shortContents (meaningOf code) (now (s .entry)) ⌝ }
 {
+    if s.len() == 0 || s[0] & 127 != 0 {
+        return true;
+    }
     if code == 1 {
         return octets_read::uint(s).shortest;
     }

@@ -237,14 +237,20 @@ pub fn load(s: &[u8]) -> Loaded
     }
 }
 
-// Returns the cell of a message number and a tag, or 0 if there is none.
+// Returns the cell of a message number and a tag, or 0 if there is none. Most tags have the first cell of their chain, so that is tested
+// before the search.
 pub fn cell(cells: &[u32; 128], number: u64, tag: u64) -> u64
     ensures { λ r. ⌜ r ≡ cellFor (now (cells .entry)) number tag ⌝ }
 {
     if 65535 < tag {
         return 0;
     }
-    search(cells, keys_from(number) + tag)
+    let key = keys_from(number) + tag;
+    let c = wide(cells[(key % 64) as usize]);
+    if c >> 11 == key {
+        return c;
+    }
+    search(cells, key)
 }
 
 // Returns the code of a cell's kind: 0 to 4 for raw, uint, int, string and text, 5 + m for a message with the number m.

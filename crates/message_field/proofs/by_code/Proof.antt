@@ -14,7 +14,7 @@ use Rattle.message.specs.internal.Short.{shortContents}
 use Rattle.message.specs.Reading.{stepByKind}
 use Rattle.message_field.specs.internal.Nexts.{nextAt}
 use Rattle.message_field.specs.declared.Next.the-variants.{Over, Into}
-use Rattle.message_field.proofs.Nexts.{short-message, short-text, short-no-number, message-at, plain-at, wide-at, text-at, no-text-at}
+use Rattle.message_field.proofs.Nexts.{short-message, short-text, short-no-number, contents-length, message-at, plain-at, wide-at, text-at, no-text-at}
 use borrow.Author.Needs.{needs}
 use Rattle.message_field.proofs.by_code.Statement.{statement}
 use Rattle.message_field.proofs.by_code.Tie as tie
@@ -88,9 +88,6 @@ part-shortest-number-start c = search needs
 part-shortest-number-end : tie.Need-part-shortest-number-end
 part-shortest-number-end c = search needs
 
-shortest-number-requires : tie.Need-shortest-number-requires
-shortest-number-requires c κs = ⊎-elim (λ e. (omega arith, omega arith)) (λ e. (omega arith, omega arith)) (number (c .before .before .before))
-
 -- A number of at most eight octets.
 module _ (c : tie.Else6) where
   abbrev start : tie.Start
@@ -103,6 +100,14 @@ module _ (c : tie.Else6) where
       let l = c .if6 .left in
       let h = ⊎-elim {C = a .code < 4} (λ k. omega arith) (λ k. omega arith) (number (c .before)) in
       ap (Over (a .e)) e ∙ plain-at (a .code) (now (a .s)) (a .a) (a .e) (start .pre) (short start) h (λ w k. omega arith) (λ w k. omega arith)
+
+shortest-number-requires : tie.Need-shortest-number-requires
+shortest-number-requires c κs =
+    let d = c .before .before in
+    let b = start d in
+    let few = d .if6 .left in
+    let l = contents-length (b .args .code) (now (b .args .s)) (b .args .a) (b .args .e) (b .pre) in
+    ⊎-elim (λ e. (omega arith, omega arith, omega arith)) (λ e. (omega arith, omega arith, omega arith)) (number (d .before))
 
 returns-5 : tie.Need-returns-5
 returns-5 c =

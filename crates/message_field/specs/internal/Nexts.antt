@@ -5,7 +5,9 @@ use mathlib.Core.Path.{_≡_}
 use mathlib.Core.Bool.{Bool, true, false, cond, _&&_}
 use mathlib.Core.List.{List}
 use lib.ListN.{length, getD, take, drop}
-use lib.Dec.{leb, ltb}
+use lib.Bits.{bitAnd}
+use lib.Dec.{ltb}
+use Rattle.octets.specs.Text.{text}
 use Rattle.octets.specs.Short.{shortPart}
 use Rattle.octets.specs.Control.{control}
 use Rattle.octets.specs.declared.Control.{Control}
@@ -43,6 +45,10 @@ unfoldable pub Passes : ℕ → ℕ → ℕ → List ℕ → Type 0
 Passes code a e s =
     let b = take (e - a) (drop a s) in
     Over e true ≡ nextAt a (shortContents (meaningOf code) b) (stepByKind (meaningOf code) 0 b)
+
+-- The contents of the field at an offset, whose control part is one octet, are no text where its kind is text.
+unfoldable pub NoText : ℕ → List ℕ → ℕ → Type 0
+NoText code s i = code ≡ 4 → text (take (i + 1 + bitAnd (getD s i 0) 15 - (i + 1)) (drop (i + 1) s)) ≡ false
 
 -- Whether the octet at an offset is a whole control part whose contents end within the message.
 unfoldable pub smallAt : List ℕ → ℕ → Bool

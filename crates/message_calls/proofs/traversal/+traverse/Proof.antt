@@ -18,14 +18,6 @@ use Rattle.message_field.specs.declared.Next.{Next}
 use Rattle.message_field.specs.declared.Next.the-variants.{Done, Fault, Over, Into}
 use Rattle.reading.specs.declared.Verdict.{Verdict}
 use Rattle.reading.specs.declared.Verdict.the-variants.{Accepted, Refused}
-use Rattle.message_field.specs.declared.Next.{Next}
-use Rattle.message_field.specs.declared.Next.the-variants.{Done, Fault, Over, Into}
-use Rattle.reading.specs.declared.Verdict.{Verdict}
-use Rattle.reading.specs.declared.Verdict.the-variants.{Accepted, Refused}
-use Rattle.message_field.specs.declared.Next.{Next}
-use Rattle.message_field.specs.declared.Next.the-variants.{Done, Fault, Over, Into}
-use Rattle.reading.specs.declared.Verdict.{Verdict}
-use Rattle.reading.specs.declared.Verdict.the-variants.{Accepted, Refused}
 use Rattle.message_field.proofs.Nexts.{code-small, passed-next}
 use Rattle.message_calls.specs.internal.Verdicts as verdicts
 use Rattle.message_calls.proofs.CheckLoop.{whole, State, start, at-end, at-fault, over-leaf, leaf-ends, nested-ends, nested-turn, nested-refusal, nested-small, open-reading, any-field, too-deep}
@@ -36,6 +28,7 @@ use Rattle.message_calls.proofs.traversal.traverse.Reads as traverse
 use Rattle.message_calls.proofs.traversal.traverse.Kinds as traverse-kinds
 use Rattle.message_calls.proofs.traversal.+traverse.Lts-traverse as traverse-lts
 use Rattle.message_calls.proofs.traversal.next.Reads as next-reads
+use Rattle.message_calls.proofs.traversal.accepted.Reads as accepted-reads
 use Rattle.message_calls.proofs.traversal.quick.Reads as quick-reads
 use Rattle.message_calls.proofs.traversal.rejected.Reads as rejected-reads
 use Rattle.message_calls.proofs.traversal.small_code.Reads as small-code-reads
@@ -61,6 +54,8 @@ claims t = (
   quick-reads.Learnt,
   next-reads.Asked,
   next-reads.Learnt,
+  accepted-reads.Asked,
+  accepted-reads.Learnt,
   rejected-reads.Asked,
   rejected-reads.Learnt,
   traverse-below t,
@@ -160,7 +155,7 @@ module _ (t : ℕ) (c : Quick-field t) where
       let a = args t b in
       let code = c .before .before .small-code in
       let some = c .if1 .taken in
-      let q = c .before .quick .ensures (omega (arith, some)) in
+      let q = c .before .quick .ensures .1 (omega (arith, some)) in
       let h = q .0 in
       passed-next (now (a .cells)) (a .n) (octets t b) (i t b) (code .result) (code .ensures) (omega arith) (c .before .quick .result) (q .1) (q .2)
 
@@ -285,19 +280,22 @@ traverse-loop-again t c =
     (w .0, subst (ShortSoFar (sc t b) (inner t b) (args t b .n) (args t b .at) (octets t b) (c .before .quick .result)) (sym (true-second (b .loop .shortest) true refl)) (w .1))
 
 traverse-next-requires : (t : ℕ) → traverse-lts.Need-next-requires (claims t) (traverse-at t) traverse.Post traverse-Inv-loop traverse-μ-loop
-traverse-next-requires t c κs = c .before .before .small-code .ensures
+traverse-next-requires t c κs = (c .before .before .small-code .ensures, c .before .quick .ensures .0 (c .if1 .left))
 
 traverse-enum-told : (t : ℕ) → traverse-lts.Need-enum-told (claims t) (traverse-at t) traverse.Post traverse-Inv-loop traverse-μ-loop
 traverse-enum-told t c = search needs
 
+traverse-accepted-requires : (t : ℕ) → traverse-lts.Need-accepted-requires (claims t) (traverse-at t) traverse.Post traverse-Inv-loop traverse-μ-loop
+traverse-accepted-requires t c κs = search needs
+
 traverse-returns : (t : ℕ) → traverse-lts.Need-returns (claims t) (traverse-at t) traverse.Post traverse-Inv-loop traverse-μ-loop
 traverse-returns t c =
-    let d = c .before .before in
+    let d = c .before .before .before in
     let b = loop-of t d in
-    let h = found t d Done (c .enum-told .given .1) in
-    answers t b (Accepted (b .loop .fields) (b .loop .depth)) (b .loop .shortest)
-    (at-end (sc t b) (inner t b) (args t b .n) (args t b .at) (octets t b) (i t b) (b .loop .fields) (b .loop .depth) (state t b) h)
-    (short-at-end (sc t b) (inner t b) (args t b .n) (args t b .at) (octets t b) (i t b) (b .loop .shortest) (so-far t b) (state t b .inside) h)
+    let h = found t d Done (c .before .enum-told .given .1) in
+    answers t b (c .accepted .result .verdict) (c .accepted .result .shortest)
+    (c .accepted .ensures .0 ∙ at-end (sc t b) (inner t b) (args t b .n) (args t b .at) (octets t b) (i t b) (b .loop .fields) (b .loop .depth) (state t b) h)
+    (c .accepted .ensures .1 ∙ short-at-end (sc t b) (inner t b) (args t b .n) (args t b .at) (octets t b) (i t b) (b .loop .shortest) (so-far t b) (state t b .inside) h)
 
 traverse-enum-known-k : (t : ℕ) → traverse-lts.Need-enum-known-k (claims t) (traverse-at t) traverse.Post traverse-Inv-loop traverse-μ-loop
 traverse-enum-known-k t c = search needs
@@ -474,6 +472,7 @@ pub +traverse-spec : {M : Type 1} → statement M
     (traverse-loop-again t)
     (traverse-next-requires t)
     (traverse-enum-told t)
+    (traverse-accepted-requires t)
     (traverse-returns t)
     (traverse-enum-known-k t)
     (traverse-add-rejected t)

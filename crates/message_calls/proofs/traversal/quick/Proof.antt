@@ -8,6 +8,7 @@ use lib.Bits.{bitAnd, mask-lt, and-mask}
 use lib.ListN.{length, getD}
 use borrow.Author.Tests.{eqb-false, not-true}
 use Rattle.octets.proofs.Number.{octets-of-slice}
+use Rattle.message_field.specs.internal.Nexts.{NoText}
 use Rattle.message_field.proofs.Nexts.{small-inside, text-passes}
 use Rattle.message_calls.proofs.PlainFields.{none-passes, first-passes}
 use borrow.Author.Needs.{needs}
@@ -21,7 +22,8 @@ bits : (x : ℕ) → (bitAnd x 127 ≡ 0 → ⊥) → 1 ≤ x % 128
 bits x h = let m = and-mask x 7 in omega (arith, h)
 
 returns : tie.Need-returns
-returns c = λ h. absurd (omega arith)
+unfolding NoText
+returns c = let k = c .if1 .taken in (λ z e. absurd (omega arith), λ h. absurd (omega arith))
 
 -- The field lies within the octets.
 inside : (c : tie.Else1) → let a = c .before .before .args in
@@ -56,10 +58,11 @@ returns-2 : tie.Need-returns-2
 returns-2 c =
     let d = c .before .before .before .before .before in
     let a = d .before .before .args in
-    λ h. (d .if1 .left, refl, text-passes (a .code) (now (a .s)) (a .i + 1) _ (omega arith, inside d .1) (c .before .before .before .if2 .taken) (sym (c .before .text .ensures) ∙ c .if3 .taken))
+    (λ z. absurd (omega arith), λ h. (d .if1 .left, refl, text-passes (a .code) (now (a .s)) (a .i + 1) _ (omega arith, inside d .1) (c .before .before .before .if2 .taken) (sym (c .before .text .ensures) ∙ c .if3 .taken)))
 
 returns-3 : tie.Need-returns-3
-returns-3 c = λ h. absurd (omega arith)
+unfolding NoText
+returns-3 c = (λ z e. sym (c .before .text .ensures) ∙ c .if3 .left, λ h. absurd (omega arith))
 
 shared-slice-read-if6 : tie.Need-shared-slice-read-if6
 shared-slice-read-if6 c =
@@ -82,14 +85,16 @@ returns-4 c =
     let four = below-four (d .if1 .left) (j .before .if2 .left) in
     let z : e - (a .i + 1) ≡ n = omega arith in
     let few : n ≤ 8 = c .before .before .if5 .taken in
-    let o = octets-of-slice s (λ k. c .before .shared-slice-known3 .given k .fits) in
-    λ h. (
-      d .if1 .left,
-      refl,
-      ⊎-elim (λ w. none-passes (a .code) s (a .i + 1) e (omega arith, inside d .1) four (let y : n ≡ 0 = w .0 .taken in omega arith))
-          (λ w. first-passes (a .code) s (a .i + 1) e (omega arith, inside d .1) four o (let y : n ≡ 0 → ⊥ = w .0 .left in omega (arith, y)) (omega arith)
-          (let y : j .if4 .first ≡ a .i + 1 = w .1 in bits (getD s (a .i + 1) 0) (subst (λ (q : ℕ). bitAnd (getD s q 0) 127 ≡ 0 → ⊥) y (eqb-false _ 0 (not-true _ (c .if6 .taken))))))
-          (j .if4 .came),
+    let o = octets-of-slice s (λ k. c .before .shared-slice-known3 .given k .fits) in (
+      λ y. absurd (omega arith),
+      λ h. (
+        d .if1 .left,
+        refl,
+        ⊎-elim (λ w. none-passes (a .code) s (a .i + 1) e (omega arith, inside d .1) four (let y : n ≡ 0 = w .0 .taken in omega arith))
+            (λ w. first-passes (a .code) s (a .i + 1) e (omega arith, inside d .1) four o (let y : n ≡ 0 → ⊥ = w .0 .left in omega (arith, y)) (omega arith)
+            (let y : j .if4 .first ≡ a .i + 1 = w .1 in bits (getD s (a .i + 1) 0) (subst (λ (q : ℕ). bitAnd (getD s q 0) 127 ≡ 0 → ⊥) y (eqb-false _ 0 (not-true _ (c .if6 .taken))))))
+            (j .if4 .came),
+      ),
     )
 
 plain-requires : tie.Need-plain-requires
@@ -98,10 +103,11 @@ plain-requires c κs =
     (below-four (d .if1 .left) (c .before .before .if2 .left), omega arith, inside d .1)
 
 returns-5 : tie.Need-returns-5
-returns-5 c = λ h. (c .before .before .before .before .before .before .if1 .left, refl, c .before .plain .ensures (c .if7 .taken))
+returns-5 c = (λ z. absurd (omega arith), λ h. (c .before .before .before .before .before .before .if1 .left, refl, c .before .plain .ensures (c .if7 .taken)))
 
 returns-6 : tie.Need-returns-6
-returns-6 c = λ h. absurd (omega arith)
+unfolding NoText
+returns-6 c = (λ z e. absurd (c .before .before .before .before .if2 .left e), λ h. absurd (omega arith))
 
 pub quick-spec : {M : Type 1} → statement M
 quick-spec =
