@@ -8,20 +8,25 @@ use mathlib.Core.Logic.{_↔_}
 use lib.ListN.{length, take}
 use lib.Dec.{ltb, leb, eqb}
 use borrow.Author.Tests.{ltb-true, ltb-false, leb-true, leb-false, eqb-true, eqb-false, eq-eqb}
+use Rattle.octets.specs.Number.{Octets}
 use Rattle.octets.specs.Short.{same}
 use Rattle.octets.specs.Control.{control}
 use Rattle.octets.proofs.Same.{same-exactly}
 use Rattle.octets_store.specs.Store.{stored}
 use Rattle.octets_store.proofs.Stores.{part-stored}
-use Rattle.reading.specs.Reading.{messageLimit}
+use Rattle.reading.specs.Reading.{messageLimit, depthLimit, lastNumber}
 use Rattle.reading.specs.Checks as answers
 use Rattle.reading.specs.declared.Checked.{Checked}
 use Rattle.table.specs.Load.{load}
+use Rattle.table.specs.Schema.{schema}
 use Rattle.table.specs.declared.Table.{Table}
+use Rattle.table.proofs.LoadResults.{loaded-valid}
+use Rattle.message.specs.Cut.{Cut, Good}
 use Rattle.message.specs.Reading.{reading, messageFrom, fieldsFrom, afterStep, step, stepFrom}
 use Rattle.message.specs.Shortest.{shortest}
 use Rattle.message.specs.Tree.{tree}
-use Rattle.message_calls.specs.Check.{check}
+use Rattle.message.proofs.Accepted.{accepted-exactly}
+use Rattle.message_calls.specs.Check.{check, treeCounts}
 use Rattle.message_calls.specs.Written.{shortestOfReading}
 use Rattle.message_calls.specs.Shorten as shortens
 use Rattle.message_calls.specs.Shorten.{shortestUnder, shortestByTable, shortenResult, resultBuffer, answer, buffer}
@@ -29,6 +34,7 @@ use Rattle.message_calls.specs.Short.{short}
 use Rattle.message_calls.specs.Calls.{checkOctets, shortOctets, shortenOctets, shortenBuffer}
 use Rattle.message_calls.specs.ShortAlready.{ShortAlready}
 use Rattle.message_calls.specs.declared.Shortened.{Shortened}
+use Rattle.message_calls.proofs.CheckAnswers.{read-through}
 use Rattle.message_calls.proofs.ShortAnswers as shorts
 use Rattle.message_calls.proofs.ShortenAnswers.{refused-first, no-room, shortened}
 use Rattle.message_calls.proofs.CallsByOctets.{message-too-long, table-refused, not-refused, check-as-loaded, short-as-loaded, shorten-as-loaded, buffer-as-loaded}
@@ -106,6 +112,17 @@ unfolding checkOctets answers.refusal
 check-reads table n s z =
     not-refused table s (λ (t : Table). check t n s) answers.refusal (λ (r : Checked). r .refusal) (λ (reason place : ℕ). refl) z
 
+-- A message with a good cut: the check accepts it, and its shortest octets are those of the cut's tree.
+by-tree : (table : List ℕ) → Octets table → load table .refusal ≡ 0 → (n : ℕ) → n ≤ lastNumber → (s : List ℕ) → length s ≤ messageLimit
+    → (cut : Cut) → Good (schema (load table .table)) depthLimit n s cut
+    → (shortOctets table n s ≡ true) ↔ (shortest (tree (schema (load table .table)) n cut) ≡ s)
+unfolding treeCounts answers.counts shortestByTable shortestUnder shortestOfReading
+by-tree table o z n k s h cut g =
+    let t = load table .table in
+    let r = accepted-exactly (schema t) n s cut .1 g in
+    let c = ap (λ (a : Checked). a .refusal) (read-through t n s h (loaded-valid table (load table) o refl z) k) in
+    rw (short-as-loaded table s z h n, where-accepted t n s (c ∙ rw r refl), r) (same-exactly (shortest (tree (schema t) n cut)) s)
+
 pub short-already : ShortAlready checkOctets shortOctets shortenOctets shortenBuffer
 short-already =
     record {
@@ -119,4 +136,5 @@ short-already =
           let h = check-reads table n [] z in
           let c = ap (λ (r : Checked). r .refusal) (check-as-loaded table [] (h .1) (h .0) n) in
           short-as-loaded table [] (h .1) (h .0) n ∙ empty (load table .table) n (sym c ∙ z);
+      by-tree = λ table o z n k s p h cut g. by-tree table o z n k s h cut g;
     }

@@ -1,17 +1,19 @@
 -- Wrong programs in the place of crudvim_check.
 use Prim.Native.Nat.{ℕ}
-use mathlib.Core.Path.{_≡_, refl}
+use mathlib.Core.Path.{_≡_, refl, sym, ap, _∙_}
+use mathlib.Core.Bool.{true, false}
 use mathlib.Core.List.{List, [], _∷_}
 use lib.ListN.{length}
 use lib.Dec.{T, ltb}
 use borrow.Author.Tests.{eqb-false}
 use Rattle.reading.specs.declared.Checked.{Checked}
 use Rattle.reading.specs.Checks as answers
-use Rattle.wrong_programs.specs.Kinds.{RuledOut, Rejects, Accepts, Invents, SeesOnly, Follows, always, due}
-use Rattle.wrong_programs.specs.Check.{CheckCall, check}
-use Rattle.wrong_programs.proofs.RulingOut.{Sample, given, rejects, accepts, invents, sees-only, follows}
+use Rattle.message_calls.proofs.ShortAlready.{short-already}
+use Rattle.wrong_programs.specs.Kinds.{RuledOut, Rejects, Accepts, AcceptsSome, Invents, SeesOnly, Follows, always, due, refusal-of, rejectedBy}
+use Rattle.wrong_programs.specs.Check.{CheckCall, check, short}
+use Rattle.wrong_programs.proofs.RulingOut.{Sample, given, rejects, accepts, accepts-some, invents, sees-only, follows}
 use Rattle.wrong_programs.proofs.Computing.{hproto}
-use Rattle.wrong_programs.proofs.Witnesses.{messages, asked}
+use Rattle.wrong_programs.proofs.Witnesses.{uints, messages, asked}
 
 abbrev accepted : ℕ → ℕ → Checked
 accepted fields depth = record { refusal = 0; place = 0; fields = fields; depth = depth }
@@ -174,3 +176,78 @@ cut-in-a-field x = ((c : ℕ) × (message x ≡ 0x11 ∷ c ∷ [])) × due check
 pub place-of-the-outer-field : RuledOut (Invents place (λ (x : CheckCall). 0) cut-in-a-field) check
 unfolding cut-inside
 place-of-the-outer-field = invents place (λ (x : CheckCall). 0) cut-in-a-field cut-inside ((0xf0, refl), refl) (eqb-false 1 0 refl)
+
+-- ---- its answer whether the message is short
+
+-- A uint 0 in one octet, which shortens to none; a uint 5, which is short; and the octet 0 raw, which is short too.
+zero : Sample short
+unfolding hproto
+zero = given (asked uints 0 (0x11 ∷ 0x00 ∷ [])) false tt refl
+
+five : Sample short
+unfolding hproto
+five = given (asked uints 0 (0x11 ∷ 0x05 ∷ [])) true tt refl
+
+raw-zero : Sample short
+unfolding hproto
+raw-zero = given (asked [] 0 (0x11 ∷ 0x00 ∷ [])) true tt refl
+
+-- A length that takes an octet more than it needs: of a raw field, and of a field in a nested message.
+long-control : Sample short
+unfolding hproto
+long-control = given (asked [] 0 (0x1c ∷ 0x01 ∷ 0x00 ∷ [])) false tt refl
+
+long-inside : Sample short
+unfolding hproto
+long-inside = given (asked messages 0 (0x12 ∷ 0x1c ∷ 0x00 ∷ [])) false tt refl
+
+-- It says no to every message.
+pub short-never : RuledOut (Rejects refusal-of always) short
+unfolding five
+short-never = rejects refusal-of always five tt refl
+
+-- It says yes to every message.
+pub short-always : RuledOut (Accepts refusal-of always) short
+unfolding zero
+short-always = accepts refusal-of always zero tt (eqb-false 1 0 refl)
+
+-- It says yes to every message that the check accepts.
+pub short-if-accepted : RuledOut (Accepts refusal-of accepts-it) short
+unfolding hproto zero
+short-if-accepted = accepts refusal-of accepts-it zero refl (eqb-false 1 0 refl)
+
+-- It says yes to a message that the check rejects. One such call is enough.
+pub short-though-rejected : RuledOut (AcceptsSome refusal-of (rejectedBy check refusal)) short
+unfolding check short
+short-though-rejected = accepts-some refusal-of (rejectedBy check refusal)
+    (λ x ne e. eqb-false 1 0 refl
+    (sym (ap refusal-of (short-already .refused-not-short (x .value .table) (x .value .number) (message x) ne)) ∙ e))
+
+-- Its answer is made from the length of the message, or from the counts of fields and depth, and not from the octets.
+abbrev length-and-counts : CheckCall → List ℕ × ℕ × ℕ × ℕ × ℕ
+length-and-counts x = (x .value .table, x .value .number, size x, fields (check x), depth (check x))
+
+pub short-by-length-and-counts : RuledOut (SeesOnly length-and-counts refusal-of accepts-it) short
+unfolding hproto zero five
+short-by-length-and-counts = sees-only length-and-counts refusal-of accepts-it zero five refl refl refl (eqb-false 1 0 refl)
+
+-- It looks at the control parts alone, and not at the table, which says what fields are numbers.
+pub short-by-control-parts : RuledOut (SeesOnly all-but-the-table refusal-of accepts-it) short
+unfolding hproto zero raw-zero
+short-by-control-parts = sees-only all-but-the-table refusal-of accepts-it zero raw-zero refl refl refl (eqb-false 1 0 refl)
+
+-- It looks at the numbers alone, and so says yes to every message without any.
+abbrev has-no-numbers : CheckCall → Type 0
+has-no-numbers x = (x .value .table ≡ []) × accepts-it x
+
+pub short-by-numbers : RuledOut (Accepts refusal-of has-no-numbers) short
+unfolding hproto long-control
+short-by-numbers = accepts refusal-of has-no-numbers long-control (refl, refl) (eqb-false 1 0 refl)
+
+-- It looks at the outermost fields alone, and so says yes where the one field is a message and has a short control part.
+abbrev has-short-outside : CheckCall → Type 0
+has-short-outside x = (x .value .table ≡ messages) × (x .value .number ≡ 0) × ((a : ℕ) × (b : ℕ) × (message x ≡ 0x12 ∷ a ∷ b ∷ [])) × accepts-it x
+
+pub short-by-outermost : RuledOut (Accepts refusal-of has-short-outside) short
+unfolding hproto long-inside
+short-by-outermost = accepts refusal-of has-short-outside long-inside (refl, refl, (0x1c, 0x00, refl), refl) (eqb-false 1 0 refl)

@@ -3,6 +3,7 @@
 use Rattle.octets.specs.Number as octets
 use Rattle.octets.specs.Signed as signs
 use Rattle.octets.specs.Control as controls
+use Rattle.octets.specs.Short.{same}
 use Rattle.reading.specs.Reading.{onAccepted, inOrder}
 use Rattle.reading.specs.Checks as answers
 use Rattle.table.specs.Entry as entries
@@ -19,9 +20,10 @@ use Rattle.message_calls.specs.Check as checks
 use Rattle.message_calls.specs.Lookup as lookups
 use Rattle.message_calls.specs.Written.{shortestOfReading}
 use Rattle.message_calls.specs.Shorten as shortens
+use Rattle.message_calls.specs.Short as shorts
 use Rattle.octets_store.specs.Store.{stored}
 use Rattle.message_frame.specs.Frame as frames
-use Rattle.message_calls.specs.Calls.{checkOctets, shortenOctets, shortenBuffer, lookupOctets, lookupLastOctets, withTable}
+use Rattle.message_calls.specs.Calls.{checkOctets, shortOctets, shortenOctets, shortenBuffer, lookupOctets, lookupLastOctets, withTable}
 use Rattle.text_window.specs.Ascii.{ascii}
 use Rattle.text_window.specs.Digits as digits
 use Rattle.text_message.specs.Text as prints
@@ -58,20 +60,20 @@ use Rattle.wrong_programs.specs.Tib as tibs
 use Rattle.wrong_programs.specs.Reals as reals
 
 unfoldable pub hproto : Type 0
-unfolding kinds.always kinds.below kinds.array kinds.octets kinds.word kinds.words kinds.table load.load check.fits check.check lookup.fits
-    lookup.lookup lookup.lookupLast shorten.fits shorten.shorten frameRead.frameRead frameWrite.fits frameWrite.frameWrite show.fits show.show
+unfolding kinds.always kinds.below kinds.array kinds.octets kinds.word kinds.words kinds.table load.load check.fits check.check check.short
+    lookup.fits lookup.lookup lookup.lookupLast shorten.fits shorten.shorten frameRead.frameRead frameWrite.fits frameWrite.frameWrite show.fits show.show
     valid.valid loads.load loads.loadFrom loads.accepted loads.refused loads.tableOf loads.wordsBefore loads.faulty
     loads.wellFormed loads.recordAt loads.wordAt loads.inRange loads.seen loads.pair schemas.schema schemas.schemaOf entries.entry entries.entries
     entries.find entries.meaning entries.innerOf entries.kindNumber valids.valid valids.allInRange valids.allZero repeats.distinct octets.bigEndian
     octets.octetsOf octets.width octets.widthWithin octets.leastUint signs.integer signs.withSign signs.lowest controls.control controls.controlOf
-    controls.following controls.coded controls.leastControl controls.leastCode controls.firstFit onAccepted inOrder readings.reading
+    controls.following controls.coded controls.leastControl controls.leastCode controls.firstFit same onAccepted inOrder readings.reading
     readings.messageFrom readings.fieldsFrom readings.afterStep readings.step readings.stepFrom readings.stepByKind cuts.joined trees.tree
     readings.tagOf readings.tagAt trees.value trees.depth trees.fields shortests.shortest shortests.field shortests.leastContents answers.counts
     answers.refusal checks.check checks.checkUnder checks.treeCounts lookups.outermost items.itemTag items.withTag lookups.lastOr lookups.chosen
     items.itemKind items.kindOf items.uintOf items.intOf lookups.refusal lookups.found lookups.foundIn lookups.answer lookups.lookup lookups.lookupLast
     shortestOfReading shortens.refusal shortens.shortestUnder shortens.shortestByTable shortens.roomy shortens.shortenResult shortens.resultBuffer shortens.answer
-    shortens.buffer withTable checkOctets lookupOctets lookupLastOctets shortenOctets shortenBuffer stored frames.announced frames.prefixed
-    frames.frontRead frames.frameRead frames.messagePart frames.shortestPrefix frames.framed frames.frameWritten frames.frameStored ascii
+    shortens.buffer shorts.short withTable checkOctets shortOctets lookupOctets lookupLastOctets shortenOctets shortenBuffer stored frames.announced
+    frames.prefixed frames.frontRead frames.frameRead frames.messagePart frames.shortestPrefix frames.framed frames.frameWritten frames.frameStored ascii
     digits.glyph digits.decimalWithin digits.decimal digits.fourDigits prints.kindName prints.valueText prints.lineStart prints.line prints.lines
     prints.page prints.shown prints.refusalText prints.readText prints.messageText window shows.secondText shows.tableText shows.firstText shows.output
 hproto = Unit {0}

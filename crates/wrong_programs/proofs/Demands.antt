@@ -1,13 +1,14 @@
--- Demand 1 by itself fixes what a check answers, and demand 3 what a shortener beside that check answers and stores.
+-- Demand 1 by itself fixes what a check answers, and demand 3 what a shortener beside that check answers and stores. Beside both, the statement
+-- `ShortAlready` fixes the check's answer whether a message is short.
 use Prim.Native.Nat.{ℕ, _≤_, _<_}
 use native.Mathlib.Omega.{arith}
 use native.Mathlib.Decide.{ℕ-discrete}
-use mathlib.Core.Path.{_≡_, refl, sym, _∙_, ap, subst}
+use mathlib.Core.Path.{_≡_, refl, sym, _∙_, ap, ap₂, subst}
 use mathlib.Core.Bool.{Bool, true, false, _&&_}
 use mathlib.Core.List.{List, [], _∷_, _++_}
 use mathlib.Core.List as lists
 use mathlib.Core.Logic.{⊎-elim}
-use lib.ListN.{length, drop, getD}
+use lib.ListN.{length, take, drop, getD}
 use lib.Seq.{sets}
 use lib.Dec.{leb, ltb, T}
 use borrow.Author.Tests.{leb-true, leb-false, ltb-true, ltb-false}
@@ -15,16 +16,19 @@ use Rattle.reading.specs.Reading.{messageLimit}
 use Rattle.reading.specs.Checks.{refusal}
 use Rattle.reading.specs.declared.Checked.{Checked}
 use Rattle.octets.specs.Number.{Octets}
+use Rattle.octets.proofs.Bools.{same-test}
 use Rattle.table.specs.Load.{load}
 use Rattle.table.specs.Schema.{Schema, schema}
 use Rattle.table.specs.declared.Loaded.{Loaded}
 use Rattle.message.specs.ReadTheSame.{HasCut, IsShortest, ReadTheSame, OthersMore}
 use Rattle.message_calls.specs.Demand3.{Demand3Holds, Shortens}
 use Rattle.message_calls.specs.declared.Shortened.{Shortened}
-use Rattle.message_calls.specs.Calls.{checkOctets, shortenOctets, shortenBuffer}
+use Rattle.message_calls.specs.Calls.{checkOctets, shortOctets, shortenOctets, shortenBuffer}
 use Rattle.message_calls.specs.Demand1.{Demand1Holds}
+use Rattle.message_calls.specs.ShortAlready.{ShortAlready}
 use Rattle.message_calls.proofs.Demand1.{demand-1}
 use Rattle.message_calls.proofs.Demand3.{demand-3}
+use Rattle.message_calls.proofs.ShortAlready.{short-already}
 use Rattle.wrong_programs.specs.Kinds as kinds
 use Rattle.wrong_programs.proofs.RulingOut.{differ-at}
 use Rattle.wrong_programs.proofs.Computing.{hproto}
@@ -163,6 +167,30 @@ module _ (check : List ℕ → ℕ → List ℕ → Checked) (shorten : List ℕ
       let same = demand-1-fixes check first table o n s p in
       let f = demand-3-fixes n s p same out in
       (same, f .0, f .1)
+
+  -- A function that meets `ShortAlready` beside both gives the answer of this library whether a message is short, on every input.
+  pub short-fixed : Demand1Holds check → (short : List ℕ → ℕ → List ℕ → Bool) → ShortAlready check short shorten buffer
+      → (n : ℕ) (s : List ℕ) → Octets s → short table n s ≡ shortOctets table n s
+  short-fixed first short already n s p = go (ℕ-discrete (checkOctets table n s .refusal) 0)
+    where
+      refusal-is : check table n s .refusal ≡ checkOctets table n s .refusal
+      refusal-is = ap (λ (c : Checked). c .refusal) (demand-1-fixes check first table o n s p)
+
+      go : Dec (checkOctets table n s .refusal ≡ 0) → short table n s ≡ shortOctets table n s
+      -- With the shortest octets as the second buffer there is room, and both say yes exactly if the octets written are the message.
+      go (yes z) =
+          let w = accepted-within table n s z in
+          let d = demand-3 .within-limits table o (w .1) n (w .2) s p (w .0) in
+          let y = d .shortened (d .accepted-exactly-cut .0 z) in
+          let out = y .0 in
+          let r = ap (λ (a : Shortened). a .refusal) (y .1 .with-room out (omega arith) .0) in
+          let f = demands-fix first n s p out in
+          let ours = short-already .short-exactly table n s out r in
+          let theirs = already .short-exactly table n s out (ap (λ (a : Shortened). a .refusal) (f .1) ∙ r) in
+          let same-front = ap₂ (λ (a : Shortened) (b : List ℕ). take (a .length) b) (f .1) (f .2) in
+          same-test (short table n s) (shortOctets table n s) (λ e. ours .1 (sym same-front ∙ theirs .0 e)) (λ e. theirs .1 (same-front ∙ ours .0 e))
+      go (no ne) =
+          already .refused-not-short table n s (λ e. ne (sym refusal-is ∙ e)) ∙ sym (short-already .refused-not-short table n s ne)
 
 -- So no shortener that copies its input meets demand 3, with any answer and any check beside it: the copy of a uint 5 in four
 -- octets is not the shortest.

@@ -8,6 +8,7 @@ use mathlib.Core.List.{List}
 use lib.ListN.{length}
 use lib.Dec.{ltb, eqb}
 use borrow.Author.Tests.{eqb-true}
+use Rattle.octets.proofs.Bools.{and-left}
 use Rattle.reading.specs.Reading.{messageLimit}
 use Rattle.reading.specs.Checks as answers
 use Rattle.reading.specs.declared.Checked.{Checked}
@@ -15,6 +16,7 @@ use Rattle.table.specs.Schema.{schema}
 use Rattle.table.specs.Valid.{valid}
 use Rattle.table.specs.declared.Table.{Table}
 use Rattle.message_calls.specs.Check as checks
+use Rattle.message_calls.specs.Short as shorts
 use Rattle.message_calls.specs.Lookup as lookups
 use Rattle.message_calls.specs.declared.Found.{Found}
 use Rattle.message_calls.specs.Shorten as shortens
@@ -24,7 +26,7 @@ use Rattle.wrong_programs.specs.Kinds as kinds
 use Rattle.wrong_programs.specs.Kinds.{refusal-of}
 use Rattle.wrong_programs.specs.Valid as validity
 use Rattle.wrong_programs.specs.Valid.{ValidCall}
-use Rattle.wrong_programs.specs.TableValues.{ValueCall, fits, check, lookup, lookupLast, shorten}
+use Rattle.wrong_programs.specs.TableValues.{ValueCall, fits, check, short, lookup, lookupLast, shorten}
 use Rattle.wrong_programs.specs.Faults.{BadTableRuledOut}
 use Rattle.wrong_programs.proofs.Faults.{and-false, equal, holds, bad-table}
 
@@ -72,6 +74,11 @@ module _ {B : Type 0} {right : ValueCall → B} (refusal : B → ℕ)
 -- It accepts a table value that the loader cannot give.
 pub check-accepts-bad-table : BadTableRuledOut check (λ (r : Checked). r .refusal) table
 check-accepts-bad-table = behind-the-check (λ (r : Checked). r .refusal) (λ x e. e)
+
+pub short-accepts-bad-table : BadTableRuledOut short refusal-of table
+unfolding check short shorts.short
+short-accepts-bad-table =
+    behind-the-check refusal-of (λ x e. eqb-true (check x .refusal) 0 (and-left (eqb (check x .refusal) 0) _ (holds (short x) e)))
 
 pub lookup-accepts-bad-table : BadTableRuledOut lookup found-refusal table
 unfolding check lookup lookups.lookup lookups.answer lookups.refusal

@@ -5,6 +5,7 @@ use mathlib.Core.List.{List}
 use Rattle.reading.specs.declared.Checked.{Checked}
 use Rattle.table.specs.declared.Table.{Table}
 use Rattle.message_calls.specs.Check as checks
+use Rattle.message_calls.specs.Short as shorts
 use Rattle.message_calls.specs.Lookup as lookups
 use Rattle.message_calls.specs.declared.Found.{Found}
 use Rattle.message_calls.specs.Shorten as shortens
@@ -30,6 +31,10 @@ ValueCall = Given fits
 -- The contracts of check_loaded, lookup_loaded, lookup_last_loaded and shorten_loaded of message_calls.
 unfoldable pub check : ValueCall → Checked
 check x = checks.check (x .value .table) (x .value .number) (x .value .message)
+
+-- The second answer of check_loaded: whether the message is short.
+unfoldable pub short : ValueCall → Bool
+short x = shorts.short (x .value .table) (x .value .number) (x .value .message)
 
 unfoldable pub lookup : ValueCall → Found
 lookup x = lookups.lookup (x .value .table) (x .value .number) (x .value .message) (x .value .tag) (x .value .k)
