@@ -4,7 +4,7 @@
  *     concentrator TABLE-FILE [MESSAGE-NUMBER] < frames > shortened-frames
  *
  * A message that is in its shortest form already is passed on from the input buffer; any other is shortened first. The last line on
- * standard error counts both under "shortened", and the first of them again under "already short".
+ * standard error counts every message that is passed on as "shortened", and those that were short before also as "already short".
  *
  * A message that is refused is left out and reported on standard error, with the refusal's number, its meaning and its place. Frames
  * have no mark by which a start could be found: after a refused message the next frame follows where the prefix says, and where a

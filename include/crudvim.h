@@ -71,8 +71,8 @@ static inline const char *crudvim_refusal_text(uint64_t refusal)
 
 /* Checks a message under a field table and a message number. *fields is the count of its fields at all depths, *depth the depth of
  * its deepest message (1 where nothing is nested). *shortest is 1 where the message is its own shortest form already, so that
- * crudvim_shorten would give back the very same octets, and 0 where it could be shortened. Refusals, in this order: 1 at 0 for a
- * message over 65536 octets; 2 at the faulty record of the table; 2 at 0 for a number over 15; then the first fault of the
+ * crudvim_shorten would give back the same octets, and 0 where it could be shortened or is refused. Refusals, in this order: 1 at 0
+ * for a message over 65536 octets; 2 at the faulty record of the table; 2 at 0 for a number over 15; then the first fault of the
  * message. */
 uint64_t crudvim_check(const uint8_t *table, size_t table_len, uint64_t number, const uint8_t *message, size_t message_len,
                        uint64_t *place, uint64_t *fields, uint64_t *depth, uint64_t *shortest);

@@ -1,8 +1,8 @@
 #!/usr/bin/env bash
 # Builds the C example with every warning an error, installs the library into a scratch folder and builds against that, and runs the
-# example on two stored streams, one with damaged frames and one with messages in short and in longer forms, README's program, calls with
-# null pointers under valgrind, and the measurement of the stack; and looks at what the archive needs. It needs
-# target/staticlib/libcrudvim.a, which `rt staticlib crudvim` makes.
+# example on two stored streams, one with damaged frames and one with messages in short and in longer forms, and on short messages without
+# the shortener; README's program, calls with null pointers under valgrind, and the measurement of the stack; and looks at what the archive
+# needs. It needs target/staticlib/libcrudvim.a, which `rt staticlib crudvim` makes.
 set -eu
 cd "$(dirname "$0")/../.."
 here=tests/concentrator
@@ -30,6 +30,16 @@ try_stream() {
 python3 $here/unhex.py < $here/table.hex > "$work/table"
 try_stream stream expected
 try_stream forms forms-expected
+
+# A short message does not reach the shortener. With a stand-in that ends the program, the short messages of the last stream pass as they
+# are, and the stream with longer forms ends at the stand-in.
+gcc -std=c99 -Wall -Wextra -Werror -pedantic -O2 -I"$work/usr/include" -Wl,--wrap=crudvim_shorten \
+    examples/concentrator.c $here/no_shortener.c -L"$work/usr/lib" -lcrudvim -o "$work/no_shortener"
+"$work/no_shortener" "$work/table" < "$work/expected" > "$work/output" 2> /dev/null
+cmp "$work/expected" "$work/output"
+status=0
+"$work/no_shortener" "$work/table" < "$work/stream" > /dev/null 2>&1 || status=$?
+[ "$status" = 3 ]
 
 # The program in README.md.
 sed -n '/^```c$/,/^```$/p' README.md | sed '1d;$d' > "$work/readme.c"

@@ -128,7 +128,7 @@ int main(int argc, char **argv)
     fill_nest();
     fill_tib();
     if (!fill_least())
-        return printf("the nested message is not eight deep, or short, or its shortest form is not\n"), 2;
+        return printf("the nested message is refused, not eight deep or short already, or its shortest form is not short\n"), 2;
     if (crudvim_tibrv_check(tib, tib_length, &a, &b, &c) != 0 || c != 8)
         return printf("the TibrvMsg is not eight deep\n"), 2;
     for (size_t k = 0; k < sizeof entries / sizeof entries[0]; k++) {

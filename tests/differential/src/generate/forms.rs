@@ -44,7 +44,7 @@ pub fn short_but_for(fields: &[Field], one: usize, steps: usize) -> (Vec<u8>, us
     (octets, choose.asked)
 }
 
-/// The octets of a tree, of five times once in the shortest form and else short but for one part.
+/// The octets of a tree, one time in five in the shortest form, else short but for one part.
 pub fn almost_short(rng: &mut Rng, fields: &[Field]) -> Vec<u8> {
     let (short, parts) = short_but_for(fields, usize::MAX, 0);
     if parts == 0 || rng.chance(20) {
@@ -86,7 +86,7 @@ pub fn table() -> &'static [u8] {
 
 const DEPTHS: usize = 8;
 const STEPS: usize = 4;
-/// The parts of the fields of one level: two control parts each, and four numbers.
+/// The parts of one level without its message field: a tag and a length for each of eight fields, and four numbers.
 const LEVEL_PARTS: usize = 8 * 2 + 4;
 
 /// How many parts the tree of a depth has.

@@ -87,7 +87,7 @@ fn short_by_two_ways() {
     assert!(seen.iter().all(|count| *count > 5_000), "{seen:?}");
 }
 
-/// The trees that are short but for one part: with none they are short, and with any but one without longer forms they are not.
+/// A tree in its shortest form is short; with one part in a longer form it is not, unless that part has no longer form.
 #[test]
 fn short_but_for_one() {
     for depth in 1..=8 {
