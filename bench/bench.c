@@ -187,21 +187,21 @@ static void put_record(struct octets *to, unsigned number, unsigned tag, enum ki
 /* ---- tables ---- */
 
 /* The six entries of a meter reading: message `outer` has a serial number, a time, a unit and readings; message `outer + 1`, a
- * reading, has a register and a value. */
-static void put_meter_records(struct octets *to, unsigned outer)
+ * reading, has a register and a value. `higher` is added to every tag. */
+static void put_meter_records(struct octets *to, unsigned outer, unsigned higher)
 {
-    put_record(to, outer, 1, UINT, 0);
-    put_record(to, outer, 2, UINT, 0);
-    put_record(to, outer, 3, TEXT, 0);
-    put_record(to, outer, 4, MESSAGE, outer + 1);
-    put_record(to, outer + 1, 0, UINT, 0);
-    put_record(to, outer + 1, 1, INT, 0);
+    put_record(to, outer, higher + 1, UINT, 0);
+    put_record(to, outer, higher + 2, UINT, 0);
+    put_record(to, outer, higher + 3, TEXT, 0);
+    put_record(to, outer, higher + 4, MESSAGE, outer + 1);
+    put_record(to, outer + 1, higher, UINT, 0);
+    put_record(to, outer + 1, higher + 1, INT, 0);
 }
 
-static struct octets meter_table(void)
+static struct octets meter_table(unsigned higher)
 {
     struct octets table = room(TABLE_ROOM);
-    put_meter_records(&table, 0);
+    put_meter_records(&table, 0, higher);
     return table;
 }
 
@@ -222,7 +222,7 @@ static struct octets full_table(int shuffled)
     struct octets table = room(TABLE_ROOM);
     for (unsigned i = 0; i < 58; i++)
         put_record(&table, i / 6, i % 6, (enum kind)(UINT + i % 4), 0);
-    put_meter_records(&table, 14);
+    put_meter_records(&table, 14, 0);
     if (shuffled) {
         shuffle_records(table.data, 58);
         shuffle_records(table.data + 8 * 58, 6);
@@ -245,20 +245,21 @@ static struct octets kinds_table(void)
 /* ---- messages ---- */
 
 /* 82 fields: four of the message's own, and 26 readings of a register and a value. Where it is wide, registers have two octets and
- * the other numbers eight, and lengths stand on an octet of their own; else every field has its shortest form. */
-static struct octets meter_message(int wide)
+ * the other numbers eight, and lengths stand on an octet of their own; else every field has its shortest form. `higher` is added to
+ * every tag. */
+static struct octets meter_message(int wide, unsigned higher)
 {
     struct octets message = room(LIMIT);
     size_t number = wide ? 8 : 0;
-    put_wide_uint(&message, 1, 40871236, number);
-    put_wide_uint(&message, 2, 1760000000, number);
-    put_field(&message, 3, "kWh", 3);
-    put_field(&message, 9, "\x07", 1);
+    put_wide_uint(&message, higher + 1, 40871236, number);
+    put_wide_uint(&message, higher + 2, 1760000000, number);
+    put_field(&message, higher + 3, "kWh", 3);
+    put_field(&message, higher + 9, "\x07", 1);
     for (unsigned i = 0; i < 26; i++) {
         struct octets reading = room(32);
-        put_wide_uint(&reading, 0, i, wide ? 2 : 0);
-        put_wide_int(&reading, 1, i % 4 == 3, 700 + random_below(i % 2 ? 90000 : 6000000), number);
-        put_field(&message, 4, reading.data, reading.len);
+        put_wide_uint(&reading, higher, i, wide ? 2 : 0);
+        put_wide_int(&reading, higher + 1, i % 4 == 3, 700 + random_below(i % 2 ? 90000 : 6000000), number);
+        put_field(&message, higher + 4, reading.data, reading.len);
         free(reading.data);
     }
     return message;
@@ -515,20 +516,24 @@ static void add_both(const char *name, struct octets table, uint64_t number, str
 static void add_hproto_rows(void)
 {
     struct octets none = room(0);
-    struct octets six = meter_table();
+    struct octets six = meter_table(0);
+    struct octets six_great = meter_table(100);
     struct octets rising = full_table(0);
     struct octets shuffled = full_table(1);
     struct octets kinds = kinds_table();
-    /* The wide reading draws the same numbers again, so the rows behind it do not depend on it. */
+    /* Each reading draws the same numbers again, so the rows behind them do not depend on how many there are. */
     uint64_t state = random_state;
-    struct octets meter = meter_message(0);
+    struct octets meter = meter_message(0, 0);
     random_state = state;
-    struct octets wide_meter = meter_message(1);
+    struct octets great_meter = meter_message(0, 100);
+    random_state = state;
+    struct octets wide_meter = meter_message(1, 0);
     add("load-0", CHECK, none, 0, none, 0);
     add("load-6", CHECK, six, 0, none, 0);
     add("load-64-rising", CHECK, rising, 14, none, 0);
     add("load-64-shuffled", CHECK, shuffled, 14, none, 0);
     add_both("a-meter-table-6", six, 0, meter);
+    add_both("a-meter-great-tags", six_great, 0, great_meter);
     add_both("a-meter-wide-table-6", six, 0, wide_meter);
     add_both("b-meter-table-64-rising", rising, 14, meter);
     add_both("b-meter-table-64-shuffled", shuffled, 14, meter);
