@@ -1,6 +1,6 @@
 -- Laws of Boolean tests that this crate and its users share.
 use mathlib.Core.Path.{_≡_, refl, sym, _∙_}
-use mathlib.Core.Bool.{Bool, true, false, not, _&&_, _||_, true≢false, false≢true}
+use mathlib.Core.Bool.{Bool, true, false, _&&_, _||_, true≢false, false≢true}
 use Prim.Native.Nat.{ℕ}
 use lib.Dec.{eqb}
 use borrow.Author.Tests.{eqb-true, eq-eqb}
@@ -30,14 +30,6 @@ second-decides p q r e f = rw e at f
 pub first-decides : (p q r : Bool) → p ≡ false → p && q ≡ r → p ≡ r
 first-decides p q r e f = e ∙ rw e at f
 
-pub and-false : (a : Bool) → a && false ≡ false
-and-false true = refl
-and-false false = refl
-
-pub and-assoc : (a b c : Bool) → a && (b && c) ≡ (a && b) && c
-and-assoc true b c = refl
-and-assoc false b c = refl
-
 -- A second side that is true leaves the first.
 pub true-second : (a b : Bool) → b ≡ true → a ≡ a && b
 true-second true b e = sym e
@@ -61,9 +53,6 @@ or-first a b p = rw p refl
 pub or-second : (a b : Bool) → b ≡ true → a || b ≡ true
 or-second true b p = refl
 or-second false b p = p
-
-pub not-of-false : (a : Bool) → a ≡ false → not a ≡ true
-not-of-false a p = rw p refl
 
 -- Two tests are equal if each implies the other.
 pub same-test : (a b : Bool) → (a ≡ true → b ≡ true) → (b ≡ true → a ≡ true) → a ≡ b

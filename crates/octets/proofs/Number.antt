@@ -51,11 +51,10 @@ octets-of-slice [] h = tt
 octets-of-slice (x ∷ s) h = (h 0, octets-of-slice s (λ i. h (suc i)))
 
 -- A part of octets that starts anywhere has octets.
-pub octets-from : (i : ℕ) (s : List ℕ) → Octets s → Octets (drop i s)
-octets-from i s o = octets-after (take i s) (drop i s) (rw (take-append-drop i s) o)
-
 pub octets-part : (n i : ℕ) (s : List ℕ) → Octets s → Octets (take n (drop i s))
-octets-part n i s o = octets-before (take n (drop i s)) (drop n (drop i s)) (rw (take-append-drop n (drop i s)) (octets-from i s o))
+octets-part n i s o =
+    octets-before (take n (drop i s)) (drop n (drop i s))
+    (rw (take-append-drop n (drop i s)) (octets-after (take i s) (drop i s) (rw (take-append-drop i s) o)))
 
 pub number-append : (s t : List ℕ) → bigEndian (s ++ t) ≡ bigEndian s * 256 ^ length t + bigEndian t
 unfolding bigEndian

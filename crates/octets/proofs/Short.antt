@@ -9,13 +9,13 @@ use lib.ListN.{length, getD, take, drop, length-append, length-drop}
 use lib.Seq.{take-all, take-add, length-take-le}
 use lib.IntN.{ℤ}
 use lib.Dec.{eqb, leb, ltb}
-use borrow.Author.Tests.{eqb-true, eq-eqb, leb-true, le-leb, lt-leb, ltb-true, ltb-false, lt-ltb}
+use borrow.Author.Tests.{eqb-true, eq-eqb, leb-true, le-leb, lt-leb, ltb-true, ltb-false, lt-ltb, le-ltb}
 use Rattle.octets.specs.Number.{Octets, bigEndian, octetsOf, width, widthWithin, leastUint}
 use Rattle.octets.specs.Signed.{lowest, withSign, integer, signedWidth, leastInt}
 use Rattle.octets.specs.LeastLength.{zigzag}
 use Rattle.octets.specs.NoShorter.{NoShorter}
 use Rattle.octets.specs.ControlPart.{Code, tagCode, lengthCode, Form, direct, follows, ControlPart}
-use Rattle.octets.specs.Control.{controlOf, control, firstFit, leastCode, leastControl}
+use Rattle.octets.specs.Control.{following, coded, controlOf, control, firstFit, leastCode, leastControl}
 use Rattle.octets.specs.declared.Control.the-variants.{Whole}
 use Rattle.octets.specs.Short.{same, shortUint, shortInt, shortPart, shortControl}
 use Rattle.octets.specs.internal.Bounded.{unsigned, signed}
@@ -262,6 +262,15 @@ short-control c s small o = rw (← control-some c s small) (go (ltb (length s) 
         (part-least (tag-read c s) (length-read c s) (c / 16) (c % 16) a b (omega arith, octets-append a b (octets-part n 0 s o) (octets-part m n s o))
         (form-of tagCode (c / 16) a (omega arith) (length-take-le n s (omega arith)))
         (form-of lengthCode (c % 16) b (omega arith) (length-take-le m (drop n s) (omega arith))))
+
+-- A control octet with a direct tag and a direct length is the least control part of these.
+pub short-direct : (c : ℕ) (s : List ℕ) → c / 16 < 14 → c % 16 < 12 → shortControl (c ∷ s) ≡ true
+unfolding shortControl shortPart controlOf following coded leastControl leastCode same
+short-direct c s h k =
+    let e : c / 16 * 16 + c % 16 ≡ c = omega arith in
+    let w : controlOf (c / 16) (c % 16) s ≡ Whole (c / 16) (c % 16) 1 =
+    rw (lt-ltb (c / 16) 14 h, lt-ltb (c % 16) 12 k, le-ltb (length s) 0 (omega arith)) in
+    rw (← control-some c s (omega arith), w, lt-ltb (c / 16) 14 h, lt-ltb (c % 16) 12 k, eq-eqb (c / 16 * 16 + c % 16) c e) refl
 
 -- A control part is as short where it stands alone.
 pub short-front : (s : List ℕ) (tag len size : ℕ) → control s ≡ Whole tag len size → shortControl (take size s) ≡ shortControl s

@@ -2,7 +2,7 @@
 use Prim.Native.Nat.{ℕ, zero, suc, _≤_, _<_}
 use native.Mathlib.Omega.{arith}
 use mathlib.Core.Path.{_≡_, refl, ap, _∙_, subst}
-use mathlib.Core.Bool.{Bool, true, false, cond, _&&_, false≢true}
+use mathlib.Core.Bool.{Bool, true, false, cond, _&&_, and-false, false≢true}
 use mathlib.Core.List.{List, [], _∷_, _++_}
 use mathlib.Core.Logic.{_↔_, inl, inr}
 use mathlib.Core.Option.{Option, none, some}
@@ -34,10 +34,6 @@ below-range r x h = rw (lt-leb (r .low) x h)
 pub above-range : (r : Range) (x : ℕ) → r .high < x → within r x ≡ false
 unfolding within
 above-range r x h = rw (lt-leb x (r .high) h) (and-false (leb (r .low) x))
-  where
-    and-false : (t : Bool) → (t && false) ≡ false
-    and-false true = refl
-    and-false false = refl
 
 range-of : (r : Range) (x : ℕ) → within r x ≡ true → (r .low ≤ x) × (x ≤ r .high)
 unfolding within

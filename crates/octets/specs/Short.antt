@@ -1,4 +1,4 @@
--- Whether octets are the shortest form of what they hold: they are the least octets of it.
+-- Tests whether octets are the shortest form of what they hold (document 02, item 2): its least octets are these.
 use Prim.Native.Nat.{ℕ}
 use mathlib.Core.Bool.{Bool, true, false, _&&_}
 use mathlib.Core.List.{List, [], _∷_}

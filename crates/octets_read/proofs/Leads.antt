@@ -1,5 +1,5 @@
 -- Laws for reading a control part.
-use Prim.Native.Nat.{ℕ, suc, _+_, _-_, _/_, _≤_, _<_}
+use Prim.Native.Nat.{ℕ, suc, _+_, _*_, _-_, _/_, _≤_, _<_}
 use native.Mathlib.Nat.{add-assoc}
 use native.Mathlib.Omega.{arith}
 use mathlib.Core.Path.{_≡_, refl, sym, ap, _∙_}
@@ -8,6 +8,7 @@ use lib.Bits.{bitAnd, and-mask, mask-lt}
 use lib.ListN.{length, getD, take, drop}
 use lib.Seq.{drop-cons}
 use borrow.Author.Tests.{lt-ltb, le-ltb}
+use Rattle.octets.specs.Number.{bigEndian}
 use Rattle.octets.specs.ControlPart.{Code, tagCode, lengthCode}
 use Rattle.octets.specs.Control.{following, coded, controlOf, control}
 use Rattle.octets.specs.declared.Control.the-variants.{Absent, Partial, Whole}
@@ -48,6 +49,13 @@ nybbles x t l h p q = let m = mask-lt x 4 in (omega arith, omega arith)
 pub whole-direct : (t l : ℕ) (s : List ℕ) → t < 14 → l < 12 → Whole t l 1 ≡ controlOf t l s
 unfolding controlOf following coded
 whole-direct t l s a b = rw (lt-ltb t 14 a, lt-ltb l 12 b, le-ltb (length s) 0 (omega arith))
+
+-- A control part of two octets, with the tag in the second.
+pub whole-tag : (x l : ℕ) (s : List ℕ) → l < 12 → Whole x l 2 ≡ controlOf 14 l (x ∷ s)
+unfolding controlOf following coded bigEndian
+whole-tag x l s h =
+    let e : x * 1 + 0 ≡ x = omega arith in
+    rw (lt-ltb l 12 h, le-ltb (suc (length s)) 1 (omega arith), e)
 
 module _ (t l n m : ℕ) (s : List ℕ) (e : n ≡ following tagCode t) (f : m ≡ following lengthCode l) where
   pub partial : length s < n + m → Partial ≡ controlOf t l s

@@ -1,69 +1,23 @@
 -- Laws for saying whether what is read is the shortest form.
-use Prim.Native.Nat.{ℕ, _+_, _*_, _-_, _/_, _^_, _≤_, _<_}
-use native.Mathlib.Nat.{le-div-iff-mul-le, div-lt-iff-lt-mul}
+use Prim.Native.Nat.{ℕ, _+_, _-_, _/_, _≤_, _<_}
 use native.Mathlib.Omega.{arith}
 use mathlib.Core.Path.{_≡_, refl, sym, ap, _∙_}
-use mathlib.Core.Bool.{Bool, true, false, not, _&&_}
+use mathlib.Core.Bool.{Bool, true, false, _&&_, and-true}
 use mathlib.Core.List.{List, _∷_}
 use lib.Bits.{bitAnd, and-mask}
-use lib.Dec.{eqb, leb}
-use lib.IntN.{ℤ, pos, negsuc}
-use lib.ListN.{length}
-use borrow.Author.Tests.{eqb-false, ne-eqb, not-true, leb-true, le-leb, lt-leb}
-use Rattle.octets.specs.Number.{Octets, width}
-use Rattle.octets.specs.LeastLength.{zigzag}
+use lib.Dec.{leb}
+use lib.ListN.{length, getD, take, drop}
+use borrow.Author.Tests.{le-leb}
+use Rattle.octets.specs.Number.{Octets}
 use Rattle.octets.specs.ControlPart.{Code, tagCode, lengthCode}
 use Rattle.octets.specs.Control.{controlOf, control}
 use Rattle.octets.specs.declared.Control.the-variants.{Whole}
 use Rattle.octets.specs.Short.{shortPart, shortControl}
 use Rattle.octets.specs.internal.Least.{leastOfLead, leastLeads}
-use Rattle.octets.proofs.Bools.{same-test, not-of-false}
-use Rattle.octets.proofs.Slices.{length-zero}
-use Rattle.octets.proofs.Number.{two-to-eights, power-positive, width-least, width-bound, width-above}
+use Rattle.octets.proofs.Slices.{length-zero, tail-part}
+use Rattle.octets.proofs.Number.{octets-part}
 use Rattle.octets.proofs.Short.{short-control}
-
--- ---- numbers
-
-pub needs-none : (n v : ℕ) → n ≡ 0 → true ≡ leb n (width v)
-needs-none n v e = sym (le-leb n (width v) (omega arith))
-
-pub needs-long : (n v : ℕ) → 8 < n → false ≡ leb n (width v)
-needs-long n v h = let b = width-bound v in sym (lt-leb n (width v) (omega arith))
-
--- A number needs n octets or more exactly if something is left of it without its last n - 1 octets.
-pub needs-first : (n v : ℕ) → (n ≡ 0 → ⊥) → v < 2 ^ 64 → not (eqb (v / 2 ^ (8 * (n - 1))) 0) ≡ leb n (width v)
-needs-first n v some fits = rw (two-to-eights m) (same-test (not (eqb (v / 256 ^ m) 0)) (leb n (width v)) left needed)
-  where
-    m : ℕ
-    m = n - 1
-
-    left : not (eqb (v / 256 ^ m) 0) ≡ true → leb n (width v) ≡ true
-    left t =
-        let q = eqb-false (v / 256 ^ m) 0 (not-true (eqb (v / 256 ^ m) 0) t) in
-        let h : 1 * 256 ^ m ≤ v = le-div-iff-mul-le (power-positive m) .0 (omega arith) in
-        let w = width-above v m fits (omega arith) in
-        le-leb n (width v) (omega arith)
-
-    needed : leb n (width v) ≡ true → not (eqb (v / 256 ^ m) 0) ≡ true
-    needed t =
-        let l = leb-true n (width v) t in
-        not-of-false (eqb (v / 256 ^ m) 0)
-        (ne-eqb (v / 256 ^ m) 0
-        (λ z.
-        let h : v < 1 * 256 ^ m = div-lt-iff-lt-mul (power-positive m) .0 (omega arith) in
-        let w = width-least v m (omega arith) in
-        absurd (omega arith)))
-
--- A signed number with its sign as the lowest bit.
-pub zigzag-below : (z : ℤ) (k : ℕ) → z ≡ negsuc k → 2 * k + 1 ≡ zigzag z
-unfolding zigzag
-zigzag-below z k e = rw e refl
-
-pub zigzag-from : (z : ℤ) (v : ℕ) → z ≡ pos v → 2 * v ≡ zigzag z
-unfolding zigzag
-zigzag-from z v e = rw e refl
-
--- ---- control parts
+use Rattle.octets_read.proofs.Leads.{octets-at, control-from, whole-tag}
 
 -- A direct number has the lead that it is.
 pub least-direct : (code : Code) (t : ℕ) → t < code .direct → true ≡ leb (leastOfLead code t) t
@@ -79,6 +33,13 @@ pub both-least : (t l a b size : ℕ) (p q : Bool) → p ≡ leb (leastOfLead ta
 unfolding leastLeads
 both-least t l a b size p q e f = rw (e, f) refl
 
+-- A tag in the octet after the lead 14 is the shortest form from 14 on; a direct length is one.
+least-tag : (x l : ℕ) (s : List ℕ) → l < 12 → leb 14 x ≡ leastLeads 14 l (controlOf 14 l (x ∷ s))
+unfolding leastOfLead
+least-tag x l s h =
+    sym (and-true (leb 14 x)) ∙ both-least 14 l x l 2 (leb 14 x) true refl (least-direct lengthCode l h)
+    ∙ ap (leastLeads 14 l) (whole-tag x l s h)
+
 pub short-none : (s : List ℕ) → length s ≡ 0 → false ≡ shortControl s
 unfolding shortControl shortPart control
 short-none s h = sym (ap shortControl (length-zero s h))
@@ -86,3 +47,21 @@ short-none s h = sym (ap shortControl (length-zero s h))
 pub short-octet : (x t l : ℕ) (s : List ℕ) → x < 256 → Octets s → t ≡ x / 16 → l ≡ bitAnd x 15
     → leastLeads t l (controlOf t l s) ≡ shortControl (x ∷ s)
 short-octet x t l s h o p q = rw (p, q ∙ and-mask x 4) (sym (short-control x s h o))
+
+-- A control part of two octets at an offset, with the tag in the second and a direct length.
+module _ (s : List ℕ) (i x l : ℕ) (inside : i + 1 < length s) (low : 0xe0 ≤ getD s i 0) (high : getD s i 0 < 0xec) (p : x ≡ getD s (i + 1) 0)
+    (q : l ≡ bitAnd (getD s i 0) 15) where
+  direct-length : l < 12
+  direct-length = let m = and-mask (getD s i 0) 4 in omega arith
+
+  from-tag : x ∷ take (length s - (i + 1 + 1)) (drop (i + 1 + 1) s) ≡ take (length s - (i + 1)) (drop (i + 1) s)
+  from-tag = rw p (octets-at s (i + 1) inside ∙ sym (tail-part s (i + 1)))
+
+  pub tag-at : Whole x l 2 ≡ control (drop i s)
+  tag-at = whole-tag x l _ direct-length ∙ ap (controlOf 14 l) from-tag ∙ control-from s i 14 l (omega arith) (omega arith) (omega arith) q
+
+  pub short-tag-at : Octets s → leb 14 x ≡ shortControl (drop i s)
+  short-tag-at o =
+      least-tag x l _ direct-length ∙ ap (λ (r : List ℕ). leastLeads 14 l (controlOf 14 l r)) from-tag
+      ∙ short-octet (getD s i 0) 14 l _ (omega arith) (octets-part (length s - (i + 1)) (i + 1) s o) (omega arith) q
+      ∙ ap shortControl (octets-at s i (omega arith))

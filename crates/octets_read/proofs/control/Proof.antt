@@ -1,17 +1,14 @@
 -- `octets_read::control` meets its contract.
-use Prim.Native.Nat.{_-_}
 use native.Mathlib.Omega.{arith}
-use mathlib.Core.Path.{ap, _∙_}
-use mathlib.Core.Bool.{true}
-use lib.ListN.{length, getD, take, drop}
+use mathlib.Core.Path.{sym, ap, _∙_}
+use lib.Bits.{and-mask}
+use lib.ListN.{getD}
 use borrow.Author.Tests.{ltb-true}
-use Rattle.octets.specs.ControlPart.{tagCode, lengthCode}
 use Rattle.octets.specs.Control.{control}
 use Rattle.octets.specs.Short.{shortControl}
-use Rattle.octets.specs.internal.Least.{leastLeads}
-use Rattle.octets.proofs.Number.{octets-of-slice, octets-part}
+use Rattle.octets.proofs.Short.{short-direct}
 use Rattle.octets_read.proofs.Leads.{control-none, octets-at, control-from, whole-direct}
-use Rattle.octets_read.proofs.Shortness.{least-direct, both-least, short-none, short-octet}
+use Rattle.octets_read.proofs.Shortness.{short-none}
 use borrow.Author.Needs.{needs}
 use Rattle.octets_read.proofs.control.Statement.{statement}
 use Rattle.octets_read.proofs.control.Tie as tie
@@ -36,12 +33,9 @@ returns-2 c =
     let len = ltb-true _ _ (c .if3 .taken) in
     let t = c .before .before .before .wide .ensures in
     let l = c .before .before .wide2 .ensures in
-    let o = octets-of-slice s (λ i. k .shared-slice-known2 .given i .fits) in
-    let e = whole-direct _ _ _ tag len in (
-      e ∙ control-from s 0 _ _ (omega arith) (omega arith) t l,
-      both-least _ _ _ _ 1 true true (least-direct tagCode _ tag) (least-direct lengthCode _ len) ∙ ap (leastLeads _ _) e
-          ∙ short-octet (getD s 0 0) _ _ (take (length s - 1) (drop 1 s)) (omega arith) (octets-part (length s - 1) 1 s o) t l
-          ∙ ap shortControl (octets-at s 0 (omega arith)),
+    let m = and-mask (getD s 0 0) 4 in (
+      whole-direct _ _ _ tag len ∙ control-from s 0 _ _ (omega arith) (omega arith) t l,
+      sym (short-direct (getD s 0 0) _ (omega arith) (omega arith)) ∙ ap shortControl (octets-at s 0 (omega arith)),
     )
 
 sub-control-after : tie.Need-sub-control-after

@@ -1,12 +1,15 @@
 -- `octets_read::control_at` meets its contract.
+use Prim.Native.Nat.{_+_, _-_, _≤_, _<_}
 use native.Mathlib.Omega.{arith}
 use mathlib.Core.Path.{_≡_, ap, _∙_}
 use lib.ListN.{length, drop, length-drop}
 use denote.Ref.{now}
+use borrow.Author.Tests.{ltb-true, leb-true}
 use Rattle.octets.specs.Control.{control}
 use Rattle.octets.specs.Short.{shortControl}
+use Rattle.octets.proofs.Number.{octets-of-slice}
 use Rattle.octets_read.proofs.Leads.{control-none, octets-at}
-use Rattle.octets_read.proofs.Shortness.{short-none}
+use Rattle.octets_read.proofs.Shortness.{short-none, tag-at, short-tag-at}
 use borrow.Author.Needs.{needs}
 use Rattle.octets_read.proofs.control_at.Statement.{statement}
 use Rattle.octets_read.proofs.control_at.Tie as tie
@@ -18,8 +21,41 @@ returns c =
     let e : length (drop (a .i) (now (a .s))) ≡ 0 = simp length-drop (omega arith) in
     (control-none (drop (a .i) (now (a .s))) e, short-none (drop (a .i) (now (a .s))) e)
 
-shared-slice-read-control-after : tie.Need-shared-slice-read-control-after
-shared-slice-read-control-after c = search needs
+shared-slice-read-c : tie.Need-shared-slice-read-c
+shared-slice-read-c c = search needs
+
+sub-if4 : tie.Need-sub-if4
+sub-if4 c = search needs
+
+add-wide : tie.Need-add-wide
+add-wide c = search needs
+
+shared-slice-read-wide : tie.Need-shared-slice-read-wide
+shared-slice-read-wide c =
+    let a = c .before .before .before .before .before .before .before .args in
+    let h : 2 ≤ length (now (a .s)) - a .i = leb-true _ _ (c .before .if4 .taken) in
+    let k : a .i + 1 < length (now (a .s)) = omega arith in
+    k
+
+wide-requires : tie.Need-wide-requires
+wide-requires c κs = search needs
+
+wide-requires-2 : tie.Need-wide-requires-2
+wide-requires-2 c κs = search needs
+
+returns-2 : tie.Need-returns-2
+returns-2 c =
+    let k = c .before .before in
+    let h = k .before .before in
+    let b = h .before .before in
+    let a = b .before .before .before .args in
+    let s = now (a .s) in
+    let high = ltb-true _ _ (h .if3 .taken) in
+    let inside = shared-slice-read-wide k in (
+      tag-at s (a .i) _ _ inside (h .before .if2 .taken) high (c .before .wide .ensures) (c .wide2 .ensures),
+      short-tag-at s (a .i) _ _ inside (h .before .if2 .taken) high (c .before .wide .ensures) (c .wide2 .ensures)
+          (octets-of-slice s (λ i. b .shared-slice-known2 .given i .fits)),
+    )
 
 add-control-after : tie.Need-add-control-after
 add-control-after c = search needs
@@ -36,9 +72,9 @@ part-control-after-end c = search needs
 control-after-requires : tie.Need-control-after-requires
 control-after-requires c κs = search needs
 
-returns-2 : tie.Need-returns-2
-returns-2 c =
-    let k = c .before .before .before in
+returns-3 : tie.Need-returns-3
+returns-3 c =
+    let k = c .before .before .before .before in
     let a = k .before .before .args in
     let e = octets-at (now (a .s)) (a .i) (k .if1 .left) in
     (c .control-after .ensures .0 ∙ ap control e, c .control-after .ensures .1 ∙ ap shortControl e)
@@ -48,10 +84,16 @@ control-at-spec =
     tie.close
     (tie.spec
     returns
-    shared-slice-read-control-after
+    shared-slice-read-c
+    sub-if4
+    add-wide
+    shared-slice-read-wide
+    wide-requires
+    wide-requires-2
+    returns-2
     add-control-after
     sub-control-after
     part-control-after-start
     part-control-after-end
     control-after-requires
-    returns-2)
+    returns-3)
