@@ -2,14 +2,14 @@
 use Prim.Native.Nat.{ℕ, suc, _+_, _-_, _≤_, _<_}
 use native.Mathlib.Omega.{arith}
 use mathlib.Core.Path.{_≡_, refl, sym, ap, ap₂, _∙_, subst}
-use mathlib.Core.Bool.{Bool, true, false, _&&_}
+use mathlib.Core.Bool.{Bool, true, false, _&&_, and-false, and-assoc}
 use mathlib.Core.List.{List}
 use lib.ListN.{length, take, drop, take-append-drop, length-drop}
 use lib.Seq.{drop-drop, length-take-le}
 use Rattle.octets.specs.Short.{shortPart, shortControl}
 use Rattle.octets.specs.Control.{control}
 use Rattle.octets.specs.declared.Control.the-variants.{Whole}
-use Rattle.octets.proofs.Bools.{true-second, and-false, and-assoc}
+use Rattle.octets.proofs.Bools.{true-second}
 use Rattle.octets.proofs.ControlPart.{part-read}
 use Rattle.octets.proofs.Short.{short-front}
 use Rattle.table.specs.Entry.{innerOf}
@@ -132,7 +132,7 @@ module _ (sc : Schema) (inner : Inner) (n at : ℕ) (s : List ℕ) where
           agrees =
               looked
               ∙ ap (λ (y : Bool). t && y) f
-              ∙ and-assoc t x (shortReading sc n (fieldsFrom sc inner n (now .fuel - 1) (at + i + size + len) (drop (size + len) (drop i s))))
+              ∙ sym (and-assoc t x (shortReading sc n (fieldsFrom sc inner n (now .fuel - 1) (at + i + size + len) (drop (size + len) (drop i s)))))
               ∙ rw (q, r, drop-drop (size + len) i s) refl;
         }
 

@@ -1,5 +1,5 @@
 -- The step at an offset of a message, and whether the field there is in its shortest form.
-use Prim.Native.Nat.{ℕ, _+_, _*_, _-_, _/_, _%_, _≤_, _<_}
+use Prim.Native.Nat.{ℕ, _+_, _-_, _/_, _%_, _≤_, _<_}
 use native.Mathlib.Nat.{add-zero}
 use native.Mathlib.Omega.{arith}
 use mathlib.Core.Path.{_≡_, refl, sym, ap, _∙_, subst}
@@ -10,17 +10,17 @@ use lib.Bits.{bitAnd, and-mask}
 use lib.Dec.{leb, ltb}
 use lib.ListN.{length, getD, take, drop, length-drop}
 use lib.Seq.{drop-drop, drop-cons, length-take-le}
-use borrow.Author.Tests.{ltb-true, le-ltb, lt-ltb, eq-eqb}
+use borrow.Author.Tests.{ltb-true, le-ltb, lt-ltb}
 use Rattle.octets.specs.Number.{Octets}
 use Rattle.octets.specs.Text.{text}
-use Rattle.octets.specs.Control.{control, leastCode, leastControl}
+use Rattle.octets.specs.Control.{control}
 use Rattle.octets.specs.declared.Control.the-variants.{Absent, Partial, Whole}
-use Rattle.octets.specs.Short.{same, shortPart, shortControl, shortUint, shortInt}
+use Rattle.octets.specs.Short.{shortControl, shortUint, shortInt}
 use Rattle.octets.proofs.Text.{up-to}
 use Rattle.octets.proofs.ControlPart.{control-size}
 use Rattle.octets.proofs.Bools.{and-four}
 use Rattle.octets.proofs.Slices.{length-zero}
-use Rattle.octets.proofs.Short.{none-short-uint, none-short-int, uint-by-first, int-by-first}
+use Rattle.octets.proofs.Short.{none-short-uint, none-short-int, uint-by-first, int-by-first, short-direct}
 use Rattle.octets_read.proofs.Leads.{control-from, whole-direct}
 use Rattle.table_index.specs.internal.Cells.{cellFor, codeIn, meaningOf, meaningIn, indexed}
 use Rattle.table_index.proofs.Meanings as means
@@ -253,14 +253,11 @@ module _ (s : List ℕ) (i : ℕ) (e : smallAt s i ≡ true) where
 
   -- The control octet is the least control part of its tag and length.
   small-short : shortControl (drop i s) ≡ true
-  unfolding shortControl shortPart leastControl leastCode same
   small-short =
-      let c = getD s i 0 in
       let t = small .tag-small in
       let l = small .length-small in
-      let m = and-mask c 4 in
-      let d : c / 16 * 16 + bitAnd c 15 ≡ c = omega arith in
-      rw (small-control, drop-cons s i 0 (small .here), lt-ltb (c / 16) 14 (omega arith), lt-ltb (bitAnd c 15) 12 l, eq-eqb (c / 16 * 16 + bitAnd c 15) c d) refl
+      let m = and-mask (getD s i 0) 4 in
+      ap shortControl (drop-cons s i 0 (small .here)) ∙ short-direct (getD s i 0) _ (omega arith) (omega arith)
 
 module _ (cells : List ℕ) (number : ℕ) (s : List ℕ) (i code : ℕ) (e : code ≡ smallCode cells number s i) where
   -- A code says that there is such a field.
