@@ -1,3 +1,4 @@
+-- `shorten_under` copies a message that is in its shortest form, and writes any other if there is room.
 use borrow.Author.Needs.{needs}
 use Prim.Native.Nat.{ℕ}
 use native.Mathlib.Omega.{arith}

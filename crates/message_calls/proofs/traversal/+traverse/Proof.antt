@@ -1,3 +1,4 @@
+-- `traverse` keeps the two loop invariants, and answers by them where it returns.
 use borrow.Author.Needs.{needs}
 use Prim.Native.Nat.{ℕ, suc, _+_, _-_, _≤_, _<_}
 use native.Mathlib.Omega.{arith}
@@ -84,9 +85,6 @@ Over-field t = traverse-lts.After-known-told2 (claims t) (traverse-at t) travers
 
 abbrev In-field : ℕ → Type 0
 In-field t = traverse-lts.After-known-told3 (claims t) (traverse-at t) traverse.Post traverse-Inv-loop traverse-μ-loop
-
-abbrev Nested-field : ℕ → Type 0
-Nested-field t = traverse-lts.Else2 (claims t) (traverse-at t) traverse.Post traverse-Inv-loop traverse-μ-loop
 
 abbrev After-inner : ℕ → Type 0
 After-inner t = traverse-lts.After-traverse (claims t) (traverse-at t) traverse.Post traverse-Inv-loop traverse-μ-loop
@@ -250,6 +248,18 @@ module _ (t : ℕ) (n : After-inner t) where
       nested-small (sc t b) (args t b .levels - 1) (number t nested-in) (args t b .at + i t b) (args t b .at + from t nested-in) (from t nested-in) (to t nested-in)
       (octets t b) f d (n .traverse .result .verdict) (h .1) (h .2) (inner-answers .0) e
 
+  -- There is room to count its fields.
+  inner-room : (f d : ℕ) → n .traverse .result .verdict ≡ Accepted f d → nested-loop .loop .fields + (1 + f) ≤ 65536
+  inner-room f d e =
+      let b = nested-loop in
+      let h = inner-small f d e .0 in
+      let p = in-ends t nested-in .0 in
+      let m = in-ends t nested-in .1 in
+      let q = in-ends t nested-in .2 in
+      let k = room t b in
+      let w = state t b .few in
+      omega arith
+
 traverse-loop-holds : (t : ℕ) → traverse-lts.Need-loop-holds (claims t) (traverse-at t) traverse.Post traverse-Inv-loop traverse-μ-loop
 traverse-loop-holds t c =
     let a = c .before .args in
@@ -387,28 +397,10 @@ traverse-enum-known-verdict : (t : ℕ) → traverse-lts.Need-enum-known-verdict
 traverse-enum-known-verdict t c = search needs
 
 traverse-add-fields-3 : (t : ℕ) → traverse-lts.Need-add-fields-3 (claims t) (traverse-at t) traverse.Post traverse-Inv-loop traverse-μ-loop
-traverse-add-fields-3 t c =
-    let n = c .before .before .before in
-    let f = nested-in t n in
-    let b = in-loop t f in
-    let h = inner-small t n (c .before .verdict .given .0 .0) (c .before .verdict .given .0 .1 .0) (c .before .verdict .given .1) .0 in
-    let e = in-ends t f .2 in
-    let k = room t b in
-    omega arith
+traverse-add-fields-3 t c = let w = c .before .verdict .given in let h = inner-room t (c .before .before .before) (w .0 .0) (w .0 .1 .0) (w .1) in omega arith
 
 traverse-add-fields-4 : (t : ℕ) → traverse-lts.Need-add-fields-4 (claims t) (traverse-at t) traverse.Post traverse-Inv-loop traverse-μ-loop
-traverse-add-fields-4 t c =
-    let n = c .before .before .before in
-    let f = nested-in t n in
-    let b = in-loop t f in
-    let h = inner-small t n (c .before .verdict .given .0 .0) (c .before .verdict .given .0 .1 .0) (c .before .verdict .given .1) .0 in
-    let e = in-ends t f in
-    let p = e .0 in
-    let q = e .2 in
-    let k = room t b in
-    let w = state t b .few in
-    let g = state t b .inside in
-    omega arith
+traverse-add-fields-4 t c = let w = c .before .verdict .given in let h = inner-room t (c .before .before .before) (w .0 .0) (w .0 .1 .0) (w .1) in omega arith
 
 traverse-add-larger : (t : ℕ) → traverse-lts.Need-add-larger (claims t) (traverse-at t) traverse.Post traverse-Inv-loop traverse-μ-loop
 traverse-add-larger t c =
