@@ -136,5 +136,5 @@ short-already =
           let h = check-reads table n [] z in
           let c = ap (λ (r : Checked). r .refusal) (check-as-loaded table [] (h .1) (h .0) n) in
           short-as-loaded table [] (h .1) (h .0) n ∙ empty (load table .table) n (sym c ∙ z);
-      by-tree = λ table o z n k s p h cut g. by-tree table o z n k s h cut g;
+      by-tree = by-tree;
     }

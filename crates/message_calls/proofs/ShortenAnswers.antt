@@ -2,10 +2,9 @@
 use Prim.Native.Nat.{ℕ, _+_, _≤_, _<_}
 use native.Mathlib.Omega.{arith}
 use mathlib.Core.Path.{_≡_, refl, sym, ap, _∙_}
-use mathlib.Core.Bool.{Bool, true, false, cond}
+use mathlib.Core.Bool.{true, false}
 use mathlib.Core.List.{List}
 use lib.ListN.{length}
-use lib.Seq.{sets}
 use lib.Dec.{eqb}
 use borrow.Author.Tests.{le-leb, lt-leb, eq-eqb, ne-eqb}
 use Rattle.reading.specs.Reading.{messageLimit}
@@ -23,7 +22,7 @@ use Rattle.octets_store.specs.Store.{stored}
 use Rattle.octets_store.proofs.Stores.{stored-fits}
 use Rattle.message_calls.specs.internal.Stores.{shortestWithin}
 use Rattle.message_calls.specs.Shorten.{refusal, shortestUnder, shortestByTable, roomy, shortenResult, resultBuffer, answer, buffer}
-use Rattle.message_calls.specs.internal.ShortenUnder.{shortenUnder, bufferUnder, copyAnswer, copyBuffer}
+use Rattle.message_calls.specs.internal.ShortenUnder.{shortenUnder, bufferUnder, accepted, copyAnswer, copyBuffer}
 use Rattle.message_calls.specs.declared.Shortened.{Shortened}
 use Rattle.message_calls.proofs.AcceptedByCheck.{under-passed}
 
@@ -76,28 +75,21 @@ module _ (c : Checked) (xs out : List ℕ) where
         let a : shortenResult c xs out ≡ record { refusal = 0; place = 0; length = end } = rw (passed, le-leb (length xs) (length out) h, q) in
         record { result-is = sym a; buffer-is = b ∙ stored-fits out 0 xs (omega arith) ∙ rw a }
 
-    -- A message that is in its shortest form is copied.
+    -- A message that is its own shortest form is copied.
     pub copied : (s : List ℕ) → xs ≡ s → Meets c xs out (copyAnswer s out) (copyBuffer s out)
-    unfolding shortenResult resultBuffer copyAnswer copyBuffer refusal
-    copied s q = record { result-is = rw (q, passed) refl; buffer-is = rw (q, passed) (go (roomy s out)) }
-      where
-        go : (b : Bool) → cond b (sets out 0 s) out
-            ≡ cond (eqb (cond b (record { refusal = 0; place = 0; length = length s }) (refusal refusals.noRoom 0) .refusal) 0) (sets out 0 s) out
-        go true = refl
-        go false = refl
+    unfolding shortenResult resultBuffer copyAnswer copyBuffer accepted
+    copied s q = record { result-is = rw (q, passed) refl; buffer-is = rw (q, passed) refl }
 
 -- A copy that does not fit, and one that fits.
 module _ (s out : List ℕ) where
   pub copy-no-room : length out < length s → (refusal refusals.noRoom 0 ≡ copyAnswer s out) × (out ≡ copyBuffer s out)
-  unfolding copyAnswer copyBuffer roomy
-  copy-no-room h = let k = lt-leb (length s) (length out) h in (rw k, rw k)
+  unfolding copyAnswer copyBuffer accepted refusal
+  copy-no-room h = let r = no-room accepted s out refl h in (r .result-is, r .buffer-is)
 
   pub copy-fits : length s ≤ length out → (after : List ℕ) → after ≡ stored out 0 s
       → (record { refusal = 0; place = 0; length = length s } ≡ copyAnswer s out) × (after ≡ copyBuffer s out)
-  unfolding copyAnswer copyBuffer roomy
-  copy-fits h after e =
-      let k = le-leb (length s) (length out) h in
-      (rw k, e ∙ stored-fits out 0 s (omega arith) ∙ rw k)
+  unfolding copyAnswer copyBuffer accepted
+  copy-fits h after e = let r = shortened accepted s out refl (length s) after h (omega arith) e in (r .result-is, r .buffer-is)
 
 -- Under the schema of a table that the loader can return, the shortener has the same answer as under the table.
 module _ (t : Table) (sc : Schema) (same : sc ≡ schema t) (n : ℕ) (s out : List ℕ) (h : length s ≤ messageLimit) (v : valid t ≡ true) where

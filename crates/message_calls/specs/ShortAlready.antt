@@ -30,6 +30,6 @@ pub record ShortAlready (check : List ℕ → ℕ → List ℕ → Checked) (sho
   -- Without the check and the shortener, for all table octets that the loader does not refuse, all message numbers up to 15 and all messages of at
   -- most 65,536 octets: a message with a cut is short exactly if it is the shortest form of its tree.
   pub by-tree : (table : List ℕ) → Octets table → load table .refusal ≡ 0
-      → (n : ℕ) → n ≤ lastNumber → (s : List ℕ) → Octets s → length s ≤ messageLimit
+      → (n : ℕ) → n ≤ lastNumber → (s : List ℕ) → length s ≤ messageLimit
       → (cut : Cut) → Good (schema (load table .table)) depthLimit n s cut
       → (short table n s ≡ true) ↔ (shortest (tree (schema (load table .table)) n cut) ≡ s)

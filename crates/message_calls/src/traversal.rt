@@ -33,9 +33,10 @@ fn small_code(cells: &[u32; 128], number: u64, s: &[u8], i: usize) -> u64
     table_index::code(table_index::cell(cells, number, (c >> 4) as u64))
 }
 
-// Returns true only if contents of a kind that is neither text nor message are allowed and in their shortest form; false says nothing. It
-// knows these: no number; a number without octets; a uint whose first octet is not 0; an int whose second octet is above 80 (hex).
-fn plain(code: u64, s: &[u8], a: usize, e: usize) -> bool
+// Returns true only if the contents of a field are allowed and in their shortest form. If it returns false, they may be so too. The field is
+// neither text nor a message. Returns true for a field that is no number, a number without octets, a uint whose first octet is not 0, and an
+// int whose second octet is above 80 (hex).
+fn short_by_first_octets(code: u64, s: &[u8], a: usize, e: usize) -> bool
     requires { ⌜ (code < 4) × (a ≤ e) × (e ≤ length (now s)) ⌝ }
     ensures { λ r. ⌜ (r ≡ true → Passes code a e (now (s .entry))) ⌝ }
 {
@@ -77,7 +78,7 @@ fn quick(code: u64, s: &[u8], i: usize) -> usize
     if n <= 8 && s[first] & 127 != 0 {
         return e;
     }
-    if plain(code, s, a, e) {
+    if short_by_first_octets(code, s, a, e) {
         return e;
     }
     0

@@ -1,4 +1,4 @@
--- Tests whether octets are the shortest form of what they hold (document 02, item 2): its least octets are these.
+-- Tests whether octets are the shortest form of what they hold (document 02, item 2): the least octets of it are these octets.
 use Prim.Native.Nat.{ℕ}
 use mathlib.Core.Bool.{Bool, true, false, _&&_}
 use mathlib.Core.List.{List, [], _∷_}

@@ -137,34 +137,28 @@ fn length_width(l: u64) -> usize
     1usize << (l - 12)
 }
 
-// A tag or a length that was read, and whether its lead is that of its shortest form.
-struct ReadNumber {
-    value: u64,
-    shortest: bool,
-}
-
 // Returns the tag that a lead and the octets after it encode, and whether the lead is that of its shortest form. For one or two octets a loop
 // would be slower.
-fn tag_value(t: u64, s: &[u8]) -> ReadNumber
+fn tag_value(t: u64, s: &[u8]) -> ReadUint
     requires { ⌜ (t < 16) × (length (now s) ≡ following tagCode t) ⌝ }
     ensures { λ r. ⌜ r .value ≡ coded tagCode t (now (s .entry)) ⌝ }
     ensures { λ r. ⌜ r .shortest ≡ leb (leastOfLead tagCode t) (r .value) ⌝ }
 {
     if t < 14 {
-        return ReadNumber {
+        return ReadUint {
             value: t,
             shortest: true,
         };
     }
     let a = one_more(s, 0, 0);
     if t == 14 {
-        return ReadNumber {
+        return ReadUint {
             value: a,
             shortest: 14 <= a,
         };
     }
     let b = one_more(s, 1, a);
-    ReadNumber {
+    ReadUint {
         value: b,
         shortest: 0x100 <= b,
     }
@@ -183,27 +177,27 @@ fn four_more(s: &[u8], v: u64) -> u64
 }
 
 // Returns the length that a lead and the octets after it encode, and whether the lead is that of its shortest form.
-fn length_value(l: u64, s: &[u8]) -> ReadNumber
+fn length_value(l: u64, s: &[u8]) -> ReadUint
     requires { ⌜ (l < 16) × (length (now s) ≡ following lengthCode l) ⌝ }
     ensures { λ r. ⌜ r .value ≡ coded lengthCode l (now (s .entry)) ⌝ }
     ensures { λ r. ⌜ r .shortest ≡ leb (leastOfLead lengthCode l) (r .value) ⌝ }
 {
     if l < 12 {
-        return ReadNumber {
+        return ReadUint {
             value: l,
             shortest: true,
         };
     }
     let a = one_more(s, 0, 0);
     if l == 12 {
-        return ReadNumber {
+        return ReadUint {
             value: a,
             shortest: 12 <= a,
         };
     }
     let b = one_more(s, 1, a);
     if l == 13 {
-        return ReadNumber {
+        return ReadUint {
             value: b,
             shortest: 0x100 <= b,
         };
@@ -211,13 +205,13 @@ fn length_value(l: u64, s: &[u8]) -> ReadNumber
     let c = one_more(s, 2, b);
     let d = one_more(s, 3, c);
     if l == 14 {
-        return ReadNumber {
+        return ReadUint {
             value: d,
             shortest: 0x1_0000 <= d,
         };
     }
     let e = four_more(s, d);
-    ReadNumber {
+    ReadUint {
         value: e,
         shortest: 0x1_0000_0000 <= e,
     }
@@ -284,9 +278,8 @@ pub fn control(s: &[u8]) -> ReadControl
     control_after(c, &s[1..])
 }
 
-// Reads the control part at an offset. The check passes most control parts of one octet without it, so a test for them would not pay here.
-// A tag from 14 to 255 and a length below 12 are the most common control part of two octets; reading it here saves a quarter of the check of
-// such fields.
+// Reads the control part at an offset. The check passes most control parts of one octet without it, so there is no test for them here. Most of
+// those with two octets have the tag in the second and a length below 12. They are read here, because `control_after` takes longer.
 pub fn control_at(s: &[u8], i: usize) -> ReadControl
     ensures { λ r. ⌜ r .control ≡ control-of (drop i (now (s .entry))) ⌝ }
     ensures { λ r. ⌜ r .shortest ≡ shortControl (drop i (now (s .entry))) ⌝ }

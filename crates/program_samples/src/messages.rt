@@ -10,6 +10,9 @@ pub fn checked(m: CheckedMessage) {
     let c = m.checked;
     if c.refusal != 0 {
         program_lines::refusal(c.refusal, c.place);
+        if m.shortest {
+            program_lines::text(b", but shortest");
+        }
         return;
     }
     program_lines::counts(c.fields, c.depth);

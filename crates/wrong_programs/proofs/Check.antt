@@ -49,6 +49,11 @@ eight-levels : Sample check
 unfolding hproto
 eight-levels = given (asked messages 0 (0x16 ∷ 0x15 ∷ 0x14 ∷ 0x13 ∷ 0x12 ∷ 0x11 ∷ 0x10 ∷ [])) (accepted 7 8) tt refl
 
+-- Nine messages, one in the other.
+nine-levels : Sample check
+unfolding hproto
+nine-levels = given (asked messages 0 (0x17 ∷ 0x16 ∷ 0x15 ∷ 0x14 ∷ 0x13 ∷ 0x12 ∷ 0x11 ∷ 0x10 ∷ [])) (answers.refusal 5 7) tt refl
+
 number-16 : Sample check
 unfolding hproto
 number-16 = given (asked [] 16 []) (answers.refusal 2 0) tt refl
@@ -109,6 +114,11 @@ rejects-raw-fields = rejects refusal has-raw-fields raw (refl, tt) refl
 pub rejects-eight-levels : RuledOut (Rejects refusal (due check depth 8)) check
 unfolding eight-levels
 rejects-eight-levels = rejects refusal (due check depth 8) eight-levels refl refl
+
+-- It accepts what has to be rejected because it is nine deep.
+pub accepts-nine-levels : RuledOut (Accepts refusal (due check refusal 5)) check
+unfolding nine-levels
+accepts-nine-levels = accepts refusal (due check refusal 5) nine-levels refl (eqb-false 5 0 refl)
 
 -- It accepts every call.
 pub accepts-all : RuledOut (Accepts refusal always) check

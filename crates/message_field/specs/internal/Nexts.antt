@@ -46,7 +46,8 @@ Passes code a e s =
     let b = take (e - a) (drop a s) in
     Over e true ≡ nextAt a (shortContents (meaningOf code) b) (stepByKind (meaningOf code) 0 b)
 
--- The contents of the field at an offset, whose control part is one octet, are no text where its kind is text.
+-- The contents of the field at an offset, whose control part is one octet, are no text where its kind is text. They are the octets from i + 1 up
+-- to the end of the field.
 unfoldable pub NoText : ℕ → List ℕ → ℕ → Type 0
 NoText code s i = code ≡ 4 → text (take (i + 1 + bitAnd (getD s i 0) 15 - (i + 1)) (drop (i + 1) s)) ≡ false
 

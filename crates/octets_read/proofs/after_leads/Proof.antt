@@ -9,7 +9,7 @@ use Rattle.octets.specs.internal.Least.{leastLeads}
 use Rattle.octets.proofs.Bools.{first-decides, second-decides}
 use Rattle.octets_read.proofs.Leads.{partial, whole}
 use Rattle.octets_read.proofs.Shortness.{both-least}
-use Rattle.octets_read.specs.declared.ReadNumber.{ReadNumber}
+use Rattle.octets.specs.declared.ReadUint.{ReadUint}
 use borrow.Author.Needs.{needs}
 use Rattle.octets_read.proofs.after_leads.Statement.{statement}
 use Rattle.octets_read.proofs.after_leads.Tie as tie
@@ -60,10 +60,10 @@ add-t33 : tie.Need-add-t33
 add-t33 c = search needs
 
 -- What is read where all octets are there, and whether it is the shortest form.
-abbrev Tag : tie.After-length-value → ReadNumber
+abbrev Tag : tie.After-length-value → ReadUint
 Tag c = c .before .before .tag-value .result
 
-abbrev Length : tie.After-length-value → ReadNumber
+abbrev Length : tie.After-length-value → ReadUint
 Length c = c .length-value .result
 
 all-there : (c : tie.After-length-value)

@@ -1,10 +1,10 @@
 -- `quick` answers the end of a field that passes.
-use Prim.Native.Nat.{ℕ, _+_, _-_, _%_, _≤_, _<_}
+use Prim.Native.Nat.{ℕ, _+_, _-_, _≤_, _<_}
 use native.Mathlib.Omega.{arith}
 use mathlib.Core.Path.{_≡_, refl, sym, _∙_, subst}
 use mathlib.Core.Logic.{⊎-elim}
 use denote.Ref.{now}
-use lib.Bits.{bitAnd, mask-lt, and-mask}
+use lib.Bits.{bitAnd, mask-lt}
 use lib.ListN.{length, getD}
 use borrow.Author.Tests.{eqb-false, not-true}
 use Rattle.octets.proofs.Number.{octets-of-slice}
@@ -17,9 +17,6 @@ use Rattle.message_calls.proofs.traversal.quick.Tie as tie
 
 below-four : {code : ℕ} → code ≤ 4 → (code ≡ 4 → ⊥) → code < 4
 below-four h d = omega (arith, d)
-
-bits : (x : ℕ) → (bitAnd x 127 ≡ 0 → ⊥) → 1 ≤ x % 128
-bits x h = let m = and-mask x 7 in omega (arith, h)
 
 returns : tie.Need-returns
 unfolding NoText
@@ -92,18 +89,18 @@ returns-4 c =
         refl,
         ⊎-elim (λ w. none-passes (a .code) s (a .i + 1) e (omega arith, inside d .1) four (let y : n ≡ 0 = w .0 .taken in omega arith))
             (λ w. first-passes (a .code) s (a .i + 1) e (omega arith, inside d .1) four o (let y : n ≡ 0 → ⊥ = w .0 .left in omega (arith, y)) (omega arith)
-            (let y : j .if4 .first ≡ a .i + 1 = w .1 in bits (getD s (a .i + 1) 0) (subst (λ (q : ℕ). bitAnd (getD s q 0) 127 ≡ 0 → ⊥) y (eqb-false _ 0 (not-true _ (c .if6 .taken))))))
+            (let y : j .if4 .first ≡ a .i + 1 = w .1 in subst (λ (q : ℕ). bitAnd (getD s q 0) 127 ≡ 0 → ⊥) y (eqb-false _ 0 (not-true _ (c .if6 .taken)))))
             (j .if4 .came),
       ),
     )
 
-plain-requires : tie.Need-plain-requires
-plain-requires c κs =
+short-by-first-octets-requires : tie.Need-short-by-first-octets-requires
+short-by-first-octets-requires c κs =
     let d = c .before .before .before .before in
     (below-four (d .if1 .left) (c .before .before .if2 .left), omega arith, inside d .1)
 
 returns-5 : tie.Need-returns-5
-returns-5 c = (λ z. absurd (omega arith), λ h. (c .before .before .before .before .before .before .if1 .left, refl, c .before .plain .ensures (c .if7 .taken)))
+returns-5 c = (λ z. absurd (omega arith), λ h. (c .before .before .before .before .before .before .if1 .left, refl, c .before .short-by-first-octets .ensures (c .if7 .taken)))
 
 returns-6 : tie.Need-returns-6
 unfolding NoText
@@ -126,6 +123,6 @@ quick-spec =
     returns-3
     shared-slice-read-if6
     returns-4
-    plain-requires
+    short-by-first-octets-requires
     returns-5
     returns-6)

@@ -1,4 +1,4 @@
--- `plain` passes contents that are allowed and in their shortest form.
+-- `short_by_first_octets` passes contents that are allowed and in their shortest form.
 use Prim.Native.Nat.{ℕ, _+_, _-_, _≤_, _<_}
 use native.Mathlib.Omega.{arith}
 use mathlib.Core.Path.{_≡_}
@@ -10,8 +10,8 @@ use borrow.Author.Tests.{eqb-true, eqb-false, ltb-true, leb-true, not-true}
 use Rattle.octets.proofs.Number.{octets-of-slice}
 use Rattle.message_calls.proofs.PlainFields.{no-number-passes, none-passes, uint-passes, int-passes}
 use borrow.Author.Needs.{needs}
-use Rattle.message_calls.proofs.traversal.plain.Statement.{statement}
-use Rattle.message_calls.proofs.traversal.plain.Tie as tie
+use Rattle.message_calls.proofs.traversal.short_by_first_octets.Statement.{statement}
+use Rattle.message_calls.proofs.traversal.short_by_first_octets.Tie as tie
 
 only-two : {code : ℕ} → code < 4 → (code ≡ 0 → ⊥) → (code ≡ 1 → ⊥) → (code ≡ 3 → ⊥) → code ≡ 2
 only-two h x y z = omega (arith, x, y, z)
@@ -77,7 +77,7 @@ returns-4 c =
 returns-5 : tie.Need-returns-5
 returns-5 c = let a = start (c .before .before) .args in let k = c .if6 .left in λ e. let h = leb-true 2 (a .e - a .a) e in absurd (omega arith)
 
-pub plain-spec : {M : Type 1} → statement M
-plain-spec =
+pub short-by-first-octets-spec : {M : Type 1} → statement M
+short-by-first-octets-spec =
     tie.close
     (tie.spec sub-n returns returns-2 shared-slice-read-result returns-3 add-result shared-slice-read-result-2 returns-4 returns-5)
