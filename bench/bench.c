@@ -2,7 +2,8 @@
  *
  *   bench                        compare all answers, then time every row and both curves
  *   bench --compare              only compare the answers
- *   bench --time                 compare the answers to the rows alone, without the result `shortest`, then time (compare.py)
+ *   bench --time                 compare the answers to the rows alone, and `shortest` only if both sides set it, then time
+ *                                (compare.py)
  *   bench --list                 the rows: name, call, octets, fields
  *   bench --count ROW SIDE [N]   call a row N times (100 if not said). ROW is as a-meter-table-6:check, SIDE is library or plain.
  *                                It is for counting instructions (counts.py), so it compares and times nothing
@@ -19,12 +20,15 @@
 #include "../include/crudvim.h"
 #include "plain.h"
 
-enum { LIMIT = 65536, TABLE_ROOM = 65 * 8, SAMPLES = 31, MAX_ROWS = 128, SLACK = 16, SMALL_FIELD_MOST = 6 };
+enum { LIMIT = 65536, TABLE_ROOM = 65 * 8, SAMPLES = 31, MAX_ROWS = 128, SLACK = 16, SMALL_FIELD_MOST = 6, UNSET = 77 };
 
 enum call { CHECK, SHORTEN, TIBMSG, TIBRV };
 static const char *const call_names[] = {"check", "shorten", "tibmsg", "tibrv"};
 
 enum kind { RAW, UINT, INT, STRING, TEXT, MESSAGE };
+
+/* The form of a row's message. The shortener copies a short one, and writes the shortest form of a longer one. */
+enum form { SHORT, LONGER };
 
 struct octets {
     uint8_t *data;
@@ -39,6 +43,7 @@ struct row {
     struct octets message;
     size_t out_len;
     uint64_t fields;
+    enum form form;
 };
 
 struct side {
@@ -74,9 +79,18 @@ static void fail(const char *what)
     exit(1);
 }
 
+static void fail_row(const struct row *row, const char *what)
+{
+    char text[128];
+    snprintf(text, sizeof text, "%s (%s) %s", row->name, call_names[row->call], what);
+    fail(text);
+}
+
 /* ---- making octets ---- */
 
 #define RANDOM_START 0x9e3779b97f4a7c15u
+/* The rows (f) start with this state. So they, and the rows behind them, do not change if the rows before them do. */
+#define WIDE_START 0x4084ee54ba4e5bf9u
 static uint64_t random_state = RANDOM_START;
 
 static uint64_t random_bits(void)
@@ -162,12 +176,22 @@ static void put_uint(struct octets *to, unsigned tag, uint64_t value)
     put_wide_uint(to, tag, value, 0);
 }
 
-/* The same for an int of a size below 2^55. Lone negative powers of two are not in their shortest form; the bench needs none. */
+/* The least octets of an int of a size below 2^55. They have room for the size and a sign bit. A negative power of two whose bit
+ * stands in the place of the sign, as -80 or -8000 (hex), is the sign bit alone. */
+static size_t int_octets(int negative, uint64_t size)
+{
+    size_t count = octets_for(size << 1);
+    if (negative && count > 1 && size == (uint64_t)1 << (8 * (count - 1) - 1))
+        count--;
+    return count;
+}
+
+/* The same as put_wide_uint for an int of a size below 2^55. */
 static void put_wide_int(struct octets *to, unsigned tag, int negative, uint64_t size, size_t least)
 {
-    size_t count = octets_for(size << 1) < least ? least : octets_for(size << 1);
+    size_t count = int_octets(negative, size) < least ? least : int_octets(negative, size);
     put_control(to, tag, count, 0, least > 0);
-    put_number(to, negative && count > 0 ? size | (uint64_t)1 << (8 * count - 1) : size, count);
+    put_number(to, negative && size > 0 ? size | (uint64_t)1 << (8 * count - 1) : size, count);
 }
 
 static void put_int(struct octets *to, unsigned tag, int negative, uint64_t size)
@@ -244,9 +268,9 @@ static struct octets kinds_table(void)
 
 /* ---- messages ---- */
 
-/* 82 fields: four of the message's own, and 26 readings of a register and a value. Where it is wide, registers have two octets and
- * the other numbers eight, and lengths stand on an octet of their own; else every field has its shortest form. `higher` is added to
- * every tag. */
+/* 82 fields: four of the message's own, and 26 readings of a register and a value. Where it is wide, registers have two octets, the
+ * other numbers eight, and the lengths of numbers stand on an octet of their own; else every field has its shortest form. `higher`
+ * is added to every tag. */
 static struct octets meter_message(int wide, unsigned higher)
 {
     struct octets message = room(LIMIT);
@@ -265,7 +289,7 @@ static struct octets meter_message(int wide, unsigned higher)
     return message;
 }
 
-/* A field of at most SMALL_FIELD_MOST octets. */
+/* A field of at most SMALL_FIELD_MOST octets, in its shortest form. */
 static void put_small_field(struct octets *to)
 {
     static const char letters[] = "meter reading of the day";
@@ -279,7 +303,7 @@ static void put_small_field(struct octets *to)
     }
 }
 
-/* Small fields of every kind but message, of just so many octets. */
+/* Small fields of every kind but message, of just so many octets, each in its shortest form. */
 static void put_small_fields(struct octets *to, size_t len)
 {
     size_t end = to->len + len;
@@ -289,10 +313,13 @@ static void put_small_fields(struct octets *to, size_t len)
         put_number(to, 0x10, 1);
 }
 
-static struct octets small_fields(size_t len)
+/* A message of such fields. The last one is a uint on one octet: 1, which needs the octet, or 0, which does not. */
+static struct octets small_fields(size_t len, enum form form)
 {
     struct octets message = room(LIMIT);
-    put_small_fields(&message, len);
+    put_small_fields(&message, len - 2);
+    put_control(&message, 1, 1, 0, 0);
+    put_number(&message, form == SHORT ? 1 : 0, 1);
     return message;
 }
 
@@ -310,11 +337,12 @@ static struct octets one_field(unsigned tag, const char *pattern, size_t total)
     return message;
 }
 
-/* A message of `depth` levels and about `len` octets. The fields stand in the innermost one, or are spread over all. */
-static struct octets deep(unsigned depth, size_t len, int spread)
+/* A message of `depth` levels and about `len` octets. The fields stand in the innermost one, or are spread over all. The form is that
+ * of the innermost, and so that of every message around it. */
+static struct octets deep(unsigned depth, size_t len, int spread, enum form form)
 {
     size_t share = (len - 3 * (depth - 1)) / (spread ? depth : 1);
-    struct octets message = small_fields(share);
+    struct octets message = small_fields(share, form);
     for (unsigned level = 1; level < depth; level++) {
         struct octets around = room(LIMIT);
         if (spread)
@@ -494,7 +522,8 @@ static struct octets tibrv_one(size_t total)
 
 /* ---- rows ---- */
 
-static void add(const char *name, enum call call, struct octets table, uint64_t number, struct octets message, size_t out_len)
+static void add(const char *name, enum form form, enum call call, struct octets table, uint64_t number, struct octets message,
+                size_t out_len)
 {
     struct row *row = &rows[row_count++];
     if (row_count > MAX_ROWS)
@@ -505,22 +534,23 @@ static void add(const char *name, enum call call, struct octets table, uint64_t 
     row->number = number;
     row->message = message;
     row->out_len = out_len;
+    row->form = form;
 }
 
-static void add_both(const char *name, struct octets table, uint64_t number, struct octets message)
+static void add_both(const char *name, enum form form, struct octets table, uint64_t number, struct octets message)
 {
-    add(name, CHECK, table, number, message, 0);
-    add(name, SHORTEN, table, number, message, message.len);
+    add(name, form, CHECK, table, number, message, 0);
+    add(name, form, SHORTEN, table, number, message, message.len);
 }
 
-static void add_hproto_rows(void)
+/* Loading a table, and a meter reading (a, b). */
+static void add_meter_rows(void)
 {
     struct octets none = room(0);
     struct octets six = meter_table(0);
     struct octets six_great = meter_table(100);
     struct octets rising = full_table(0);
     struct octets shuffled = full_table(1);
-    struct octets kinds = kinds_table();
     /* Each reading draws the same numbers again, so the rows behind them do not depend on how many there are. */
     uint64_t state = random_state;
     struct octets meter = meter_message(0, 0);
@@ -528,80 +558,110 @@ static void add_hproto_rows(void)
     struct octets great_meter = meter_message(0, 100);
     random_state = state;
     struct octets wide_meter = meter_message(1, 0);
-    add("load-0", CHECK, none, 0, none, 0);
-    add("load-6", CHECK, six, 0, none, 0);
-    add("load-64-rising", CHECK, rising, 14, none, 0);
-    add("load-64-shuffled", CHECK, shuffled, 14, none, 0);
-    add_both("a-meter-table-6", six, 0, meter);
-    add_both("a-meter-great-tags", six_great, 0, great_meter);
-    add_both("a-meter-wide-table-6", six, 0, wide_meter);
-    add_both("b-meter-table-64-rising", rising, 14, meter);
-    add_both("b-meter-table-64-shuffled", shuffled, 14, meter);
-    add_both("c-small-fields-64K", kinds, 0, small_fields(LIMIT));
-    add_both("d-one-string-64K", kinds, 0, one_field(3, "octets", LIMIT));
-    add_both("e-depth-8-small", kinds, 0, deep(8, 160, 1));
-    add_both("e-depth-8-spread-64K", kinds, 0, deep(8, LIMIT - 64, 1));
-    add_both("e-depth-8-innermost-64K", kinds, 0, deep(8, LIMIT, 0));
-    add_both("f-wide-200", kinds, 0, wide(200));
-    add_both("f-wide-64K", kinds, 0, wide(LIMIT));
-    add("f-wide-64K-just-room", SHORTEN, kinds, 0, rows[row_count - 1].message, 0);
+    add("load-0", SHORT, CHECK, none, 0, none, 0);
+    add("load-6", SHORT, CHECK, six, 0, none, 0);
+    add("load-64-rising", SHORT, CHECK, rising, 14, none, 0);
+    add("load-64-shuffled", SHORT, CHECK, shuffled, 14, none, 0);
+    add_both("a-meter-table-6", SHORT, six, 0, meter);
+    add_both("a-meter-great-tags", SHORT, six_great, 0, great_meter);
+    add_both("a-meter-wide-table-6", LONGER, six, 0, wide_meter);
+    add_both("b-meter-table-64-rising", SHORT, rising, 14, meter);
+    add_both("b-meter-table-64-shuffled", SHORT, shuffled, 14, meter);
+}
+
+/* Many fields (c, e, f) and one (d). The messages of small fields (c, e) have one number in a longer form, the last one of the
+ * innermost message, so that the shortener writes them. That of c-short-fields-64K has the same fields as that of c-small-fields-64K
+ * but for this number, and is short, so that the shortener copies it. */
+static void add_field_rows(struct octets kinds)
+{
+    uint64_t state = random_state;
+    add_both("c-small-fields-64K", LONGER, kinds, 0, small_fields(LIMIT, LONGER));
+    random_state = state;
+    add_both("c-short-fields-64K", SHORT, kinds, 0, small_fields(LIMIT, SHORT));
+    add_both("d-one-string-64K", SHORT, kinds, 0, one_field(3, "octets", LIMIT));
+    add_both("e-depth-8-small", LONGER, kinds, 0, deep(8, 160, 1, LONGER));
+    add_both("e-depth-8-spread-64K", LONGER, kinds, 0, deep(8, LIMIT - 64, 1, LONGER));
+    add_both("e-depth-8-innermost-64K", LONGER, kinds, 0, deep(8, LIMIT, 0, LONGER));
+    random_state = WIDE_START;
+    add_both("f-wide-200", LONGER, kinds, 0, wide(200));
+    add_both("f-wide-64K", LONGER, kinds, 0, wide(LIMIT));
+    add("f-wide-64K-just-room", LONGER, SHORTEN, kinds, 0, rows[row_count - 1].message, 0);
+}
+
+/* One text (g). Its length stands on two octets, which a text of 64 KiB needs and the others do not. */
+static void add_text_rows(struct octets kinds)
+{
     const char *ascii = "the quick brown fox ";
     const char *multi = "\xc3\xa9\xe2\x82\xac\xf0\x9f\x94\x8c\xc2\xb5";
-    add("g-text-ascii-40", CHECK, kinds, 0, one_field(4, ascii, 40), 0);
-    add("g-text-multi-40", CHECK, kinds, 0, one_field(4, multi, 40), 0);
-    add("g-text-multi-200", CHECK, kinds, 0, one_field(4, multi, 200), 0);
-    add_both("g-text-ascii-64K", kinds, 0, one_field(4, ascii, LIMIT));
-    add_both("g-text-multi-64K", kinds, 0, one_field(4, multi, LIMIT));
-    add_both("g-text-mixed-64K", kinds, 0, one_field(4, "Z\xc3\xa4hler f\xc3\xbcr 5 \xe2\x82\xac ", LIMIT));
+    add("g-text-ascii-40", LONGER, CHECK, kinds, 0, one_field(4, ascii, 40), 0);
+    add("g-text-multi-40", LONGER, CHECK, kinds, 0, one_field(4, multi, 40), 0);
+    add("g-text-multi-200", LONGER, CHECK, kinds, 0, one_field(4, multi, 200), 0);
+    add_both("g-text-ascii-64K", SHORT, kinds, 0, one_field(4, ascii, LIMIT));
+    add_both("g-text-multi-64K", SHORT, kinds, 0, one_field(4, multi, LIMIT));
+    add_both("g-text-mixed-64K", SHORT, kinds, 0, one_field(4, "Z\xc3\xa4hler f\xc3\xbcr 5 \xe2\x82\xac ", LIMIT));
+}
+
+/* Tib messages have one form only, and no table. */
+static void add_tib(const char *name, enum call call, struct octets message)
+{
+    add(name, SHORT, call, room(0), 0, message, 0);
 }
 
 /* The format's worked examples with their sizes put right, then large messages. */
 static void add_tib_rows(void)
 {
-    struct octets none = room(0);
-    add("tibmsg-int", TIBMSG, none, 0, from_hex("ce13aa1f 01 0000000b 046e616d00 0504 12345678"), 0);
-    add("tibmsg-date", TIBMSG, none, 0,
-        from_hex("ce13aa1f 01 0000001e 0b485354434c534441544500 420c 323520415052203139393400 0602 0102"), 0);
-    add("tibmsg-partial", TIBMSG, none, 0, from_hex("ce13aa1f 01 00000011 08524f5736345f3400 4904 41415555 063c"), 0);
-    add("tibmsg-array", TIBMSG, none, 0, from_hex("ce13aa1f 01 00000011 06415252415900 4806 000100020003 0502"), 0);
-    add("tibmsg-real", TIBMSG, none, 0, from_hex("ce13aa1f 01 00000017 09545244505243 5f3100 4708 3ff2000000000000 0601 13"), 0);
-    add("tibmsg-small-64K", TIBMSG, none, 0, tibmsg_small(LIMIT), 0);
-    add("tibmsg-names-64K", TIBMSG, none, 0, tibmsg_long_names(LIMIT), 0);
-    add("tibmsg-one-64K", TIBMSG, none, 0, tibmsg_one(LIMIT), 0);
-    add("tibrv-uint", TIBRV, none, 0, from_hex("00000013 9955eeaa 046e616d00 0c05 12345678"), 0);
-    add("tibrv-nested", TIBRV, none, 0,
-        from_hex("00000027 9955eeaa 056461746100 017a 00000017 9955eeaa 066669656c6400 0807 76616c756500"), 0);
-    add("tibrv-tibmsg", TIBRV, none, 0,
-        from_hex("00000032 9955eeaa 075f646174615f00 0721 ce13aa1f 01 00000017 0954524450 52435f3100"
-                 "4708 3ff2000000000000 0601 13"), 0);
-    add("tibrv-small-64K", TIBRV, none, 0, tibrv_small(LIMIT, 1), 0);
-    add("tibrv-depth-8-64K", TIBRV, none, 0, tibrv_small(LIMIT, 8), 0);
-    add("tibrv-one-64K", TIBRV, none, 0, tibrv_one(LIMIT), 0);
+    add_tib("tibmsg-int", TIBMSG, from_hex("ce13aa1f 01 0000000b 046e616d00 0504 12345678"));
+    add_tib("tibmsg-date", TIBMSG,
+            from_hex("ce13aa1f 01 0000001e 0b485354434c534441544500 420c 323520415052203139393400 0602 0102"));
+    add_tib("tibmsg-partial", TIBMSG, from_hex("ce13aa1f 01 00000011 08524f5736345f3400 4904 41415555 063c"));
+    add_tib("tibmsg-array", TIBMSG, from_hex("ce13aa1f 01 00000011 06415252415900 4806 000100020003 0502"));
+    add_tib("tibmsg-real", TIBMSG, from_hex("ce13aa1f 01 00000017 09545244505243 5f3100 4708 3ff2000000000000 0601 13"));
+    add_tib("tibmsg-small-64K", TIBMSG, tibmsg_small(LIMIT));
+    add_tib("tibmsg-names-64K", TIBMSG, tibmsg_long_names(LIMIT));
+    add_tib("tibmsg-one-64K", TIBMSG, tibmsg_one(LIMIT));
+    add_tib("tibrv-uint", TIBRV, from_hex("00000013 9955eeaa 046e616d00 0c05 12345678"));
+    add_tib("tibrv-nested", TIBRV,
+            from_hex("00000027 9955eeaa 056461746100 017a 00000017 9955eeaa 066669656c6400 0807 76616c756500"));
+    add_tib("tibrv-tibmsg", TIBRV,
+            from_hex("00000032 9955eeaa 075f646174615f00 0721 ce13aa1f 01 00000017 0954524450 52435f3100"
+                     "4708 3ff2000000000000 0601 13"));
+    add_tib("tibrv-small-64K", TIBRV, tibrv_small(LIMIT, 1));
+    add_tib("tibrv-depth-8-64K", TIBRV, tibrv_small(LIMIT, 8));
+    add_tib("tibrv-one-64K", TIBRV, tibrv_one(LIMIT));
 }
 
 /* Names that begin with `length-` or `depth-` are points of the curves. Each point starts with the same random state, so that its
- * fields are those of its neighbours but for the last ones. */
-static void add_curve_rows(void)
+ * fields are those of its neighbours but for the last ones. They have one number in a longer form, too. */
+static void add_curve_rows(struct octets kinds)
 {
-    struct octets kinds = kinds_table();
     char name[40];
     for (size_t len = 256; len <= LIMIT; len *= 2) {
         snprintf(name, sizeof name, "length-%zu", len);
         random_state = RANDOM_START;
-        add_both(name, kinds, 0, small_fields(len));
+        add_both(name, LONGER, kinds, 0, small_fields(len, LONGER));
     }
     for (unsigned depth = 1; depth <= 8; depth++) {
         snprintf(name, sizeof name, "depth-%u", depth);
         random_state = RANDOM_START;
-        add_both(name, kinds, 0, deep(depth, 16384, 0));
+        add_both(name, LONGER, kinds, 0, deep(depth, 16384, 0, LONGER));
     }
+}
+
+static void add_rows(void)
+{
+    struct octets kinds = kinds_table();
+    add_meter_rows();
+    add_field_rows(kinds);
+    add_text_rows(kinds);
+    add_tib_rows();
+    add_curve_rows(kinds);
 }
 
 /* ---- calling ---- */
 
 static struct answer ask(const struct side *side, const struct row *row, uint8_t *out)
 {
-    struct answer answer = {77, 77, 77, 0, 77};
+    struct answer answer = {UNSET, UNSET, UNSET, 0, UNSET};
     const uint8_t *table = row->table.data;
     const uint8_t *message = row->message.data;
     size_t len = row->message.len;
@@ -637,8 +697,8 @@ static uint64_t compared;
 static uint64_t refused_with[32];
 static uint64_t short_checks[2]; /* accepted checks of messages that could be shortened, and of short ones */
 /* compare.py may link an archive from before crudvim_check had the result `shortest`. On x86-64 such a function does not see the
- * pointer to it and leaves it unset, so what compare.py runs does not compare it. */
-static int compare_shortest = 1;
+ * pointer to it and leaves it unset. Only in what compare.py runs may that be, and then it is not compared. */
+static int may_be_unset;
 
 static void show_difference(const struct row *row, const struct answer answers[2])
 {
@@ -667,9 +727,9 @@ static struct answer compare(const struct row *row)
     for (int i = 0; i < 2; i++) {
         memset(outs[i], 0xa5, used);
         answers[i] = ask(&sides[i], row, outs[i]);
-        if (!compare_shortest)
-            answers[i].shortest = 0;
     }
+    if (may_be_unset && (answers[0].shortest == UNSET || answers[1].shortest == UNSET))
+        answers[0].shortest = answers[1].shortest = UNSET;
     int same = memcmp(&answers[0], &answers[1], sizeof answers[0]) == 0 && memcmp(outs[0], outs[1], used) == 0;
     if (!same)
         show_difference(row, answers);
@@ -864,14 +924,14 @@ static void compare_small(size_t times)
     /* Some characters, and the first or last ones of four rows of the grammar of UTF-8. */
     const char *characters = "\xc3\xa9\xe2\x82\xac\xf0\x9f\x94\x8c\xe0\xa0\x80\xed\x9f\xbf\xf0\x90\x80\x80\xf4\x8f\xbf\xbf";
     struct row small[] = {
-        {"text-small", CHECK, kinds, 0, one_field(4, characters, 52), 0, 0},
-        {"fields-small", CHECK, kinds, 0, small_fields(60), 0, 0},
-        {"deep-small", CHECK, kinds, 0, deep(8, 60, 1), 0, 0},
-        {"too-deep-small", CHECK, kinds, 0, deep(9, 60, 1), 0, 0},
-        {"tibmsg-small", TIBMSG, none, 0, tibmsg_small(180), 0, 0},
-        {"tibrv-small", TIBRV, none, 0, tibrv_small(180, 1), 0, 0},
-        {"tibrv-deep-small", TIBRV, none, 0, tibrv_small(480, 8), 0, 0},
-        {"tibrv-too-deep-small", TIBRV, none, 0, tibrv_small(540, 9), 0, 0},
+        {.name = "text-small", .call = CHECK, .table = kinds, .message = one_field(4, characters, 52)},
+        {.name = "fields-small", .call = CHECK, .table = kinds, .message = small_fields(60, SHORT)},
+        {.name = "deep-small", .call = CHECK, .table = kinds, .message = deep(8, 60, 1, SHORT)},
+        {.name = "too-deep-small", .call = CHECK, .table = kinds, .message = deep(9, 60, 1, SHORT)},
+        {.name = "tibmsg-small", .call = TIBMSG, .table = none, .message = tibmsg_small(180)},
+        {.name = "tibrv-small", .call = TIBRV, .table = none, .message = tibrv_small(180, 1)},
+        {.name = "tibrv-deep-small", .call = TIBRV, .table = none, .message = tibrv_small(480, 8)},
+        {.name = "tibrv-too-deep-small", .call = TIBRV, .table = none, .message = tibrv_small(540, 9)},
     };
     for (size_t i = 0; i < sizeof small / sizeof small[0]; i++) {
         compare(&small[i]);
@@ -892,7 +952,7 @@ static void compare_rows(void)
     for (size_t i = 0; i < row_count; i++) {
         struct answer answer = compare(&rows[i]);
         if (answer.refusal != CRUDVIM_ACCEPTED)
-            fail(rows[i].name);
+            fail_row(&rows[i], "is refused");
     }
 }
 
@@ -913,7 +973,16 @@ static void compare_all(void)
     printf("\nhproto messages that the check accepted: %llu short already, %llu not\n\n", (unsigned long long)short_checks[1],
            (unsigned long long)short_checks[0]);
     if (short_checks[0] == 0 || short_checks[1] == 0)
-        fail("no short message, or none that is not");
+        fail("all accepted messages are short, or none is");
+}
+
+/* A row has to have the form that it says. If it had not, the shortener would copy where it should write, or the reverse. */
+static void check_form(const struct row *row, uint64_t shortest)
+{
+    if (may_be_unset && shortest == UNSET)
+        return;
+    if (shortest != (row->form == SHORT))
+        fail_row(row, row->form == SHORT ? "should be short and is not" : "is short and should not be");
 }
 
 /* What a row can only know from an answer: its count of fields, and the room that is just enough where none was said. */
@@ -927,7 +996,10 @@ static void complete(struct row *row)
     }
     if (row->call == SHORTEN)
         asked.call = CHECK;
-    row->fields = ask(&sides[1], &asked, out).first;
+    struct answer answer = ask(&sides[1], &asked, out);
+    row->fields = answer.first;
+    if (asked.call == CHECK)
+        check_form(row, answer.shortest);
 }
 
 static void complete_all(void)
@@ -1021,9 +1093,7 @@ static void count(const char *wanted, const char *side_name, size_t times)
 
 int main(int argc, char **argv)
 {
-    add_hproto_rows();
-    add_tib_rows();
-    add_curve_rows();
+    add_rows();
     if (argc == 1) {
         complete_all();
         compare_all();
@@ -1032,7 +1102,7 @@ int main(int argc, char **argv)
         complete_all();
         compare_all();
     } else if (argc == 2 && strcmp(argv[1], "--time") == 0) {
-        compare_shortest = 0;
+        may_be_unset = 1;
         complete_all();
         compare_rows();
         time_all();

@@ -5,9 +5,9 @@
 
 Run it at the project's root. A ROW is part of a row's name; without any, all rows but the points of the curves are printed. The bench is
 linked with both archives, BEFORE in the place of plain.c. It compares their answers to the rows, and no others, because a request may
-change answers. It does not compare the check's result `shortest`, because an older archive does not set it. Where the linker places a
-function changes its time, so the bench is linked eight times, with the archives in either order behind a block of another length. The
-ratio, AFTER by BEFORE, is the geometric mean of the eight; the least and the greatest are beside it.
+change answers. It compares the check's result `shortest` only if both archives set it. Where the linker places a function changes its
+time, so the bench is linked eight times, with the archives in either order behind a block of another length. The ratio, AFTER by
+BEFORE, is the geometric mean of the eight; the least and the greatest are beside it.
 """
 import math
 import pathlib

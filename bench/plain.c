@@ -177,7 +177,7 @@ static int text_good(const uint8_t *at, size_t length)
 
 /* ---- the check ---- */
 
-/* Whether the control part at `at` has more octets than its tag and length need. Forms within one octet never have. */
+/* Whether the control part at `at` has more octets than its tag and length need. A control part of one octet never has. */
 static inline int control_longer(const uint8_t *at, const struct field *field)
 {
     static const uint64_t least[] = {12, 256, 65536, (uint64_t)1 << 32};
@@ -188,8 +188,9 @@ static inline int control_longer(const uint8_t *at, const struct field *field)
     return low >= 12 && field->length < least[low - 12];
 }
 
-/* Whether an int has an octet more than it needs: a sign alone in front of a size that leaves the sign bit of the next octet free,
- * or of a negative power of two, which that bit alone stands for. A sign and no size is the lowest number, and needs its octets. */
+/* Whether an int has an octet more than it needs. Then its first octet has only the sign, and the rest has room for the size and a
+ * sign, or the number is a negative power of two that the sign bit of the rest alone means. A sign bit without a size is the lowest
+ * number, and needs all its octets. */
 static inline int int_longer(const uint8_t *contents, size_t length)
 {
     if (length < 2)
