@@ -9,12 +9,16 @@
  * before a page that cannot be touched; and with buffers that start just after one. The pages find a stray access in an archive
  * that was built without AddressSanitizer, too.
  *
+ * The check's answers are also compared with those of bench/plain.c, a separate implementation.
+ *
  * Built with -fsanitize=fuzzer it is driven by libFuzzer. Built with -DSTANDALONE it runs the files that it is given, or its
  * standard input.
  */
 #define _DEFAULT_SOURCE
 
 #include "crudvim.h"
+
+#include "../../bench/plain.h"
 
 #include <stdio.h>
 #include <stdlib.h>
@@ -230,10 +234,21 @@ static int same_answer(const struct answer *one, const struct answer *other, uns
         && memcmp(one->results, other->results, results * sizeof(uint64_t)) == 0;
 }
 
+/* The plain implementation gives the same answer to a check. Only this finds a message that is wrongly called short: the library's
+ * shortener copies it. */
+static void compare_with_plain(const struct input *in, const struct answer *answer)
+{
+    uint64_t place, fields, depth, shortest;
+    uint64_t refusal = plain_check(in->table, in->table_len, in->number, in->message, in->message_len, &place, &fields, &depth, &shortest);
+    HOLDS(answer->refusal == refusal && answer->place == place);
+    HOLDS(answer->results[0] == fields && answer->results[1] == depth);
+    HOLDS(answer->results[2] == shortest);
+}
+
 /* What holds of the accepted calls of each entry. */
 
 /* The check of a message and of its shortest form, of `length` octets: the counts are the same, the shortest form is short, and the
- * message is short exactly where it is its own shortest form. */
+ * message is short exactly where it is its own shortest form. The plain implementation agrees on both. */
 static void compare_checks(const struct input *in, const uint8_t *shortest, size_t length)
 {
     struct input message = *in, shortened = *in;
@@ -246,6 +261,8 @@ static void compare_checks(const struct input *in, const uint8_t *shortest, size
     HOLDS(counts.refusal == CRUDVIM_ACCEPTED && same_answer(&counts, &short_counts, 2));
     HOLDS(counts.results[2] == (unchanged ? 1 : 0));
     HOLDS(short_counts.results[2] == 1);
+    compare_with_plain(&message, &counts);
+    compare_with_plain(&shortened, &short_counts);
 }
 
 static void after_check(const struct input *in, const struct answer *answer)
@@ -471,6 +488,8 @@ int LLVMFuzzerTestOneInput(const uint8_t *octets, size_t length)
         HOLDS(same(written, again, in.room));
     }
     note(&in, &answer);
+    if (in.entry == CHECK)
+        compare_with_plain(&in, &answer);
     if (answer.refusal == CRUDVIM_ACCEPTED)
         after(&in, &answer, written);
     free(written);

@@ -33,7 +33,8 @@ if ! has_libfuzzer; then
 fi
 
 # shellcheck disable=SC2086
-clang -std=c11 -g -O1 -Wall -Wextra -fsanitize=fuzzer,address -I ../../include harness.c "$CRUDVIM_LIB/lib$archive.a" ${FUZZ_LIBS:-} -o work/harness
+clang -std=c11 -g -O1 -Wall -Wextra -fsanitize=fuzzer,address -I ../../include harness.c ../../bench/plain.c "$CRUDVIM_LIB/lib$archive.a" \
+    ${FUZZ_LIBS:-} -o work/harness
 (cd ../differential && cargo run --release --quiet -- corpus ../fuzz/work/seeds)
 
 status=0
