@@ -67,12 +67,15 @@ static size_t taken(void *(*call)(void *))
     return job.octets;
 }
 
-/* Eight levels, each a field with the tag 1 in the widest form around the last, with an int and a text inside. */
+/* Eight levels, each a field with the tag 1 in the widest form around the last, with an int, a uint and a text inside. The numbers and
+ * their control parts are as wide as can be, so that the check reads them the general way, at the deepest level too. */
 static void fill_nest(void)
 {
     size_t at = sizeof nest, level;
     for (level = 0; level < 7; level++) {
-        static const uint8_t inside[] = {0xe8, 2, 0, 0, 0, 0, 0, 0, 0, 5, 0x33, 'k', 'W', 'h'};
+        static const uint8_t inside[] = {0xff, 0, 2,  0, 0, 0, 0, 0, 0, 0, 8, 0, 0, 0, 0, 0, 0, 0, 5,
+                                         0xff, 0, 16, 0, 0, 0, 0, 0, 0, 0, 8, 0, 0, 0, 0, 0, 0, 0, 5,
+                                         0x33, 'k', 'W', 'h'};
         size_t length;
         at -= sizeof inside;
         memcpy(nest + at, inside, sizeof inside);
