@@ -4,7 +4,7 @@
  *     concentrator TABLE-FILE [MESSAGE-NUMBER] < frames > shortened-frames
  *
  * A message that is in its shortest form already is passed on from the input buffer; any other is shortened first. The last line on
- * standard error counts every message that is passed on as "shortened", and those that were short before also as "already short".
+ * standard error counts every message that is passed on, shortened or not, and then also those that were short already.
  *
  * A message that is refused is left out and reported on standard error, with the refusal's number, its meaning and its place. Frames
  * have no mark by which a start could be found: after a refused message the next frame follows where the prefix says, and where a
@@ -35,7 +35,7 @@ struct rules {
 };
 
 struct counts {
-    uint64_t frames, shortened, already_short, refused, skipped, octets_in, octets_out;
+    uint64_t frames, passed_on, already_short, refused, skipped, octets_in, octets_out;
 };
 
 static void drop_front(struct stream *in, size_t n)
@@ -92,7 +92,7 @@ static int take_frame(const struct stream *in, uint64_t start, uint64_t end, con
         report(in, "message of the frame", refusal, place);
         return 1;
     }
-    c->shortened++;
+    c->passed_on++;
     c->already_short += shortest;
     return shortest ? put_frame(message, length, c) : put_shortened(message, length, rules, c);
 }
@@ -173,8 +173,8 @@ int main(int argc, char **argv)
         return 1;
     }
     fprintf(stderr,
-            "frames %" PRIu64 " shortened %" PRIu64 " refused %" PRIu64 " octets in %" PRIu64 " out %" PRIu64 " skipped %" PRIu64
+            "frames %" PRIu64 " passed on %" PRIu64 " refused %" PRIu64 " octets in %" PRIu64 " out %" PRIu64 " skipped %" PRIu64
             " already short %" PRIu64 "\n",
-            c.frames, c.shortened, c.refused, c.octets_in, c.octets_out, c.skipped, c.already_short);
+            c.frames, c.passed_on, c.refused, c.octets_in, c.octets_out, c.skipped, c.already_short);
     return 0;
 }
