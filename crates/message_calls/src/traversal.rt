@@ -20,6 +20,7 @@ ghost use Rattle.message_calls.specs.internal.Verdicts.{verdict as verdi
 
 // The code of the kind of the field at an offset, if its control part is one octet and its contents end within the message; else 32.
 fn small_code(cells: &[u32; 128], number: u64, s: &[u8], i: usize) -> u64
+    requires { ⌜ length (now s) ≤ messageLimit ⌝ }
     ensures { λ r. ⌜ r ≡ smallCode (now (cells .entry)) number (now (s .entry)) i ⌝ }
 {
     if s.len() <= i {
@@ -27,7 +28,7 @@ fn small_code(cells: &[u32; 128], number: u64, s: &[u8], i: usize) -> u64
     }
     let c = s[i];
     let n = (c & 15) as usize;
-    if 224 <= c || 12 <= n || s.len() - i <= n {
+    if 224 <= c || 12 <= n || s.len() < i + 1 + n {
         return 32;
     }
     table_index::code(table_index::cell(cells, number, (c >> 4) as u64))
@@ -55,8 +56,8 @@ fn short_by_first_octets(code: u64, s: &[u8], a: usize, e: usize) -> bool
 
 // Returns the end of the field at an offset with the code of `small_code`, if it is no message and its contents are allowed and in their
 // shortest form. Most fields are such. Else it returns 0, and the caller calls `next`. A number whose first octet has a bit of its magnitude
-// needs that octet. A field without contents has no first octet: the test then looks at the control octet, and either outcome is right. So
-// there is no branch on the length, which the processor would often predict wrongly.
+// needs that octet. A field without contents has no first octet: the test then looks at the control octet, and either outcome is right. The
+// compiler chooses `first` without a jump. A jump that depends on the length would often be predicted wrongly.
 fn quick(code: u64, s: &[u8], i: usize) -> usize
     requires { ⌜ (code ≤ 4 → smallAt (now s) i ≡ true) ⌝ }
     ensures { λ r. ⌜ (r ≡ 0 → NoText code (now (s .entry)) i) ⌝ }

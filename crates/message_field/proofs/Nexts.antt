@@ -10,7 +10,7 @@ use lib.Bits.{bitAnd, and-mask}
 use lib.Dec.{leb, ltb}
 use lib.ListN.{length, getD, take, drop, length-drop}
 use lib.Seq.{drop-drop, drop-cons, length-take-le}
-use borrow.Author.Tests.{ltb-true, le-ltb, lt-ltb}
+use borrow.Author.Tests.{ltb-true, leb-true, le-ltb, lt-ltb, le-leb, lt-leb}
 use Rattle.octets.specs.Number.{Octets}
 use Rattle.octets.specs.Text.{text}
 use Rattle.octets.specs.Control.{control}
@@ -210,39 +210,39 @@ module _ (cells : List ℕ) (number : ℕ) (s : List ℕ) (i : ℕ) where
       none-by-length l = rw (lt-ltb i (length s) h, lt-ltb octet 224 t, le-ltb (octet % 16) 12 (rw (← len-is) l)) refl
 
       module _ (l : len < 12) where
-        pub none-by-end : length s - i ≤ len → 32 ≡ smallCode cells number s i
+        pub none-by-end : length s < i + 1 + len → 32 ≡ smallCode cells number s i
         unfolding smallCode smallAt
         none-by-end k =
-            rw (lt-ltb i (length s) h, lt-ltb octet 224 t, lt-ltb (octet % 16) 12 (rw (← len-is) l), le-ltb (octet % 16) (length s - i) (rw (← len-is) k)) refl
+            rw (lt-ltb i (length s) h, lt-ltb octet 224 t, lt-ltb (octet % 16) 12 (rw (← len-is) l), lt-leb (i + 1 + octet % 16) (length s) (rw (← len-is) k)) refl
 
-        pub code-found : len < length s - i → codeIn (cellFor cells number (octet / 16)) ≡ smallCode cells number s i
+        pub code-found : i + 1 + len ≤ length s → codeIn (cellFor cells number (octet / 16)) ≡ smallCode cells number s i
         unfolding smallCode smallAt
         code-found k =
-            rw (lt-ltb i (length s) h, lt-ltb octet 224 t, lt-ltb (octet % 16) 12 (rw (← len-is) l), lt-ltb (octet % 16) (length s - i) (rw (← len-is) k)) refl
+            rw (lt-ltb i (length s) h, lt-ltb octet 224 t, lt-ltb (octet % 16) 12 (rw (← len-is) l), le-leb (i + 1 + octet % 16) (length s) (rw (← len-is) k)) refl
 
 -- What the test for such a field says of the octets.
 record Small (s : List ℕ) (i : ℕ) : Type 0 where
   here : i < length s
   tag-small : getD s i 0 < 224
   length-small : bitAnd (getD s i 0) 15 < 12
-  fits : bitAnd (getD s i 0) 15 < length s - i
+  fits : i + 1 + bitAnd (getD s i 0) 15 ≤ length s
 
 module _ (s : List ℕ) (i : ℕ) (e : smallAt s i ≡ true) where
   small : Small s i
   unfolding smallAt
   small =
       let c = getD s i 0 in
-      let w = and-four (ltb i (length s)) (ltb c 224) (ltb (c % 16) 12) (ltb (c % 16) (length s - i)) e in
+      let w = and-four (ltb i (length s)) (ltb c 224) (ltb (c % 16) 12) (leb (i + 1 + c % 16) (length s)) e in
       let m = and-mask c 4 in
       record {
         here = ltb-true i (length s) (w .0);
         tag-small = ltb-true c 224 (w .1);
         length-small = rw m (ltb-true (c % 16) 12 (w .2));
-        fits = rw m (ltb-true (c % 16) (length s - i) (w .3));
+        fits = rw m (leb-true (i + 1 + c % 16) (length s) (w .3));
       }
 
   pub small-inside : (i < length s) × (i + 1 + bitAnd (getD s i 0) 15 ≤ length s)
-  small-inside = let k = small .here in let f = small .fits in (k, omega arith)
+  small-inside = (small .here, small .fits)
 
   small-control : control (drop i s) ≡ Whole (getD s i 0 / 16) (bitAnd (getD s i 0) 15) 1
   small-control =

@@ -57,6 +57,13 @@ whole-tag x l s h =
     let e : x * 1 + 0 ≡ x = omega arith in
     rw (lt-ltb l 12 h, le-ltb (suc (length s)) 1 (omega arith), e)
 
+-- The same with the length in the second.
+pub whole-length : (t x : ℕ) (s : List ℕ) → t < 14 → Whole t x 2 ≡ controlOf t 12 (x ∷ s)
+unfolding controlOf following coded bigEndian
+whole-length t x s h =
+    let e : x * 1 + 0 ≡ x = omega arith in
+    rw (lt-ltb t 14 h, le-ltb (suc (length s)) 1 (omega arith), e)
+
 module _ (t l n m : ℕ) (s : List ℕ) (e : n ≡ following tagCode t) (f : m ≡ following lengthCode l) where
   pub partial : length s < n + m → Partial ≡ controlOf t l s
   unfolding controlOf

@@ -17,6 +17,7 @@ ghost use Rattle.octets.specs.Short.{shortUint, shortInt, shortControl};
 ghost use Rattle.octets.specs.internal.Least.{leastOfLead, leastLeads};
 ghost use Rattle.octets.specs.ControlPart.{tagCode, lengthCode};
 ghost use Rattle.octets.specs.Control.{control as control-of, controlOf, following, coded};
+ghost use Rattle.octets.specs.declared.Control.the-variants.{Whole};
 
 // Returns the value of the octets up to and including that at i, given the value v of those before it. With at most eight octets it
 // cannot overflow.
@@ -278,8 +279,23 @@ pub fn control(s: &[u8]) -> ReadControl
     control_after(c, &s[1..])
 }
 
-// Reads the control part at an offset. The check passes most control parts of one octet without it, so there is no test for them here. Most of
-// those with two octets have the tag in the second and a length below 12. They are read here, because `control_after` takes longer.
+// A control part of two octets, and whether they are its shortest form.
+fn of_two(tag: u64, length: u64, shortest: bool) -> ReadControl
+    ensures { λ r. ⌜ r .control ≡ Whole tag length 2 ⌝ }
+    ensures { λ r. ⌜ r .shortest ≡ shortest ⌝ }
+{
+    ReadControl {
+        control: Control::Whole {
+            tag,
+            length,
+            size: 2,
+        },
+        shortest,
+    }
+}
+
+// Reads the control part at an offset. The check passes most control parts of one octet without it, so there is no test for them here. Those of
+// two octets, with the tag or the length in the second, are read here, because `control_after` takes longer.
 pub fn control_at(s: &[u8], i: usize) -> ReadControl
     ensures { λ r. ⌜ r .control ≡ control-of (drop i (now (s .entry))) ⌝ }
     ensures { λ r. ⌜ r .shortest ≡ shortControl (drop i (now (s .entry))) ⌝ }
@@ -291,16 +307,15 @@ pub fn control_at(s: &[u8], i: usize) -> ReadControl
         };
     }
     let c = s[i];
-    if 0xe0 <= c && c < 0xec && 2 <= s.len() - i {
-        let tag = numbers::wide(s[i + 1]);
-        return ReadControl {
-            control: Control::Whole {
-                tag,
-                length: numbers::wide(c & 15),
-                size: 2,
-            },
-            shortest: 14 <= tag,
-        };
+    if 2 <= s.len() - i {
+        if 0xe0 <= c && c < 0xec {
+            let tag = numbers::wide(s[i + 1]);
+            return of_two(tag, numbers::wide(c & 15), 14 <= tag);
+        }
+        if c < 0xe0 && c & 15 == 12 {
+            let length = numbers::wide(s[i + 1]);
+            return of_two(numbers::wide(c >> 4), length, 12 <= length);
+        }
     }
     control_after(c, &s[i + 1..])
 }

@@ -6,7 +6,7 @@ use mathlib.Core.Bool.{Bool, true, false, cond, _&&_}
 use mathlib.Core.List.{List}
 use lib.ListN.{length, getD, take, drop}
 use lib.Bits.{bitAnd}
-use lib.Dec.{ltb}
+use lib.Dec.{leb, ltb}
 use Rattle.octets.specs.Text.{text}
 use Rattle.octets.specs.Short.{shortPart}
 use Rattle.octets.specs.Control.{control}
@@ -55,7 +55,7 @@ NoText code s i = code ≡ 4 → text (take (i + 1 + bitAnd (getD s i 0) 15 - (i
 unfoldable pub smallAt : List ℕ → ℕ → Bool
 smallAt s i =
     let c = getD s i 0 in
-    ltb i (length s) && ltb c 224 && ltb (c % 16) 12 && ltb (c % 16) (length s - i)
+    ltb i (length s) && ltb c 224 && ltb (c % 16) 12 && leb (i + 1 + c % 16) (length s)
 
 -- The code of the kind of such a field; 32, which is no code, if there is no such field.
 unfoldable pub smallCode : List ℕ → ℕ → List ℕ → ℕ → ℕ

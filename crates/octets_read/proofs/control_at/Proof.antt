@@ -1,15 +1,15 @@
 -- `octets_read::control_at` meets its contract.
-use Prim.Native.Nat.{_+_, _-_, _≤_, _<_}
+use Prim.Native.Nat.{_+_, _≤_, _<_}
 use native.Mathlib.Omega.{arith}
 use mathlib.Core.Path.{_≡_, ap, _∙_}
 use lib.ListN.{length, drop, length-drop}
 use denote.Ref.{now}
-use borrow.Author.Tests.{ltb-true, leb-true}
+use borrow.Author.Tests.{ltb-true, eqb-true}
 use Rattle.octets.specs.Control.{control}
 use Rattle.octets.specs.Short.{shortControl}
 use Rattle.octets.proofs.Number.{octets-of-slice}
 use Rattle.octets_read.proofs.Leads.{control-none, octets-at}
-use Rattle.octets_read.proofs.Shortness.{short-none, tag-at, short-tag-at}
+use Rattle.octets_read.proofs.Shortness.{short-none, tag-at, short-tag-at, length-at, short-length-at}
 use borrow.Author.Needs.{needs}
 use Rattle.octets_read.proofs.control_at.Statement.{statement}
 use Rattle.octets_read.proofs.control_at.Tie as tie
@@ -24,18 +24,14 @@ returns c =
 shared-slice-read-c : tie.Need-shared-slice-read-c
 shared-slice-read-c c = search needs
 
-sub-if4 : tie.Need-sub-if4
-sub-if4 c = search needs
+sub-if2 : tie.Need-sub-if2
+sub-if2 c = search needs
 
 add-wide : tie.Need-add-wide
 add-wide c = search needs
 
 shared-slice-read-wide : tie.Need-shared-slice-read-wide
-shared-slice-read-wide c =
-    let a = c .before .before .before .before .before .before .before .args in
-    let h : 2 ≤ length (now (a .s)) - a .i = leb-true _ _ (c .before .if4 .taken) in
-    let k : a .i + 1 < length (now (a .s)) = omega arith in
-    k
+shared-slice-read-wide c = search needs
 
 wide-requires : tie.Need-wide-requires
 wide-requires c κs = search needs
@@ -43,18 +39,52 @@ wide-requires c κs = search needs
 wide-requires-2 : tie.Need-wide-requires-2
 wide-requires-2 c κs = search needs
 
+of-two-requires : tie.Need-of-two-requires
+of-two-requires c κs = search needs
+
 returns-2 : tie.Need-returns-2
 returns-2 c =
-    let k = c .before .before in
-    let h = k .before .before in
-    let b = h .before .before in
-    let a = b .before .before .before .args in
+    let w = c .before .before in
+    let then = w .before .before in
+    let two = then .before .before in
+    let a = two .before .before .before .before .args in
     let s = now (a .s) in
-    let high = ltb-true _ _ (h .if3 .taken) in
-    let inside = shared-slice-read-wide k in (
-      tag-at s (a .i) _ _ inside (h .before .if2 .taken) high (c .before .wide .ensures) (c .wide2 .ensures),
-      short-tag-at s (a .i) _ _ inside (h .before .if2 .taken) high (c .before .wide .ensures) (c .wide2 .ensures)
-          (octets-of-slice s (λ i. b .shared-slice-known2 .given i .fits)),
+    let high = ltb-true _ _ (then .if4 .taken) in
+    let inside : a .i + 1 < length s = omega (arith, two .if2 .taken) in
+    let low = then .before .if3 .taken in (
+      c .of-two .ensures .0 ∙ tag-at s (a .i) _ _ inside low high (w .wide .ensures) (c .before .wide2 .ensures),
+      c .of-two .ensures .1 ∙ short-tag-at s (a .i) _ _ inside low high (w .wide .ensures) (c .before .wide2 .ensures)
+          (octets-of-slice s (λ i. two .before .shared-slice-known2 .given i .fits)),
+    )
+
+add-wide-2 : tie.Need-add-wide-2
+add-wide-2 c = search needs
+
+shared-slice-read-wide-2 : tie.Need-shared-slice-read-wide-2
+shared-slice-read-wide-2 c = search needs
+
+wide-requires-3 : tie.Need-wide-requires-3
+wide-requires-3 c κs = search needs
+
+wide-requires-4 : tie.Need-wide-requires-4
+wide-requires-4 c κs = search needs
+
+of-two-requires-2 : tie.Need-of-two-requires-2
+of-two-requires-2 c κs = search needs
+
+returns-3 : tie.Need-returns-3
+returns-3 c =
+    let w = c .before .before in
+    let then = w .before .before in
+    let two = then .before .before .before in
+    let a = two .before .before .before .before .args in
+    let s = now (a .s) in
+    let twelve = eqb-true _ _ (then .if6 .taken) in
+    let inside : a .i + 1 < length s = omega (arith, two .if2 .taken) in
+    let high = then .before .if5 .taken in (
+      c .of-two2 .ensures .0 ∙ length-at s (a .i) _ _ inside high (w .wide3 .ensures) (c .before .wide4 .ensures) twelve,
+      c .of-two2 .ensures .1 ∙ short-length-at s (a .i) _ _ inside high (w .wide3 .ensures) (c .before .wide4 .ensures) twelve
+          (octets-of-slice s (λ i. two .before .shared-slice-known2 .given i .fits)),
     )
 
 add-control-after : tie.Need-add-control-after
@@ -72,8 +102,8 @@ part-control-after-end c = search needs
 control-after-requires : tie.Need-control-after-requires
 control-after-requires c κs = search needs
 
-returns-3 : tie.Need-returns-3
-returns-3 c =
+returns-4 : tie.Need-returns-4
+returns-4 c =
     let k = c .before .before .before .before in
     let a = k .before .before .args in
     let e = octets-at (now (a .s)) (a .i) (k .if1 .left) in
@@ -85,15 +115,22 @@ control-at-spec =
     (tie.spec
     returns
     shared-slice-read-c
-    sub-if4
+    sub-if2
     add-wide
     shared-slice-read-wide
     wide-requires
     wide-requires-2
+    of-two-requires
     returns-2
+    add-wide-2
+    shared-slice-read-wide-2
+    wide-requires-3
+    wide-requires-4
+    of-two-requires-2
+    returns-3
     add-control-after
     sub-control-after
     part-control-after-start
     part-control-after-end
     control-after-requires
-    returns-3)
+    returns-4)

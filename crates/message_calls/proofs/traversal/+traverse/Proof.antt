@@ -267,7 +267,7 @@ traverse-loop-holds t c =
     (start e (messageFrom e (a .levels - 1)) (a .n) (a .at) (now (a .s)), short-start e (messageFrom e (a .levels - 1)) (a .n) (a .at) (now (a .s)))
 
 traverse-small-code-requires : (t : ℕ) → traverse-lts.Need-small-code-requires (claims t) (traverse-at t) traverse.Post traverse-Inv-loop traverse-μ-loop
-traverse-small-code-requires t c κs = search needs
+traverse-small-code-requires t c κs = let r = room t c in omega arith
 
 traverse-quick-requires : (t : ℕ) → traverse-lts.Need-quick-requires (claims t) (traverse-at t) traverse.Post traverse-Inv-loop traverse-μ-loop
 traverse-quick-requires t c κs =

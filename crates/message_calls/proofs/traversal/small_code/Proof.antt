@@ -5,8 +5,8 @@ use mathlib.Core.Logic.{⊎-elim}
 use denote.Ref.{now}
 use lib.Bits.{bitAnd, mask-lt}
 use lib.ListN.{length, getD}
-use Prim.Native.Nat.{_-_}
-use borrow.Author.Tests.{leb-true, leb-false}
+use Prim.Native.Nat.{_+_}
+use borrow.Author.Tests.{leb-true, leb-false, ltb-true, ltb-false}
 use Rattle.table_index.specs.internal.Cells.{codeIn}
 use Rattle.message_field.proofs.Nexts.{none-past, none-by-tag, none-by-length, none-by-end, code-found}
 use borrow.Author.Needs.{needs}
@@ -24,8 +24,18 @@ shared-slice-read-c c = search needs
 cast-n : tie.Need-cast-n
 cast-n c = let a = c .before .before .before .args in let h = mask-lt (getD (now (a .s)) (a .i) 0) 4 in omega arith
 
-sub-if4 : tie.Need-sub-if4
-sub-if4 c = search needs
+-- The message is short enough that no sum overflows.
+add-if4 : tie.Need-add-if4
+add-if4 c = search needs
+
+add-if4-2 : tie.Need-add-if4-2
+add-if4-2 c =
+    let e = c .before .before .before in
+    let b = e .before .before in
+    let h = b .pre in
+    let k = e .if1 .left in
+    let m = mask-lt (getD (now (b .args .s)) (b .args .i) 0) 4 in
+    omega arith
 
 returns-2 : tie.Need-returns-2
 returns-2 c =
@@ -35,7 +45,7 @@ returns-2 c =
     let n = bitAnd (getD s (a .i) 0) 15 in
     ⊎-elim (λ w. none-by-tag (now (a .cells)) (a .number) s (a .i) h (w .taken))
     (⊎-elim (λ w. none-by-length (now (a .cells)) (a .number) s (a .i) h (w .0 .left) (leb-true 12 n (w .1 .taken)))
-    (λ w. none-by-end (now (a .cells)) (a .number) s (a .i) h (w .0 .left) (leb-false 12 n (w .1 .left)) (leb-true (length s - a .i) n (w .2 .taken))))
+    (λ w. none-by-end (now (a .cells)) (a .number) s (a .i) h (w .0 .left) (leb-false 12 n (w .1 .left)) (ltb-true (length s) (a .i + 1 + n) (w .2 .taken))))
     (c .if2 .came)
 
 cast-cell : tie.Need-cast-cell
@@ -55,7 +65,7 @@ returns-3 c =
     let s = now (a .s) in
     let n = bitAnd (getD s (a .i) 0) 15 in
     c .code .ensures ∙ ap codeIn (c .before .cell .ensures)
-    ∙ code-found (now (a .cells)) (a .number) s (a .i) (b .if1 .left) (k .before .before .if2 .left) (leb-false 12 n (k .before .if3 .left)) (leb-false (length s - a .i) n (k .if4 .left))
+    ∙ code-found (now (a .cells)) (a .number) s (a .i) (b .if1 .left) (k .before .before .if2 .left) (leb-false 12 n (k .before .if3 .left)) (ltb-false (length s) (a .i + 1 + n) (k .if4 .left))
 
 pub small-code-spec : {M : Type 1} → statement M
 small-code-spec =
@@ -64,7 +74,8 @@ small-code-spec =
     returns
     shared-slice-read-c
     cast-n
-    sub-if4
+    add-if4
+    add-if4-2
     returns-2
     cast-cell
     cell-requires
