@@ -89,8 +89,7 @@ static int record_good(const uint8_t *record)
     return record[7] <= (kind == MESSAGE ? 15 : 0);
 }
 
-/* Not inlined, so that its loop has the registers for itself. */
-__attribute__((noinline)) static uint64_t load(struct table *table, const uint8_t *octets, size_t len, uint64_t *place)
+static uint64_t load(struct table *table, const uint8_t *octets, size_t len, uint64_t *place)
 {
     table->count = 0;
     for (size_t at = 0; at < len; at += RECORD_SIZE) {
@@ -114,10 +113,8 @@ __attribute__((noinline)) static uint64_t load(struct table *table, const uint8_
 
 /* ---- reading one field ---- */
 
-/* Reads the field that starts at `at`, which is before the end. Looks at its control part and its length, not at its contents. Always
- * inlined: gcc would else call it for each field. */
-__attribute__((always_inline)) static inline uint64_t read_field(const struct table *table, unsigned number, const uint8_t *at,
-                                                                 const uint8_t *end, struct field *field)
+/* Reads the field that starts at `at`, which is before the end. Looks at its control part and its length, not at its contents. */
+static uint64_t read_field(const struct table *table, unsigned number, const uint8_t *at, const uint8_t *end, struct field *field)
 {
     size_t left = (size_t)(end - at);
     unsigned high = at[0] >> 4;
@@ -211,7 +208,9 @@ static inline int number_longer(const struct field *field)
     return field->length > 0 && field->contents[0] == 0;
 }
 
-static uint64_t check_message(struct walk *walk, unsigned number, const uint8_t *at, const uint8_t *end, unsigned depth)
+/* Not to be inlined into itself: gcc would make copies for the outer depths, and the check would take a sixth to a half longer. */
+__attribute__((noinline)) static uint64_t check_message(struct walk *walk, unsigned number, const uint8_t *at, const uint8_t *end,
+                                                        unsigned depth)
 {
     int longer = 0;
     if (depth > walk->depth)
