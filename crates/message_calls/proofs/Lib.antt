@@ -1,6 +1,6 @@
 pub mod CheckLoop
 pub mod ShortLoop
-pub mod PlainFields
+pub mod FirstOctets
 pub mod CheckAnswers
 pub mod AcceptedByCheck
 pub mod LookupLoop

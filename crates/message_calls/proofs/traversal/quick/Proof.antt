@@ -10,7 +10,7 @@ use borrow.Author.Tests.{eqb-false, not-true}
 use Rattle.octets.proofs.Number.{octets-of-slice}
 use Rattle.message_field.specs.internal.Nexts.{NoText}
 use Rattle.message_field.proofs.Nexts.{small-inside, text-passes}
-use Rattle.message_calls.proofs.PlainFields.{none-passes, first-passes}
+use Rattle.message_calls.proofs.FirstOctets.{none-passes, first-passes}
 use borrow.Author.Needs.{needs}
 use Rattle.message_calls.proofs.traversal.quick.Statement.{statement}
 use Rattle.message_calls.proofs.traversal.quick.Tie as tie

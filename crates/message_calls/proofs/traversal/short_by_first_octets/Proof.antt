@@ -8,7 +8,7 @@ use denote.Ref.{now}
 use lib.ListN.{length, getD}
 use borrow.Author.Tests.{eqb-true, eqb-false, ltb-true, leb-true, not-true}
 use Rattle.octets.proofs.Number.{octets-of-slice}
-use Rattle.message_calls.proofs.PlainFields.{no-number-passes, none-passes, uint-passes, int-passes}
+use Rattle.message_calls.proofs.FirstOctets.{no-number-passes, none-passes, uint-passes, int-passes}
 use borrow.Author.Needs.{needs}
 use Rattle.message_calls.proofs.traversal.short_by_first_octets.Statement.{statement}
 use Rattle.message_calls.proofs.traversal.short_by_first_octets.Tie as tie
