@@ -5,7 +5,7 @@ use Prim.Native.Nat.{ℕ}
 abbrev pub tooLong : ℕ
 tooLong = 1
 
--- A faulty field table, or a message number over the last.
+-- A faulty field table, a number that is no revision, or a message number over the last.
 abbrev pub table : ℕ
 table = 2
 
@@ -72,3 +72,7 @@ notInFractions = 17
 -- No such field.
 abbrev pub absent : ℕ
 absent = 18
+
+-- A field that repeats a single one.
+abbrev pub repeated : ℕ
+repeated = 20

@@ -13,7 +13,7 @@ pub const LAST_NUMBER: u64 = 15;
 // The refusals of document 01.
 // A message or a buffer over the length limit, or a frame that announces such a message.
 pub const TOO_LONG: u64 = 1;
-// A faulty field table, or a message number over the last.
+// A faulty field table, a number that is no revision, or a message number over the last.
 pub const TABLE: u64 = 2;
 // Octets that end inside a control part, header, name, size or hint.
 pub const CUT: u64 = 3;
@@ -47,6 +47,8 @@ pub const TYPE_SIZE_OR_HINT: u64 = 16;
 pub const NOT_IN_FRACTIONS: u64 = 17;
 // No such field.
 pub const ABSENT: u64 = 18;
+// A field that repeats a single one.
+pub const REPEATED: u64 = 20;
 
 // The verdict of a traversal of a message: the count of its fields and its depth, or a refusal and its place.
 pub enum Verdict {

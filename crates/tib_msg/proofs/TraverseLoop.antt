@@ -4,6 +4,7 @@ use native.Mathlib.Omega.{arith}
 use mathlib.Core.Path.{_≡_, refl, ap, _∙_}
 use mathlib.Core.List.{List, [], _∷_}
 use lib.ListN.{length, drop, length-append}
+use Rattle.reading.specs.Reading.{Reading}
 use Rattle.reading.specs.declared.Verdict.{Verdict}
 use Rattle.reading.specs.declared.Verdict.the-variants.{Accepted, Refused}
 use Rattle.reading.proofs.Traversal as traversal
@@ -26,34 +27,38 @@ step-inside s z e =
     let k : total (sizes (f .field)) ≡ total z = ap total (f .sized) in
     (omega arith, omega arith)
 
+-- The fields are read with no regard to those before them.
+abbrev from : Unit {0} → ℕ → ℕ → List ℕ → Reading (List Parts)
+from known = fieldsFrom
+
 module _ (s : List ℕ) where
   abbrev pub whole : Verdict
-  whole = traversal.whole length depth fieldsFrom 0 9 s
+  whole = traversal.whole length depth from tt 0 9 s
 
   -- After i octets, with f fields so far.
   abbrev pub State : ℕ → ℕ → Type 0
-  State i f = Traversal length depth fieldsFrom 0 9 s i f 1
+  State i f = Traversal length depth from tt 0 9 s tt i f 1
 
   pub start : 9 ≤ length s → State 9 0
   unfolding depth
-  start h = traversal.start length depth fieldsFrom 0 9 s (λ x. omega arith) h
+  start h = traversal.start length depth from tt 0 9 s (λ x. omega arith) h
 
   module _ (i f : ℕ) (now : State i f) where
     pub at-end : nextField (drop i s) ≡ Done → Accepted f 1 ≡ whole
     unfolding fieldsFrom afterStep depth
-    at-end e = traversal.at-end length depth fieldsFrom 0 9 s i f 1 now [] refl refl (rw e)
+    at-end e = traversal.at-end length depth from tt 0 9 s tt i f 1 now [] refl refl (rw e)
 
     pub at-fault : (k : ℕ) → nextField (drop i s) ≡ Fault k → Refused k i ≡ whole
     unfolding fieldsFrom afterStep
-    at-fault k e = traversal.at-fault length depth fieldsFrom 0 9 s i f 1 now k i (let p : 0 + i ≡ i = omega arith in rw (e, p))
+    at-fault k e = traversal.at-fault length depth from tt 0 9 s tt i f 1 now k i (let p : 0 + i ≡ i = omega arith in rw (e, p))
 
     module _ (z : Sizes) (j : ℕ) (e : nextField (drop i s) ≡ Over z) (place : j ≡ i + total z) where
       pub forward : (i < j) × (j ≤ length s)
-      forward = let h = step-inside (drop i s) z e in traversal.forward length depth fieldsFrom 0 9 s i f 1 now (total z) j (h .0) (h .1) place
+      forward = let h = step-inside (drop i s) z e in traversal.forward length depth from tt 0 9 s tt i f 1 now (total z) j (h .0) (h .1) place
 
       pub over-field : State j (f + 1)
       unfolding fieldsFrom afterStep depth
       over-field =
           let h = step-inside (drop i s) z e in
-          traversal.over length depth fieldsFrom 0 9 s i f 1 now (total z) j (h .0) (h .1) place (0 + i + total z) (omega arith)
+          traversal.over length depth from tt 0 9 s tt i f 1 now (total z) j (h .0) (h .1) place tt (0 + i + total z) (omega arith)
           (λ (fs : List Parts). partsAt (drop i s) z ∷ fs) (λ x. omega arith) (λ x. refl) (rw e)

@@ -51,27 +51,27 @@ lead-within z = (omega arith, omega arith)
 
 module _ (inner : Inner) (at : ℕ) (s : List ℕ) where
   abbrev pub whole : Verdict
-  whole = traversal.whole count depth (fieldsFrom inner) at 8 s
+  whole = traversal.whole count depth fieldsFrom inner at 8 s
 
   -- After i octets, with f fields so far of depth d.
   abbrev pub State : ℕ → ℕ → ℕ → Type 0
-  State = Traversal count depth (fieldsFrom inner) at 8 s
+  State = Traversal count depth fieldsFrom inner at 8 s inner
 
   pub start : 8 ≤ length s → State 8 0 1
-  start = traversal.start count depth (fieldsFrom inner) at 8 s depth-positive
+  start = traversal.start count depth fieldsFrom inner at 8 s depth-positive
 
   module _ (i f d : ℕ) (now : State i f d) where
     pub at-end : nextField (drop i s) ≡ Done → Accepted f d ≡ whole
     unfolding fieldsFrom afterStep count depth
-    at-end e = traversal.at-end count depth (fieldsFrom inner) at 8 s i f d now end refl refl (rw e)
+    at-end e = traversal.at-end count depth fieldsFrom inner at 8 s inner i f d now end refl refl (rw e)
 
     pub at-fault : (k : ℕ) → nextField (drop i s) ≡ Fault k → Refused k (at + i) ≡ whole
     unfolding fieldsFrom afterStep
-    at-fault k e = traversal.at-fault count depth (fieldsFrom inner) at 8 s i f d now k (at + i) (rw e)
+    at-fault k e = traversal.at-fault count depth fieldsFrom inner at 8 s inner i f d now k (at + i) (rw e)
 
     -- The end of a field lies within the octets, and beyond its start.
     fits : (z : Sizes) → (1 ≤ total z) × (total z ≤ length (drop i s)) → (i < i + total z) × (i + total z ≤ length s)
-    fits z h = traversal.forward count depth (fieldsFrom inner) at 8 s i f d now (total z) (i + total z) (h .0) (h .1) refl
+    fits z h = traversal.forward count depth fieldsFrom inner at 8 s inner i f d now (total z) (i + total z) (h .0) (h .1) refl
 
     pub over-fits : (z : Sizes) → nextField (drop i s) ≡ Over z → (i < i + total z) × (i + total z ≤ length s)
     over-fits z e = fits z (over-inside (drop i s) z e)
@@ -83,7 +83,7 @@ module _ (inner : Inner) (at : ℕ) (s : List ℕ) where
     unfolding fieldsFrom afterStep count depth
     over-leaf z j e place =
         let h = over-inside (drop i s) z e in
-        traversal.over count depth (fieldsFrom inner) at 8 s i f d now (total z) j (h .0) (h .1) place (at + i + total z) (omega arith)
+        traversal.over count depth fieldsFrom inner at 8 s inner i f d now (total z) j (h .0) (h .1) place inner (at + i + total z) (omega arith)
         (leaf (partsAt (drop i s) z)) (λ x. refl) (λ x. refl) (rw e)
 
     -- A field that holds a message. Its octets are those from a up to e.
@@ -102,13 +102,13 @@ module _ (inner : Inner) (at : ℕ) (s : List ℕ) where
           let l = lead-within z in
           let l₀ = l .0 in
           let l₁ = l .1 in
-          traversal.into count depth (fieldsFrom inner) at 8 s i f d now (total z) e (x .0) (x .1) q (at + i + total z) (omega arith)
+          traversal.into count depth fieldsFrom inner at 8 s inner i f d now (total z) e (x .0) (x .1) q inner (at + i + total z) (omega arith)
           (nestedOf (partsAt (drop i s) z)) (λ x y. refl) (λ x y. refl) message-held w g h m (rw k) inner-verdict v (omega arith) n
 
       pub refused-nested : (number place : ℕ) → w ≡ Refused number place → Refused number place ≡ whole
       unfolding fieldsFrom afterStep
       refused-nested number place v =
-          traversal.at-nested-fault count depth (fieldsFrom inner) at 8 s i f d now (nestedOf (partsAt (drop i s) z)) message-held
+          traversal.at-nested-fault count depth fieldsFrom inner at 8 s inner i f d now (nestedOf (partsAt (drop i s) z)) message-held
           (fieldsFrom inner (now .fuel - 1) (at + i + total z) (drop (total z) (drop i s))) w number place (rw k) inner-verdict v
 
 -- A message has no more fields than octets.
