@@ -1,8 +1,11 @@
 pub mod Lists
 pub mod Repeat
 pub mod Load
+pub mod WordRecords
 pub mod Valid
 pub mod LoadResults
 pub mod Records
 pub mod FaultyTables
 pub mod Schemas
+pub mod Masks
+pub mod Orders

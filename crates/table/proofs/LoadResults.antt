@@ -1,5 +1,5 @@
 -- The loader returns a valid table or the refusal `table`.
-use Prim.Native.Nat.{ℕ, zero, suc, _*_}
+use Prim.Native.Nat.{ℕ, zero, suc}
 use native.Mathlib.Omega.{arith}
 use mathlib.Core.Path.{_≡_, refl, sym, _∙_, subst}
 use mathlib.Core.Bool.{Bool, true, false, cond}
@@ -8,7 +8,7 @@ use lib.ListN.{length}
 use lib.Dec.{leb}
 use Rattle.octets.specs.Number.{Octets}
 use Rattle.reading.specs.Refusals as refusals
-use Rattle.table.specs.Load.{load, loadFrom, accepted, refused, faulty, wordsBefore, Loadable}
+use Rattle.table.specs.Load.{load, placeAt, loadFrom, accepted, refused, faulty, wordsBefore, Loadable}
 use Rattle.table.specs.Valid.{valid}
 use Rattle.table.specs.declared.Loaded.{Loaded}
 use Rattle.table.proofs.Valid.{loadable-valid}
@@ -21,10 +21,10 @@ module _ (P : Loaded → Type 0) (refuses : (place : ℕ) → P (refused place))
 
   from-each : (fuel i : ℕ) (s : List ℕ) → P (loadFrom fuel i s)
   unfolding loadFrom
-  from-each zero i s = refuses (8 * i)
+  from-each zero i s = refuses (placeAt s i)
   from-each (suc fuel) i s =
-      either (leb (length s) (8 * i)) (accepted (wordsBefore s i)) (cond (faulty s i) (refused (8 * i)) (loadFrom fuel (suc i) s)) (accepts (wordsBefore s i))
-      (either (faulty s i) (refused (8 * i)) (loadFrom fuel (suc i) s) (refuses (8 * i)) (from-each fuel (suc i) s))
+      either (leb (length s) (placeAt s i)) (accepted (wordsBefore s i)) (cond (faulty s i) (refused (placeAt s i)) (loadFrom fuel (suc i) s)) (accepts (wordsBefore s i))
+      (either (faulty s i) (refused (placeAt s i)) (loadFrom fuel (suc i) s) (refuses (placeAt s i)) (from-each fuel (suc i) s))
 
   load-each : (s : List ℕ) → P (load s)
   unfolding load

@@ -1,26 +1,24 @@
 -- The table values that `valid` accepts are those that the loader can return.
-use Prim.Native.Nat.{ℕ, zero, suc, _+_, _*_, _-_, _/_, _^_, _≤_, _<_}
+use Prim.Native.Nat.{ℕ, zero, suc, _+_, _-_, _≤_, _<_}
 use native.Mathlib.Omega.{arith}
-use mathlib.Core.Path.{_≡_, refl, sym, ap, subst, _∙_}
+use mathlib.Core.Path.{_≡_, refl, ap, subst, _∙_}
 use mathlib.Core.Logic.{_↔_}
 use mathlib.Core.Bool.{Bool, true, false, cond, not, _||_}
 use mathlib.Core.List.{List, [], _∷_, _++_}
 use lib.ListN.{length, take, drop, getD, replicate, take-append-drop, length-drop}
-use lib.Seq.{drop-append-add, take-at, drop-at, take-suc, take-length, length-take-le}
-use lib.Dec.{eqb, leb, ltb, lit<}
-use borrow.Author.Tests.{eqb-true, le-leb, leb-true, ltb-true, not-false}
-use Rattle.octets.specs.Number.{Octets, bigEndian, octetsOf}
-use Rattle.octets.proofs.Number.{octets-append, octets-octetsOf, number-octetsOf, length-octetsOf}
-use Rattle.table.specs.Entry.{Entry, entry}
-use Rattle.table.specs.Load.{inRange, recordAt, wordAt, wellFormed, wordsBefore, pair, seen, faulty, tableOf, accepted, refused, loadFrom, load, Loadable}
+use lib.Seq.{take-at, drop-at, length-take-le}
+use lib.Dec.{eqb, leb}
+use borrow.Author.Tests.{eqb-true, le-leb, leb-true, not-false}
+use Rattle.table.specs.Entry.{entry}
+use Rattle.table.specs.Load.{inRange, placeAt, recordAt, wordAt, wellFormed, wordsBefore, pair, seen, faulty, tableOf, accepted, refused, loadFrom, load, Loadable}
 use Rattle.table.specs.Repeat.{distinct}
 use Rattle.table.specs.Valid.{allInRange, allZero, valid}
-use Rattle.table.specs.Records.{recordFor, recordsFor}
 use Rattle.table.specs.declared.Table.{Table}
 use Rattle.table.specs.declared.Loaded.{Loaded}
 use Rattle.octets.proofs.Bools.{and-left, and-right, and-four, and-both, or-left, or-right}
 use Rattle.table.proofs.Repeat.{distinct-snoc}
-use Rattle.table.proofs.Load.{length-words, load-whole, wellFormed-range}
+use Rattle.table.proofs.Load.{length-words, wellFormed-range}
+use Rattle.table.proofs.WordRecords.{load-records, records-of}
 
 -- ---- a table that is loaded is valid
 
@@ -76,83 +74,28 @@ accepted-table ws t e = ap (λ (l : Loaded). l .table) e
 loaded-valid : (s : List ℕ) (t : Table) (fuel i : ℕ) → i + fuel ≤ 65 → allInRange (wordsBefore s i) ≡ true → distinct (wordsBefore s i) ≡ true
     → loadFrom fuel i s ≡ record { refusal = 0; place = 0; table = t } → valid t ≡ true
 unfolding loadFrom wordsBefore
-loaded-valid s t zero i few r d e = absurd (refused-not (8 * i) t e)
-loaded-valid s t (suc fuel) i few r d e = go (leb (length s) (8 * i)) (faulty s i) refl e (loaded-valid s t fuel (suc i) (omega arith))
+loaded-valid s t zero i few r d e = absurd (refused-not (placeAt s i) t e)
+loaded-valid s t (suc fuel) i few r d e = go (leb (length s) (placeAt s i)) (faulty s i) refl e (loaded-valid s t fuel (suc i) (omega arith))
   where
     go : (a b : Bool) → faulty s i ≡ b
-        → cond a (accepted (wordsBefore s i)) (cond b (refused (8 * i)) (loadFrom fuel (suc i) s)) ≡ record { refusal = 0; place = 0; table = t }
+        → cond a (accepted (wordsBefore s i)) (cond b (refused (placeAt s i)) (loadFrom fuel (suc i) s)) ≡ record { refusal = 0; place = 0; table = t }
         → (allInRange (wordsBefore s (suc i)) ≡ true → distinct (wordsBefore s (suc i)) ≡ true → loadFrom fuel (suc i) s ≡ record { refusal = 0; place = 0; table = t } → valid t ≡ true)
         → valid t ≡ true
     go true b p q on =
         let same : tableOf (wordsBefore s i) ≡ t = accepted-table (wordsBefore s i) t q in
         subst (λ (x : Table). valid x ≡ true) same (valid-table (wordsBefore s i) (omega (arith, length-words s i)) r d)
-    go false true p q on = absurd (refused-not (8 * i) t q)
+    go false true p q on = absurd (refused-not (placeAt s i) t q)
     go false false p q on =
         on (range-snoc (wordsBefore s i) (wordAt s i) r (wellFormed-range s i (wellFormed-of s i p)))
         (distinct-snoc (wordsBefore s i) (wordAt s i) d (unseen-of s i p)) q
 
--- ---- a table that is valid can be loaded, from the records of its words
-
-records-octets : (ws : List ℕ) → Octets (recordsFor ws)
-unfolding recordsFor recordFor Octets
-records-octets [] = tt
-records-octets (w ∷ ws) =
-    octets-append (recordFor w) (recordsFor ws) (lit< tt, (lit< tt, (lit< tt, octets-octetsOf 5 w))) (records-octets ws)
-
-pub records-length : (ws : List ℕ) → length (recordsFor ws) ≡ 8 * length ws
-unfolding recordsFor recordFor octetsOf
-records-length [] = refl
-records-length (w ∷ ws) = omega (arith, records-length ws)
-
-records-at : (ws : List ℕ) (i : ℕ) → i < length ws → recordAt (recordsFor ws) i ≡ recordFor (getD ws i 0)
-unfolding recordsFor recordFor octetsOf recordAt
-records-at [] i h = absurd (omega arith)
-records-at (w ∷ ws) zero h = refl
-records-at (w ∷ ws) (suc i) h =
-    let e : 8 * suc i ≡ 8 + 8 * i = omega arith in
-    rw (e, drop-append-add (recordFor w) (recordsFor ws) (8 * i)) (records-at ws i (omega arith))
+-- ---- a table that is valid can be loaded, from the records of its words with their marks
 
 pub range-at : (ws : List ℕ) (i : ℕ) → allInRange ws ≡ true → i < length ws → inRange (entry (getD ws i 0)) ≡ true
 unfolding allInRange
 range-at [] i e h = absurd (omega arith)
 range-at (w ∷ ws) zero e h = and-left (inRange (entry w)) (allInRange ws) e
 range-at (w ∷ ws) (suc i) e h = range-at ws i (and-right (inRange (entry w)) (allInRange ws) e) (omega arith)
-
--- The message number and the kind of an entry in range.
-pub numbers-small : (e : Entry) → inRange e ≡ true → e .number < 16 × 1 ≤ e .kind
-unfolding inRange
-numbers-small e h =
-    let p = and-four (ltb (e .number) 16) (leb 1 (e .kind)) (leb (e .kind) 5) (cond (eqb (e .kind) 5) (ltb (e .inner) 16) (eqb (e .inner) 0)) h in
-    (ltb-true (e .number) 16 (p .0), leb-true 1 (e .kind) (p .1))
-
--- A word whose entry is in range fits five octets.
-pub word-small : (w : ℕ) → inRange (entry w) ≡ true → w < 256 ^ 5
-unfolding inRange entry
-word-small w e =
-    let h : w / 4294967296 < 16 = numbers-small (entry w) e .0 in
-    omega arith
-
-pub for-wellFormed : (w : ℕ) → inRange (entry w) ≡ true → wellFormed (recordFor w) ≡ true
-unfolding wellFormed recordFor bigEndian
-for-wellFormed w e = rw (length-octetsOf 5 w, number-octetsOf 5 w (word-small w e)) e
-
-module _ (ws : List ℕ) (range : allInRange ws ≡ true) where
-  pub records-wellFormed : (i : ℕ) → i < length ws → wellFormed (recordAt (recordsFor ws) i) ≡ true
-  records-wellFormed i h = rw (records-at ws i h) (for-wellFormed (getD ws i 0) (range-at ws i range h))
-
-  records-word : (i : ℕ) → i < length ws → wordAt (recordsFor ws) i ≡ getD ws i 0
-  unfolding wordAt recordFor
-  records-word i h = rw (records-at ws i h) (number-octetsOf 5 (getD ws i 0) (word-small (getD ws i 0) (range-at ws i range h)))
-
-  pub records-words : (n : ℕ) → n ≤ length ws → wordsBefore (recordsFor ws) n ≡ take n ws
-  unfolding wordsBefore
-  records-words zero h = refl
-  records-words (suc n) h = rw (records-words n (omega arith), records-word n h) (sym (take-suc ws n 0 h))
-
-  pub load-records : length ws ≤ 64 → distinct ws ≡ true → load (recordsFor ws) ≡ accepted ws
-  load-records few d =
-      let all : wordsBefore (recordsFor ws) (length ws) ≡ ws = records-words (length ws) (omega arith) ∙ take-length ws in
-      load-whole (recordsFor ws) (length ws) few records-wellFormed (ap distinct all ∙ d) (omega (arith, records-length ws)) ∙ ap accepted all
 
 zeros-are : (l : List ℕ) → allZero l ≡ true → l ≡ replicate (length l) 0
 unfolding allZero
@@ -194,7 +137,8 @@ module _ (t : Table) where
       let rest-length : length rest ≡ 64 - n = rw (length-drop n (t .words), size) refl in
       let filled : used ++ replicate (64 - n) 0 ≡ t .words =
       rw (← rest-length, ← zeros-are rest (p .unused)) (take-append-drop n (t .words)) in
-      (recordsFor used, records-octets used, load-records used (p .range) (omega arith) (p .apart) ∙ rw (len, filled) refl)
+      let r = records-of used (p .range) in
+      (r .0, r .1, load-records (r .0) used (r .2) (omega arith) (p .range) (p .apart) ∙ rw (len, filled) refl)
 
   -- A table value is valid exactly if the loader can return it. Every table value of the code has 64 words, so that premise limits nothing.
   pub valid-exactly : length (t .words) ≡ 64 → (valid t ≡ true) ↔ Loadable t

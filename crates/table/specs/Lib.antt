@@ -1,4 +1,5 @@
 pub mod Entry
+pub mod Mask
 pub mod Schema
 pub mod Load
 pub mod Repeat
