@@ -1,23 +1,18 @@
 -- Laws of searching a chain cell by cell.
 use Prim.Native.Nat.{ℕ, zero, suc, _+_, _*_, _/_, _%_, _≤_, _<_, min}
 use native.Mathlib.Omega.{arith}
-use mathlib.Core.Path.{_≡_, refl, sym, _∙_}
+use mathlib.Core.Path.{_≡_, refl, sym, ap, _∙_}
 use mathlib.Core.Bool.{Bool, true, false, cond}
 use mathlib.Core.List.{List}
 use lib.ListN.{getD}
 use lib.Dec.{eqb, ltb}
 use borrow.Author.Tests.{ltb-true, ltb-false, lt-ltb, le-ltb, eq-eqb, ne-eqb}
-use Rattle.table_index.specs.internal.Cells.{keysFrom, nextIn, chase, search}
+use Rattle.table_index.specs.internal.Cells.{bucketOf, nextIn, chase, search}
 
--- ---- the first key of a number
-
-pub keys-small : (n : ℕ) → n < 16 → n * 65581 ≡ keysFrom n
-unfolding keysFrom
-keys-small n h = rw (lt-ltb n 16 h) refl
-
-pub keys-large : (n : ℕ) → 16 ≤ n → 2097152 ≡ keysFrom n
-unfolding keysFrom
-keys-large n h = rw (le-ltb n 16 h) refl
+-- There are 64 buckets.
+pub bucket-low : (key : ℕ) → bucketOf key < 64
+unfolding bucketOf
+bucket-low key = omega arith
 
 -- ---- a chain
 
@@ -36,18 +31,18 @@ module _ (cells : List ℕ) (key : ℕ) where
       go false = refl
 
   module _ (fuel c : ℕ) where
-    pub chase-here : c / 2048 ≡ key → chase (suc fuel) cells key c ≡ c
+    pub chase-here : c / 4096 ≡ key → chase (suc fuel) cells key c ≡ c
     unfolding chase
-    chase-here e = rw (eq-eqb (c / 2048) key e) refl
+    chase-here e = rw (eq-eqb (c / 4096) key e) refl
 
-    module _ (other : c / 2048 ≡ key → ⊥) where
+    module _ (other : c / 4096 ≡ key → ⊥) where
       pub chase-ends : c % 64 ≤ next c % 64 → chase (suc fuel) cells key c ≡ 0
       unfolding chase
-      chase-ends h = rw (ne-eqb (c / 2048) key other, le-ltb (next c % 64) (c % 64) h) refl
+      chase-ends h = rw (ne-eqb (c / 4096) key other, le-ltb (next c % 64) (c % 64) h) refl
 
       pub chase-on : next c % 64 < c % 64 → chase (suc fuel) cells key c ≡ chase fuel cells key (next c)
       unfolding chase
-      chase-on h = rw (ne-eqb (c / 2048) key other, lt-ltb (next c % 64) (c % 64) h) refl
+      chase-on h = rw (ne-eqb (c / 4096) key other, lt-ltb (next c % 64) (c % 64) h) refl
 
   -- More fuel changes nothing if the fuel exceeds the order of the first cell.
   pub chase-more : (fuel c : ℕ) → c % 64 < fuel → chase fuel cells key c ≡ chase (suc fuel) cells key c
@@ -56,12 +51,12 @@ module _ (cells : List ℕ) (key : ℕ) where
   chase-more (suc fuel) c h = go (ltb (next c % 64) (c % 64)) refl (chase-more fuel (next c))
     where
       go : (t : Bool) → ltb (next c % 64) (c % 64) ≡ t → (next c % 64 < fuel → chase fuel cells key (next c) ≡ chase (suc fuel) cells key (next c))
-          → cond (eqb (c / 2048) key) c (cond t (chase fuel cells key (next c)) 0) ≡ cond (eqb (c / 2048) key) c (cond t (chase (suc fuel) cells key (next c)) 0)
+          → cond (eqb (c / 4096) key) c (cond t (chase fuel cells key (next c)) 0) ≡ cond (eqb (c / 4096) key) c (cond t (chase (suc fuel) cells key (next c)) 0)
       go true e more = rw (more (omega (arith, ltb-true (next c % 64) (c % 64) e))) refl
       go false e more = refl
 
   -- From one cell to the next.
-  pub chase-next : (c : ℕ) → (c / 2048 ≡ key → ⊥) → chase 64 cells key c ≡ chase 64 cells key (nextIn cells c)
+  pub chase-next : (c : ℕ) → (c / 4096 ≡ key → ⊥) → chase 64 cells key c ≡ chase 64 cells key (nextIn cells c)
   unfolding nextIn
   chase-next c d = go (ltb (next c % 64) (c % 64)) refl
     where
@@ -69,10 +64,14 @@ module _ (cells : List ℕ) (key : ℕ) where
       go true e = rw (chase-on 63 c d (ltb-true (next c % 64) (c % 64) e)) (chase-more 63 (next c) (omega (arith, ltb-true (next c % 64) (c % 64) e)))
       go false e = chase-ends 63 c d (ltb-false (next c % 64) (c % 64) e) ∙ sym (chase-zero 64)
 
--- An empty bucket has no key.
-pub search-empty : (cells : List ℕ) (key : ℕ) → getD cells (key % 64) 0 ≡ 0 → search cells key ≡ 0
+-- A search follows the chain that begins with the head of the key's bucket,
+pub search-from : (cells : List ℕ) (key : ℕ) {first : ℕ} → first ≡ getD cells (bucketOf key) 0 → search cells key ≡ chase 64 cells key first
 unfolding search
-search-empty cells key e = rw e (chase-zero cells key 64)
+search-from cells key e = ap (chase 64 cells key) (sym e)
+
+-- and an empty bucket has no key.
+pub search-empty : (cells : List ℕ) (key : ℕ) → getD cells (bucketOf key) 0 ≡ 0 → search cells key ≡ 0
+search-empty cells key e = search-from cells key (sym e) ∙ chase-zero cells key 64
 
 -- ---- the next cell
 

@@ -1,5 +1,5 @@
 -- After inserting words, a search finds the cell of the last word with the key.
-use Prim.Native.Nat.{ℕ, zero, suc, _+_, _*_, _/_, _%_, _≤_, _<_}
+use Prim.Native.Nat.{ℕ, zero, suc, _+_, _/_, _%_, _≤_, _<_}
 use native.Mathlib.Omega.{arith}
 use mathlib.Core.Path.{_≡_, refl, sym, ap, subst, _∙_}
 use mathlib.Core.Bool.{Bool, true, false, cond}
@@ -8,8 +8,8 @@ use lib.ListN.{length, getD, set, replicate, length-set, length-replicate, getD-
 use lib.Seq.{getD-set-same, getD-set-other}
 use lib.Dec.{eqb, ltb}
 use borrow.Author.Tests.{eqb-true, eqb-false, ltb-true, ltb-false}
-use Rattle.table_index.specs.internal.Cells.{wordKey, cellOf, chase, search, insertable, linked, inserted, insertedBefore}
-use Rattle.table_index.proofs.Chains.{chase-zero, chase-here, chase-ends, chase-on, chase-more, search-empty}
+use Rattle.table_index.specs.internal.Cells.{wordKey, bucketOf, cellOf, chase, search, insertable, linked, inserted, insertedBefore}
+use Rattle.table_index.proofs.Chains.{bucket-low, chase-zero, chase-here, chase-ends, chase-on, chase-more, search-empty}
 use Rattle.table_index.proofs.Words.{Small, cell-key, cell-order}
 
 -- A cell is 0 or of an order below n.
@@ -41,7 +41,7 @@ module _ (cells : List ℕ) (n bucket old new : ℕ) (head : bucket < 64) where
       next = getD cells (64 + c % 64) 0
 
       by-order : (t : Bool) → ltb (next % 64) (c % 64) ≡ t → (Older n next → chase fuel After key next ≡ chase fuel cells key next) → c % 64 < n
-          → cond (eqb (c / 2048) key) c (cond t (chase fuel After key next) 0) ≡ cond (eqb (c / 2048) key) c (cond t (chase fuel cells key next) 0)
+          → cond (eqb (c / 4096) key) c (cond t (chase fuel After key next) 0) ≡ cond (eqb (c / 4096) key) c (cond t (chase fuel cells key next) 0)
       by-order true e rest h = rw (rest (λ d. omega (arith, ltb-true (next % 64) (c % 64) e))) refl
       by-order false e rest h = refl
 
@@ -54,7 +54,10 @@ module _ (cells : List ℕ) (n bucket old new : ℕ) (head : bucket < 64) where
 
 module _ (w n : ℕ) (s : Small w) (few : n < 64) (cells : List ℕ) (long : length cells ≡ 128) (low : (h : ℕ) → h < 64 → Older n (getD cells h 0)) where
   abbrev Bucket : ℕ
-  Bucket = wordKey w % 64
+  Bucket = bucketOf (wordKey w)
+
+  low-bucket : Bucket < 64
+  low-bucket = bucket-low (wordKey w)
 
   abbrev Old : ℕ
   Old = getD cells Bucket 0
@@ -62,25 +65,22 @@ module _ (w n : ℕ) (s : Small w) (few : n < 64) (cells : List ℕ) (long : len
   abbrev With : List ℕ
   With = set (set cells (64 + n) Old) Bucket (cellOf w n)
 
-  bucket-low : Bucket < 64
-  bucket-low = omega arith
-
   long-with : length With ≡ 128
   long-with = length-set (set cells (64 + n) Old) Bucket (cellOf w n) ∙ length-set cells (64 + n) Old ∙ long
 
   head-is : getD With Bucket 0 ≡ cellOf w n
-  head-is = getD-set-same (set cells (64 + n) Old) Bucket (cellOf w n) 0 (omega (arith, length-set cells (64 + n) Old, long, bucket-low))
+  head-is = getD-set-same (set cells (64 + n) Old) Bucket (cellOf w n) 0 (omega (arith, length-set cells (64 + n) Old, long, low-bucket))
 
   link-is : getD With (64 + n) 0 ≡ Old
   link-is =
-      getD-set-other (set cells (64 + n) Old) Bucket (64 + n) (cellOf w n) 0 (λ e. omega (arith, bucket-low, e)) ∙ getD-set-same cells (64 + n) Old 0 (omega (arith, long))
+      getD-set-other (set cells (64 + n) Old) Bucket (64 + n) (cellOf w n) 0 (λ e. omega (arith, low-bucket, e)) ∙ getD-set-same cells (64 + n) Old 0 (omega (arith, long))
 
   low-with : (h : ℕ) → h < 64 → Older (suc n) (getD With h 0)
   low-with h l = go (eqb h Bucket) refl
     where
       go : (t : Bool) → eqb h Bucket ≡ t → Older (suc n) (getD With h 0)
       go true e = rw (eqb-true h Bucket e, head-is) (λ d. omega (arith, cell-order w s n few))
-      go false e = rw (head-kept cells n Bucket Old (cellOf w n) bucket-low h l (eqb-false h Bucket e)) (λ d. omega (arith, low h l d))
+      go false e = rw (head-kept cells n Bucket Old (cellOf w n) low-bucket h l (eqb-false h Bucket e)) (λ d. omega (arith, low h l d))
 
   found-own : search With (wordKey w) ≡ cellOf w n
   unfolding search
@@ -90,7 +90,7 @@ module _ (w n : ℕ) (s : Small w) (few : n < 64) (cells : List ℕ) (long : len
   next-is = rw (cell-order w s n few) link-is
 
   module _ (key : ℕ) (other : wordKey w ≡ key → ⊥) where
-    not-here : cellOf w n / 2048 ≡ key → ⊥
+    not-here : cellOf w n / 4096 ≡ key → ⊥
     not-here e = other (sym (cell-key w s n few) ∙ e)
 
     -- Behind the new head comes the old one.
@@ -104,22 +104,22 @@ module _ (w n : ℕ) (s : Small w) (few : n < 64) (cells : List ℕ) (long : len
             ∙ chase-zero With key 63
         go false p = chase-ends With key 63 (cellOf w n) not-here (omega (arith, cell-order w s n few, ltb-false 0 n p))
     past-head false e =
-        let older = low Bucket bucket-low in
+        let older = low Bucket low-bucket in
         let h = older (eqb-false Old 0 e) in
         chase-on With key 63 (cellOf w n) not-here (omega (arith, next-is, h, cell-order w s n few))
         ∙ ap (chase 63 With key) next-is
-        ∙ chase-kept cells n Bucket Old (cellOf w n) bucket-low key 63 Old older
+        ∙ chase-kept cells n Bucket Old (cellOf w n) low-bucket key 63 Old older
         ∙ chase-more cells key 63 Old (omega (arith, h))
 
     found-other : search With key ≡ search cells key
     unfolding search
-    found-other = go (eqb (key % 64) Bucket) refl
+    found-other = go (eqb (bucketOf key) Bucket) refl
       where
-        go : (t : Bool) → eqb (key % 64) Bucket ≡ t → chase 64 With key (getD With (key % 64) 0) ≡ chase 64 cells key (getD cells (key % 64) 0)
-        go true e = rw (eqb-true (key % 64) Bucket e, head-is) (past-head (eqb Old 0) refl)
+        go : (t : Bool) → eqb (bucketOf key) Bucket ≡ t → chase 64 With key (getD With (bucketOf key) 0) ≡ chase 64 cells key (getD cells (bucketOf key) 0)
+        go true e = rw (eqb-true (bucketOf key) Bucket e, head-is) (past-head (eqb Old 0) refl)
         go false e =
-            rw (head-kept cells n Bucket Old (cellOf w n) bucket-low (key % 64) (omega arith) (eqb-false (key % 64) Bucket e))
-            (chase-kept cells n Bucket Old (cellOf w n) bucket-low key 64 (getD cells (key % 64) 0) (low (key % 64) (omega arith)))
+            rw (head-kept cells n Bucket Old (cellOf w n) low-bucket (bucketOf key) (bucket-low key) (eqb-false (bucketOf key) Bucket e))
+            (chase-kept cells n Bucket Old (cellOf w n) low-bucket key 64 (getD cells (bucketOf key) 0) (low (bucketOf key) (bucket-low key)))
 
 -- ---- all words
 
@@ -144,7 +144,7 @@ module _ (word : ℕ → ℕ) where
       record {
         long = length-replicate {A = ℕ} 128 0;
         low = λ h l d. absurd (d (getD-replicate 128 h 0 0 (omega arith)));
-        found = λ key. search-empty (replicate 128 0) key (getD-replicate 128 (key % 64) 0 0 (omega arith));
+        found = λ key. search-empty (replicate 128 0) key (getD-replicate 128 (bucketOf key) 0 0 (omega (arith, bucket-low key)));
       }
 
   searches-more : (k : ℕ) (cells : List ℕ) → k < 64 → Small (word k) → insertable (word k) cells ≡ true → Searches word k cells → Searches word (suc k) (inserted (word k) k cells)

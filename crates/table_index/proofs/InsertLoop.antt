@@ -1,21 +1,21 @@
 -- The loop invariant of inserting words one by one.
-use Prim.Native.Nat.{ℕ, suc, _+_, _*_, _-_, _/_, _≤_, _<_, min}
+use Prim.Native.Nat.{ℕ, suc, _+_, _*_, _-_, _/_, _^_, _≤_, _<_, min}
 use native.Mathlib.Numerals.{add-one}
 use native.Mathlib.Omega.{arith}
-use mathlib.Core.Path.{_≡_, refl, sym, ap, _∙_}
-use mathlib.Core.Bool.{Bool, true, false, and-false}
+use mathlib.Core.Path.{_≡_, refl, sym, ap, _∙_, subst}
+use mathlib.Core.Bool.{Bool, true, false, cond, and-false}
 use mathlib.Core.List.{List}
-use lib.ListN.{length, take, drop, getD}
-use lib.Dec.{eqb, ltb}
-use borrow.Author.Tests.{eq-eqb, ne-eqb, ltb-true, ltb-false}
+use lib.ListN.{length, drop, getD}
+use lib.Dec.{eqb}
+use borrow.Author.Tests.{eq-eqb, ne-eqb}
 use Rattle.table.specs.Entry.{entry}
-use Rattle.table.specs.Load.{inRange, recordAt, wordAt, wellFormed}
-use Rattle.table.proofs.Load.{wellFormed-range}
-use Rattle.table_index.specs.internal.Record.{recordOf}
+use Rattle.table.specs.Load.{inRange, placeAt, recordAt, wordAt, wellFormed}
+use Rattle.table_index.specs.internal.Pass.{InsertLoop, InsertedRecords, IndexEnds}
+use Rattle.table_index.specs.internal.Record.{recordOf, Unmarked}
 use Rattle.table_index.specs.declared.record.Record.the-variants.{Word, Wrong}
-use Rattle.table_index.proofs.RecordLaws.{place-is, recordOf-word, recordOf-wrong, record-cut}
+use Rattle.table_index.proofs.RecordLaws.{record-wrong, record-formed, record-word, record-next, record-within}
 use Rattle.table_index.proofs.Chains.{chase-zero, chase-here}
-use Rattle.table_index.specs.internal.Cells.{wordKey, chase, search, insertable, linked, inserted, insertedBefore, insertableAt, prefixEnd, prefixLength, insertedWords}
+use Rattle.table_index.specs.internal.Cells.{wordKey, wordUnder, chase, search, insertable, linked, inserted, insertedBefore, insertableAt, prefixEnd, prefixLength, insertedWords}
 
 -- ---- one word
 
@@ -38,7 +38,7 @@ module _ (w i : ℕ) (cells : List ℕ) {key : ℕ} {lacked : Bool} (known : key
 
 -- Whether a word is insertable, by the last cell of its chain that was compared.
 module _ (w i : ℕ) (cells : List ℕ) {key : ℕ} (known : key ≡ wordKey w) (c : ℕ) (remaining : search cells key ≡ chase 64 cells key c) where
-  pub chain-repeated : (c ≡ 0 → ⊥) → c / 2048 ≡ key → (false ≡ insertable w cells) × (cells ≡ inserted w i cells)
+  pub chain-repeated : (c ≡ 0 → ⊥) → c / 4096 ≡ key → (false ≡ insertable w cells) × (cells ≡ inserted w i cells)
   chain-repeated d h = insert-repeated w i cells known (sym (ne-eqb (search cells key) 0 (λ z. d (sym (remaining ∙ chase-here cells key 63 c h) ∙ z)))) refl
 
   pub chain-new : {after : List ℕ} → c ≡ 0 → after ≡ linked w i cells → (true ≡ insertable w cells) × (after ≡ inserted w i cells)
@@ -46,12 +46,6 @@ module _ (w i : ℕ) (cells : List ℕ) {key : ℕ} (known : key ≡ wordKey w) 
       insert-new w i cells known (sym (eq-eqb (search cells key) 0 (remaining ∙ rw z (chase-zero cells key 64)))) refl f
 
 -- ---- word after word
-
--- The loop invariant: the cells after the first n words, and the end of the accepted prefix of `most` words.
-pub record InsertLoop (good : ℕ → Bool) (word : ℕ → ℕ) (cells₀ : List ℕ) (most n : ℕ) (cells : List ℕ) : Type 0 where
-  pub few : n ≤ most
-  pub rest : prefixEnd good word cells₀ 0 most ≡ prefixEnd good word cells₀ n (most - n)
-  pub so-far : cells ≡ insertedBefore word cells₀ n
 
 module _ (good : ℕ → Bool) (word : ℕ → ℕ) (cells₀ : List ℕ) (most : ℕ) where
   pub insert-loop-starts : InsertLoop good word cells₀ most 0 cells₀
@@ -105,26 +99,27 @@ module _ (good : ℕ → Bool) (word : ℕ → ℕ) (cells₀ : List ℕ) (most 
 
 -- ---- the words of a list
 
--- The same for the words of a list, of which at most 64 are inserted.
-abbrev pub InsertWordsLoop : List ℕ → List ℕ → ℕ → List ℕ → Type 0
-InsertWordsLoop ws cells₀ n cells = InsertLoop (λ i. inRange (entry (getD ws i 0))) (λ i. getD ws i 0) cells₀ (min 64 (length ws)) n cells
+-- The same for the words of a list under a revision, of which at most 64 are inserted.
+abbrev pub InsertWordsLoop : ℕ → List ℕ → List ℕ → ℕ → List ℕ → Type 0
+InsertWordsLoop revision ws cells₀ n cells =
+    InsertLoop (λ i. inRange (entry (getD ws i 0))) (λ i. wordUnder revision (getD ws i 0)) cells₀ (min 64 (length ws)) n cells
 
-module _ (ws cells₀ : List ℕ) where
+module _ (revision : ℕ) (ws cells₀ : List ℕ) where
   abbrev good : ℕ → Bool
   good i = inRange (entry (getD ws i 0))
 
   abbrev word : ℕ → ℕ
-  word i = getD ws i 0
+  word i = wordUnder revision (getD ws i 0)
 
   abbrev most : ℕ
   most = min 64 (length ws)
 
-  pub words-start : InsertWordsLoop ws cells₀ 0 cells₀
+  pub words-start : InsertWordsLoop revision ws cells₀ 0 cells₀
   words-start = insert-loop-starts good word cells₀ most
 
-  module _ (n : ℕ) (cells : List ℕ) (k : InsertWordsLoop ws cells₀ n cells) where
+  module _ (n : ℕ) (cells : List ℕ) (k : InsertWordsLoop revision ws cells₀ n cells) where
     abbrev Done : List ℕ → Type 0
-    Done after = (n ≡ prefixLength ws cells₀) × (after ≡ insertedWords ws cells₀)
+    Done after = (n ≡ prefixLength revision ws cells₀) × (after ≡ insertedWords revision ws cells₀)
 
     done : {after : List ℕ} → (n ≡ prefixEnd good word cells₀ 0 most) × (after ≡ insertedBefore word cells₀ n) → Done after
     unfolding prefixLength insertedWords
@@ -137,46 +132,80 @@ module _ (ws cells₀ : List ℕ) where
       pub words-bad : good n ≡ false → Done cells
       words-bad e = done (insert-loop-bad good word cells₀ most n cells k before e)
 
-      module _ {key : ℕ} (known : key ≡ wordKey (word n)) (c : ℕ) (remaining : search cells key ≡ chase 64 cells key c) where
-        pub words-repeated : (c ≡ 0 → ⊥) → c / 2048 ≡ key → Done cells
+      module _ {w key : ℕ} (under : w ≡ word n) (known : key ≡ wordKey w) (c : ℕ) (remaining : search cells key ≡ chase 64 cells key c) where
+        pub words-repeated : (c ≡ 0 → ⊥) → c / 4096 ≡ key → Done cells
         words-repeated d h =
-            let e = chain-repeated (word n) n cells known c remaining d h in
-            done (insert-loop-repeated good word cells₀ most n cells k before (word n) cells false refl (e .0) (e .1) refl)
+            let e = chain-repeated w n cells known c remaining d h in
+            done (insert-loop-repeated good word cells₀ most n cells k before w cells false under (e .0) (e .1) refl)
 
-        pub words-continue : {after : List ℕ} → good n ≡ true → c ≡ 0 → after ≡ linked (word n) n cells → InsertWordsLoop ws cells₀ (n + 1) after
+        pub words-continue : {after : List ℕ} → good n ≡ true → c ≡ 0 → after ≡ linked w n cells → InsertWordsLoop revision ws cells₀ (n + 1) after
         words-continue {after} g z f =
-            let e = chain-new (word n) n cells known c remaining z f in
-            insert-loop-continues good word cells₀ most n cells k before (word n) after true refl (e .0) (e .1) g refl
-
--- ---- a record as a word
-
-module _ (s : List ℕ) (n : ℕ) where
-  pub record-wrong : Wrong ≡ recordOf (take 8 (drop (n * 8) s)) → wellFormed (recordAt s n) ≡ false
-  record-wrong e = rw (← place-is s n) (recordOf-wrong (take 8 (drop (n * 8) s)) e)
-
-  module _ (w : ℕ) (e : Word w ≡ recordOf (take 8 (drop (n * 8) s))) where
-    formed : (wellFormed (recordAt s n) ≡ true) × (w ≡ wordAt s n)
-    unfolding wordAt
-    formed = recordOf-word (recordAt s n) w (rw (← place-is s n) e)
-
-    pub record-formed : wellFormed (recordAt s n) ≡ true
-    record-formed = formed .0
-
-    pub record-word : w ≡ wordAt s n
-    record-word = formed .1
-
-    pub record-range : inRange (entry w) ≡ true
-    record-range = rw record-word (wellFormed-range s n record-formed)
+            let e = chain-new w n cells known c remaining z f in
+            insert-loop-continues good word cells₀ most n cells k before w after true under (e .0) (e .1) g refl
 
 -- ---- the records of octets
 
--- All whole records were inserted, or the first 64.
-pub octets-end : (s cells₀ : List ℕ) (n : ℕ) (cells : List ℕ) → InsertLoop (λ i. wellFormed (recordAt s i)) (wordAt s) cells₀ 64 n cells → min 64 (length s / 8) ≤ n
-    → (n ≡ prefixEnd (λ i. wellFormed (recordAt s i)) (wordAt s) cells₀ 0 64) × (cells ≡ insertedBefore (wordAt s) cells₀ n)
-octets-end s cells₀ n cells k h = go (ltb n 64) refl
-  where
-    go : (t : Bool) → ltb n 64 ≡ t → (n ≡ prefixEnd (λ i. wellFormed (recordAt s i)) (wordAt s) cells₀ 0 64) × (cells ≡ insertedBefore (wordAt s) cells₀ n)
-    go true e =
-        let l = ltb-true n 64 e in
-        insert-loop-bad (λ i. wellFormed (recordAt s i)) (wordAt s) cells₀ 64 n cells k l (record-cut s n (omega arith))
-    go false e = insert-loop-ends (λ i. wellFormed (recordAt s i)) (wordAt s) cells₀ 64 n cells k (ltb-false n 64 e)
+module _ (revision : ℕ) (s cells₀ : List ℕ) where
+  abbrev formed : ℕ → Bool
+  formed i = wellFormed (recordAt s i)
+
+  abbrev record-under : ℕ → ℕ
+  record-under i = wordUnder revision (wordAt s i)
+
+  pub octets-start : InsertedRecords revision s cells₀ 0 0 cells₀
+  unfolding placeAt
+  octets-start = record { loop = insert-loop-starts formed record-under cells₀ 64; place = refl; within = omega arith }
+
+  module _ (n at : ℕ) (cells : List ℕ) (k : InsertedRecords revision s cells₀ n at cells) where
+    abbrev Read : List ℕ → Type 0
+    Read after = IndexEnds revision s cells₀ at after
+
+    read : {after : List ℕ} → (n ≡ prefixEnd formed record-under cells₀ 0 64) × (after ≡ insertedBefore record-under cells₀ n) → Read after
+    unfolding IndexEnds
+    read e = (k .place ∙ ap (placeAt s) (e .0), e .1 ∙ ap (insertedBefore record-under cells₀) (e .0))
+
+    pub octets-end : 64 ≤ n → Read cells
+    octets-end h = read (insert-loop-ends formed record-under cells₀ 64 n cells (k .loop) h)
+
+    module _ (before : n < 64) where
+      pub octets-bad : Wrong ≡ recordOf (drop at s) → Read cells
+      octets-bad e = read (insert-loop-bad formed record-under cells₀ 64 n cells (k .loop) before (record-wrong s n at (k .place) e))
+
+      module _ {x size w : ℕ} {after : List ℕ} {result : Bool} (e : Word x size ≡ recordOf (drop at s)) (under : w ≡ wordUnder revision x)
+          (tested : result ≡ insertable w cells) (stored : after ≡ inserted w n cells) where
+        here : w ≡ record-under n
+        here = under ∙ ap (wordUnder revision) (record-word s n at (k .place) x size e)
+
+        pub octets-repeated : result ≡ false → Read after
+        octets-repeated h = read (insert-loop-repeated formed record-under cells₀ 64 n cells (k .loop) before w after result here tested stored h)
+
+        pub octets-continue : result ≡ true → InsertedRecords revision s cells₀ (n + 1) (at + size) after
+        octets-continue h =
+            record {
+              loop = insert-loop-continues formed record-under cells₀ 64 n cells (k .loop) before w after result here tested stored (record-formed s n at (k .place) x size e) h;
+              place = rw (add-one n) (record-next s n at (k .place) x size e);
+              within = record-within s n at (k .place) x size e;
+            }
+
+      -- A record without a mark, whose word is the same under every revision.
+      module _ {x size : ℕ} {after : List ℕ} {result : Bool} (plain : Unmarked x size) (e : Word x size ≡ recordOf (drop at s))
+          (tested : result ≡ insertable x cells) (stored : after ≡ inserted x n cells) where
+        unmarked-under : x ≡ wordUnder revision x
+        unfolding wordUnder
+        unmarked-under = go (eqb revision 2)
+          where
+            go : (t : Bool) → x ≡ cond t x (x / 2 ^ 8 * 2 ^ 8)
+            go true = refl
+            go false = omega (arith, plain .mark)
+
+        -- It is not inserted: nothing changes.
+        pub unmarked-stays : result ≡ false → InsertedRecords revision s cells₀ n at after
+        unfolding inserted
+        unmarked-stays h =
+            let g : insertable x cells ≡ false = sym tested ∙ h in
+            subst (InsertedRecords revision s cells₀ n at) (sym (stored ∙ rw g refl)) k
+
+        pub unmarked-continue : (next : ℕ) → next ≡ at + 8 → result ≡ true → InsertedRecords revision s cells₀ (n + 1) next after
+        unmarked-continue next place h =
+            subst (λ (z : ℕ). InsertedRecords revision s cells₀ (n + 1) z after) (ap (λ (z : ℕ). at + z) (plain .short) ∙ sym place)
+            (octets-continue e unmarked-under tested stored h)

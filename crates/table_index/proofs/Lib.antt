@@ -7,5 +7,6 @@ pub mod Zeros
 pub mod InsertLoop
 pub mod Found
 pub mod AcceptedPrefix
+pub mod Revisions
 pub mod IndexLaws
 pub mod LoadLaws

@@ -1,25 +1,25 @@
 -- The key and the cell of a word whose entry is in range.
-use Prim.Native.Nat.{ℕ, _+_, _*_, _-_, _/_, _%_, _≤_, _<_}
+use Prim.Native.Nat.{ℕ, _+_, _*_, _-_, _/_, _%_, _≤_, _<_, min}
 use native.Mathlib.Omega.{arith}
-use mathlib.Core.Path.{_≡_, refl, sym}
+use mathlib.Core.Path.{_≡_, refl}
 use mathlib.Core.Bool.{Bool, true, false, cond, _&&_}
 use lib.Dec.{eqb, leb, ltb}
-use borrow.Author.Tests.{eqb-true, eqb-false, eq-eqb, ne-eqb, leb-true, ltb-true, ltb-false}
+use borrow.Author.Tests.{eqb-true, eqb-false, eq-eqb, ne-eqb, leb-true, ltb-true}
 use Rattle.table.specs.Entry.{entry, meaning}
 use Rattle.table.specs.Load.{inRange, pair}
 use Rattle.table.specs.declared.Meaning.{Meaning}
 use Rattle.table.specs.declared.Meaning.the-variants.{Raw, Uint, Int, String, Text, Message}
-use Rattle.octets.proofs.Bools.{and-four}
-use Rattle.table_index.specs.internal.Cells.{keysFrom, keyOf, wordKey, cellOf, codeIn, meaningOf, meaningIn}
-use Rattle.table_index.proofs.Chains.{keys-small, keys-large}
+use Rattle.octets.proofs.Bools.{and-left, and-right, and-four}
+use Rattle.table_index.specs.internal.Cells.{keyOf, wordKey, cellOf, codeIn, meaningOf, meaningIn, singleIn}
 
 -- The numbers in a word whose entry is in range.
 pub record Small (w : ℕ) : Type 0 where
-  pub number : w / 4294967296 < 16
-  pub some : 1 ≤ w / 256 % 256
-  pub kinds : w / 256 % 256 ≤ 5
-  pub inner : w % 256 < 16
-  pub only : (w / 256 % 256 ≡ 5 → ⊥) → w % 256 ≡ 0
+  pub number : w / 1099511627776 < 16
+  pub some : 1 ≤ w / 65536 % 256
+  pub kinds : w / 65536 % 256 ≤ 5
+  pub inner : w / 256 % 256 < 16
+  pub only : (w / 65536 % 256 ≡ 5 → ⊥) → w / 256 % 256 ≡ 0
+  pub mark : w % 256 < 2
 
 inner-small : (k i : ℕ) → cond (eqb k 5) (ltb i 16) (eqb i 0) ≡ true → (i < 16) × ((k ≡ 5 → ⊥) → i ≡ 0)
 inner-small k i h = go (eqb k 5) refl h
@@ -31,12 +31,20 @@ inner-small k i h = go (eqb k 5) refl h
 pub small : (w : ℕ) → inRange (entry w) ≡ true → Small w
 unfolding inRange entry
 small w h =
-    let n = w / 4294967296 in
-    let k = w / 256 % 256 in
-    let i = w % 256 in
-    let p = and-four (ltb n 16) (leb 1 k) (leb k 5) (cond (eqb k 5) (ltb i 16) (eqb i 0)) h in
+    let n = w / 1099511627776 in
+    let k = w / 65536 % 256 in
+    let i = w / 256 % 256 in
+    let unmarked = ltb n 16 && leb 1 k && leb k 5 && cond (eqb k 5) (ltb i 16) (eqb i 0) in
+    let p = and-four (ltb n 16) (leb 1 k) (leb k 5) (cond (eqb k 5) (ltb i 16) (eqb i 0)) (and-left unmarked (ltb (w % 256) 2) h) in
     let q = inner-small k i (p .3) in
-    record { number = ltb-true n 16 (p .0); some = leb-true 1 k (p .1); kinds = leb-true k 5 (p .2); inner = q .0; only = q .1 }
+    record {
+      number = ltb-true n 16 (p .0);
+      some = leb-true 1 k (p .1);
+      kinds = leb-true k 5 (p .2);
+      inner = q .0;
+      only = q .1;
+      mark = ltb-true (w % 256) 2 (and-right unmarked (ltb (w % 256) 2) h);
+    }
 
 -- ---- the cell
 
@@ -71,9 +79,9 @@ coded-message i =
     refl
 
 module _ (w : ℕ) (s : Small w) (i : ℕ) (low : i < 64) where
-  pub cell-key : cellOf w i / 2048 ≡ wordKey w
+  pub cell-key : cellOf w i / 4096 ≡ wordKey w
   unfolding cellOf entry
-  cell-key = omega (arith, s .kinds, s .inner)
+  cell-key = omega (arith, s .kinds, s .inner, s .mark)
 
   pub cell-order : cellOf w i % 64 ≡ i
   unfolding cellOf
@@ -86,54 +94,47 @@ module _ (w : ℕ) (s : Small w) (i : ℕ) (low : i < 64) where
   pub cell-means : meaningIn (cellOf w i) ≡ meaning (entry w)
   unfolding meaningIn codeIn meaning cellOf entry
   cell-means =
-      let c : ((wordKey w * 32 + (w / 256 % 256 + w % 256)) * 64 + i) / 64 % 32 ≡ w / 256 % 256 + w % 256 = omega (arith, s .kinds, s .inner) in
-      rw c (go (eqb (w / 256 % 256) 5) refl)
+      let c : (((wordKey w * 2 + w % 256) * 32 + (w / 65536 % 256 + w / 256 % 256)) * 64 + i) / 64 % 32 ≡ w / 65536 % 256 + w / 256 % 256 = omega (arith, s .kinds, s .inner) in
+      rw c (go (eqb (w / 65536 % 256) 5) refl)
     where
-      go : (t : Bool) → eqb (w / 256 % 256) 5 ≡ t → meaningOf (w / 256 % 256 + w % 256) ≡ kinded (w / 256 % 256) (w % 256)
-      go true e = rw (eqb-true (w / 256 % 256) 5 e) (coded-message (w % 256))
+      go : (t : Bool) → eqb (w / 65536 % 256) 5 ≡ t → meaningOf (w / 65536 % 256 + w / 256 % 256) ≡ kinded (w / 65536 % 256) (w / 256 % 256)
+      go true e = rw (eqb-true (w / 65536 % 256) 5 e) (coded-message (w / 256 % 256))
       go false e =
-          let d = eqb-false (w / 256 % 256) 5 e in
-          let z : w / 256 % 256 + w % 256 ≡ w / 256 % 256 = omega (arith, s .only d) in
-          rw z (coded-plain (w / 256 % 256) (w % 256) (s .some) (omega (arith, s .kinds, d)))
+          let d = eqb-false (w / 65536 % 256) 5 e in
+          let z : w / 65536 % 256 + w / 256 % 256 ≡ w / 65536 % 256 = omega (arith, s .only d) in
+          rw z (coded-plain (w / 65536 % 256) (w / 256 % 256) (s .some) (omega (arith, s .kinds, d)))
+
+  pub cell-single : singleIn (cellOf w i) ≡ eqb (entry w .mark) 1
+  unfolding singleIn cellOf entry
+  cell-single =
+      let c : (((wordKey w * 2 + w % 256) * 32 + (w / 65536 % 256 + w / 256 % 256)) * 64 + i) / 2048 ≡ wordKey w * 2 + w % 256 = omega (arith, s .kinds, s .inner) in
+      let m : (wordKey w * 2 + w % 256) % 2 ≡ w % 256 = omega (arith, s .mark) in
+      rw (c, m) refl
 
 -- ---- the key
 
-pub key-is : (w : ℕ) → Small w → wordKey w ≡ w / 4294967296 * 65581 + w / 65536 % 65536
-unfolding wordKey keyOf entry
-key-is w s = rw (← keys-small (w / 4294967296) (s .number)) refl
+-- The key is the pair.
+pub key-is : (w : ℕ) → Small w → wordKey w ≡ pair w
+unfolding wordKey keyOf entry pair
+key-is w s = omega (arith, s .number)
 
 module _ (w : ℕ) (s : Small w) where
-  pub key-low : wordKey w < 2097152
+  pub key-low : wordKey w < 1048576
+  unfolding pair
   key-low = omega (arith, key-is w s, s .number)
 
-  key-other : (n t : ℕ) → t < 65536 → ((w / 4294967296 ≡ n) × (w / 65536 % 65536 ≡ t) → ⊥) → eqb (wordKey w) (keyOf n t) ≡ false
-  unfolding keyOf
-  key-other n t h d = ne-eqb (wordKey w) (keysFrom n + t) (λ e. go (ltb n 16) refl e)
-    where
-      go : (b : Bool) → ltb n 16 ≡ b → wordKey w ≡ keysFrom n + t → ⊥
-      go true p e =
-          let k = keys-small n (ltb-true n 16 p) in
-          d (omega (arith, key-is w s, k, e), omega (arith, key-is w s, k, e))
-      go false p e = omega (arith, key-low, keys-large n (ltb-false n 16 p), e)
+  key-other : (n t : ℕ) → t < 65536 → ((w / 1099511627776 ≡ n) × (w / 16777216 % 65536 ≡ t) → ⊥) → eqb (wordKey w) (keyOf n t) ≡ false
+  unfolding keyOf pair
+  key-other n t h d =
+      ne-eqb (wordKey w) (min n 16 * 65536 + t) (λ e. d (omega (arith, key-is w s, s .number), omega (arith, key-is w s)))
 
   -- A word has the key of a number and a tag exactly if its entry is for them.
   pub key-fits : (n t : ℕ) → t < 65536 → eqb (wordKey w) (keyOf n t) ≡ eqb (entry w .number) n && eqb (entry w .tag) t
   unfolding entry wordKey
-  key-fits n t h = go (eqb (w / 4294967296) n) refl (eqb (w / 65536 % 65536) t) refl
+  key-fits n t h = go (eqb (w / 1099511627776) n) refl (eqb (w / 16777216 % 65536) t) refl
     where
-      go : (a : Bool) → eqb (w / 4294967296) n ≡ a → (b : Bool) → eqb (w / 65536 % 65536) t ≡ b → eqb (wordKey w) (keyOf n t) ≡ a && b
+      go : (a : Bool) → eqb (w / 1099511627776) n ≡ a → (b : Bool) → eqb (w / 16777216 % 65536) t ≡ b → eqb (wordKey w) (keyOf n t) ≡ a && b
       go true p true q =
-          rw (eqb-true (w / 4294967296) n p, eqb-true (w / 65536 % 65536) t q) (eq-eqb (keyOf n t) (keyOf n t) refl)
-      go true p false q = key-other n t h (λ e. eqb-false (w / 65536 % 65536) t q (e .1))
-      go false p b q = key-other n t h (λ e. eqb-false (w / 4294967296) n p (e .0))
-
-  -- Two words have the same key exactly if they have the same pair.
-  pub key-pair : (x : ℕ) → Small x → eqb (wordKey x) (wordKey w) ≡ eqb (pair x) (pair w)
-  unfolding pair
-  key-pair x r = go (eqb (wordKey x) (wordKey w)) refl
-    where
-      go : (a : Bool) → eqb (wordKey x) (wordKey w) ≡ a → a ≡ eqb (x / 65536) (w / 65536)
-      go true e =
-          let q : wordKey x ≡ wordKey w = eqb-true (wordKey x) (wordKey w) e in
-          sym (eq-eqb (x / 65536) (w / 65536) (omega (arith, q, key-is x r, key-is w s)))
-      go false e = sym (ne-eqb (x / 65536) (w / 65536) (λ q. eqb-false (wordKey x) (wordKey w) e (omega (arith, q, key-is x r, key-is w s))))
+          rw (eqb-true (w / 1099511627776) n p, eqb-true (w / 16777216 % 65536) t q) (eq-eqb (keyOf n t) (keyOf n t) refl)
+      go true p false q = key-other n t h (λ e. eqb-false (w / 16777216 % 65536) t q (e .1))
+      go false p b q = key-other n t h (λ e. eqb-false (w / 1099511627776) n p (e .0))

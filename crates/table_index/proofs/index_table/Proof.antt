@@ -14,7 +14,7 @@ returns c =
     let a = c .before .before .before .before .args in
     let size : length (a .words .now) ≡ 64 = search needs in
     let k = c .before .index-words in
-    (table-incomplete (a .words .now) (a .count) (a .cells .now) size (k .result) (k .ensures .0) (c .if1 .taken), k .ensures .1)
+    (table-incomplete (a .revision) (a .words .now) (a .count) (a .cells .now) size (k .result) (k .ensures .0) (c .if1 .taken), k .ensures .1)
 
 unused-requires : tie.Need-unused-requires
 unused-requires c κs = search needs
@@ -24,7 +24,7 @@ returns-2 c =
     let a = c .before .before .before .before .before .before .args in
     let size : length (a .words .now) ≡ 64 = search needs in
     let k = c .before .before .before .index-words in
-    (table-rest (a .words .now) (a .count) (a .cells .now) size (k .result) (k .ensures .0) (c .before .before .if1 .left) (c .unused .ensures), k .ensures .1)
+    (table-rest (a .revision) (a .words .now) (a .count) (a .cells .now) size (k .result) (k .ensures .0) (c .before .before .if1 .left) (c .unused .ensures), k .ensures .1)
 
 pub index-table-spec : {M : Type 1} → statement M
 index-table-spec = tie.close (tie.spec index-words-requires returns unused-requires returns-2)

@@ -31,7 +31,7 @@ returns c =
     let e : c .before .before .before .smaller .result - 0 ≡ min (a .count) (length (a .words .now)) = omega (arith, c .before .before .before .smaller .ensures) in
     let same : take (c .before .before .before .smaller .result - 0) (a .words .now) ≡ take (a .count) (a .words .now) = rw e (take-min (a .count) (a .words .now)) in
     let k = c .insert-words in
-    (k .ensures .0 ∙ ap (λ (l : List ℕ). prefixLength l (a .cells .now)) same, k .ensures .1 ∙ ap (λ (l : List ℕ). insertedWords l (a .cells .now)) same)
+    (k .ensures .0 ∙ ap (λ (l : List ℕ). prefixLength (a .revision) l (a .cells .now)) same, k .ensures .1 ∙ ap (λ (l : List ℕ). insertedWords (a .revision) l (a .cells .now)) same)
 
 pub index-words-spec : {M : Type 1} → statement M
 index-words-spec =

@@ -8,7 +8,7 @@ index-table-requires : tie.Need-index-table-requires
 index-table-requires c κs = search needs
 
 returns : tie.Need-returns
-returns c = table-valid (c .before .before .before .before .args .t1) (c .index-table .ensures .0)
+returns c = table-valid 1 (c .before .before .before .before .args .t1) (c .index-table .ensures .0)
 
 pub valid-spec : {M : Type 1} → statement M
 valid-spec = tie.close (tie.spec index-table-requires returns)

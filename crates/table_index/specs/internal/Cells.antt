@@ -1,35 +1,40 @@
--- The index of a field table: 128 cells of 32 bits. A cell holds an entry's key (21 bits), its kind and inner number as one number (5 bits)
--- and its order in the table (6 bits). The first 64 cells are the heads of as many buckets; the cell 64 + i holds what was the head of its
--- bucket before the entry i. Contracts of calls speak of the schema of a table, not of the index; proofs/IndexLaws.antt shows that an index
--- has the schema of its table.
+-- The index of a field table: 128 cells of 32 bits. A cell holds an entry's key (20 bits), whether its tag is single (1 bit), its kind and inner
+-- number as one number (5 bits) and its order in the table (6 bits). The first 64 cells are the heads of as many buckets; the cell 64 + i holds
+-- what was the head of its bucket before the entry i. Contracts of calls speak of the schema of a table, not of the index; proofs/IndexLaws.antt
+-- shows that an index has the schema of its table.
 use Prim.Native.Nat.{ℕ, zero, suc, _+_, _*_, _-_, _/_, _%_, _^_, min}
-use mathlib.Core.Bool.{Bool, cond, _&&_}
+use mathlib.Core.Path.{_≡_}
+use mathlib.Core.Bool.{Bool, true, cond, _&&_}
 use mathlib.Core.List.{List}
 use lib.ListN.{length, take, drop, getD, set}
 use lib.Dec.{eqb, leb, ltb}
 use Rattle.table.specs.Entry.{entry}
 use Rattle.table.specs.Load.{inRange}
+use Rattle.table.specs.Mask.{hasBit, withBit}
 use Rattle.table.specs.Schema.{Schema}
 use Rattle.table.specs.Valid.{allZero}
 use Rattle.table.specs.declared.Meaning.{Meaning}
 use Rattle.table.specs.declared.Meaning.the-variants.{Raw, Uint, Int, String, Text, Message}
 
--- The keys of a message number begin here. Numbers are 65,581 apart, more than there are tags. Among the remainders by 64 that were
--- counted, 45 keeps the chains short both in the bench's full table and in tables whose messages have from 4 to 32 tags in a row. No cell has
--- a key from 2^21 on.
-unfoldable pub keysFrom : ℕ → ℕ
-keysFrom n = cond (ltb n 16) (n * 65581) (2 ^ 21)
-
--- The key of a message number and a tag, and that of the entry in a word. The remainder by 64 is the bucket.
+-- The key of a message number and a tag, and that of the entry in a word. No entry has a number from 16 on, so one key is enough for these.
 unfoldable pub keyOf : ℕ → ℕ → ℕ
-keyOf n t = keysFrom n + t
+keyOf n t = min n 16 * 2 ^ 16 + t
 
 unfoldable pub wordKey : ℕ → ℕ
 wordKey w = keyOf (entry w .number) (entry w .tag)
 
+-- The bucket of a key. Among the factors below 64 that were counted, 45 keeps the chains short both in the bench's full table and in tables whose
+-- messages have from 4 to 32 tags in a row.
+unfoldable pub bucketOf : ℕ → ℕ
+bucketOf key = (key / 2 ^ 16 * 45 + key) % 64
+
 -- The cell of a word that is the i-th of its table. Only the kind 5 has an inner number that is not 0, so the sum tells both.
 unfoldable pub cellOf : ℕ → ℕ → ℕ
-cellOf w i = (wordKey w * 32 + (entry w .kind + entry w .inner)) * 64 + i
+cellOf w i = ((wordKey w * 2 + entry w .mark) * 32 + (entry w .kind + entry w .inner)) * 64 + i
+
+-- A word under a revision. Under revision 1 the mark has no effect, so the word has the mark 0.
+unfoldable pub wordUnder : ℕ → ℕ → ℕ
+wordUnder revision w = cond (eqb revision 2) w (w / 2 ^ 8 * 2 ^ 8)
 
 -- The code of a cell: its kind and inner number as one number. Then the kind for a code.
 unfoldable pub codeIn : ℕ → ℕ
@@ -42,6 +47,10 @@ meaningOf code =
     (cond (eqb code 2) Int
     (cond (eqb code 3) String
     (cond (eqb code 4) Text (Message (code - 5))))))
+
+-- Whether the tag of a cell is single.
+unfoldable pub singleIn : ℕ → Bool
+singleIn c = eqb (c / 2 ^ 11 % 2) 1
 
 -- The kind in a cell.
 unfoldable pub meaningIn : ℕ → Meaning
@@ -62,10 +71,10 @@ unfoldable pub chase : ℕ → List ℕ → ℕ → ℕ → ℕ
 chase zero cells key c = 0
 chase (suc fuel) cells key c =
     let next = getD cells (64 + c % 64) 0 in
-    cond (eqb (c / 2 ^ 11) key) c (cond (ltb (next % 64) (c % 64)) (chase fuel cells key next) 0)
+    cond (eqb (c / 2 ^ 12) key) c (cond (ltb (next % 64) (c % 64)) (chase fuel cells key next) 0)
 
 unfoldable pub search : List ℕ → ℕ → ℕ
-search cells key = chase 64 cells key (getD cells (key % 64) 0)
+search cells key = chase 64 cells key (getD cells (bucketOf key) 0)
 
 -- Whether a word can be inserted: no cell has its key.
 unfoldable pub insertable : ℕ → List ℕ → Bool
@@ -74,7 +83,7 @@ insertable w cells = eqb (search cells (wordKey w)) 0
 -- The cells with a word linked as the i-th: it becomes the head of its bucket and points to the old head.
 unfoldable pub linked : ℕ → ℕ → List ℕ → List ℕ
 linked w i cells =
-    let bucket = wordKey w % 64 in
+    let bucket = bucketOf (wordKey w) in
     set (set cells (64 + i) (getD cells bucket 0)) bucket (cellOf w i)
 
 -- The cells after an attempt to insert a word as the i-th. A word that is not insertable changes nothing.
@@ -95,18 +104,20 @@ unfoldable pub prefixEnd : (ℕ → Bool) → (ℕ → ℕ) → List ℕ → ℕ
 prefixEnd good word cells i zero = i
 prefixEnd good word cells i (suc remaining) = cond (insertableAt good word cells i) (prefixEnd good word cells (suc i) remaining) i
 
--- The length of the accepted prefix (words in range that are insertable, at most 64), and the cells after inserting it.
-unfoldable pub prefixLength : List ℕ → List ℕ → ℕ
-prefixLength ws cells = prefixEnd (λ i. inRange (entry (getD ws i 0))) (λ i. getD ws i 0) cells 0 (min 64 (length ws))
+-- The length of the accepted prefix (words in range that are insertable, at most 64), and the cells after inserting it, each word as it is under
+-- a revision.
+unfoldable pub prefixLength : ℕ → List ℕ → List ℕ → ℕ
+prefixLength revision ws cells =
+    prefixEnd (λ i. inRange (entry (getD ws i 0))) (λ i. wordUnder revision (getD ws i 0)) cells 0 (min 64 (length ws))
 
-unfoldable pub insertedWords : List ℕ → List ℕ → List ℕ
-insertedWords ws cells = insertedBefore (λ i. getD ws i 0) cells (prefixLength ws cells)
+unfoldable pub insertedWords : ℕ → List ℕ → List ℕ → List ℕ
+insertedWords revision ws cells = insertedBefore (λ i. wordUnder revision (getD ws i 0)) cells (prefixLength revision ws cells)
 
 -- Whether a table value has at most 64 words, all are inserted, and the unused words are 0.
-unfoldable pub allInserted : List ℕ → ℕ → List ℕ → Bool
-allInserted words count cells =
+unfoldable pub allInserted : ℕ → List ℕ → ℕ → List ℕ → Bool
+allInserted revision words count cells =
     let used = take count words in
-    leb count 64 && eqb (prefixLength used cells) (length used) && allZero (drop count words)
+    leb count 64 && eqb (prefixLength revision used cells) (length used) && allZero (drop count words)
 
 -- The cell of a message number and a tag; 0 where there is none. A tag over 65,535 is in no table.
 unfoldable pub cellFor : List ℕ → ℕ → ℕ → ℕ
@@ -114,4 +125,17 @@ cellFor cells n t = cond (ltb t 65536) (search cells (keyOf n t)) 0
 
 -- The schema of an index.
 unfoldable pub indexed : List ℕ → Schema
-indexed cells = record { means = λ n t. meaningIn (cellFor cells n t) }
+indexed cells = record { means = λ n t. meaningIn (cellFor cells n t); single = λ n t. singleIn (cellFor cells n t) }
+
+-- No two single tags of a message number have cells of the same order.
+unfoldable pub OneOrder : List ℕ → Type 0
+OneOrder cells =
+    (n t u : ℕ) → singleIn (cellFor cells n t) ≡ true → singleIn (cellFor cells n u) ≡ true
+    → orderIn (cellFor cells n t) ≡ orderIn (cellFor cells n u) → t ≡ u
+
+-- Whether the tag of a cell is noted in a mask already, and the mask after noting it.
+unfoldable pub notedIn : ℕ → ℕ → Bool
+notedIn mask c = singleIn c && hasBit mask (orderIn c)
+
+unfoldable pub noteIn : ℕ → ℕ → ℕ
+noteIn mask c = cond (singleIn c) (withBit mask (orderIn c)) mask

@@ -1,4 +1,5 @@
 -- `five` returns the number in five octets, computed octet by octet.
+use native.Mathlib.Omega.{arith}
 use Rattle.table_index.proofs.RecordLaws.{five-read}
 use borrow.Author.Needs.{needs}
 use Rattle.table_index.proofs.record.five.Statement.{statement}
@@ -60,18 +61,15 @@ returns c =
     let b = c .before in
     let k = b .before in
     let a = k .before .before .before .before .args in
-    five-read (a .s .now) (a .at)
-    (k .before .before .octet-at .result)
-    (k .before .octet-at2 .result)
-    (k .octet-at3 .result)
-    (b .octet-at4 .result)
-    (c .octet-at5 .result)
-    (search needs)
-    (k .before .before .octet-at .ensures .0)
-    (k .before .octet-at2 .ensures .0)
-    (k .octet-at3 .ensures .0)
-    (b .octet-at4 .ensures .0)
-    (c .octet-at5 .ensures .0)
+    let o1 = k .before .before .octet-at in
+    let o2 = k .before .octet-at2 in
+    let o3 = k .octet-at3 in
+    let o4 = b .octet-at4 in
+    let o5 = c .octet-at5 in (
+      five-read (a .s .now) (a .at) (o1 .result) (o2 .result) (o3 .result) (o4 .result) (o5 .result) (search needs)
+          (o1 .ensures .0) (o2 .ensures .0) (o3 .ensures .0) (o4 .ensures .0) (o5 .ensures .0),
+      omega (arith, o1 .ensures .1, o2 .ensures .1, o3 .ensures .1, o4 .ensures .1, o5 .ensures .1),
+    )
 
 pub five-spec : {M : Type 1} → statement M
 five-spec =
