@@ -2,7 +2,7 @@
 use Prim.Native.Nat.{ℕ, suc, _+_}
 use native.Mathlib.Omega.{arith}
 use mathlib.Core.Path.{_≡_, ap, ap₂, _∙_}
-use mathlib.Core.List.{List}
+use mathlib.Core.List.{List, []}
 use mathlib.Core.Logic.{_↔_, _⊎_, inl, inr, ⊎-elim}
 use Rattle.octets.specs.Number.{Octets}
 use Rattle.table.specs.Schema.{Schema}
@@ -23,9 +23,9 @@ module _ (sc : Schema) (levels n : ℕ) (s : List ℕ) (o : Octets s) where
 
   first-refused : (f : Fault) → FirstFault sc (suc levels) n s f → messageFrom sc (suc levels) n 0 0 s ≡ refused (faultRefusal f) (faultPlace f)
   unfolding Agree
-  first-refused f a = go (search sc levels n s) (first-searched sc levels n s f o a) (search-agrees sc levels n 0 0 s o)
+  first-refused f a = go (search sc (suc levels) n s) (first-searched sc levels n s f o a) (search-agrees sc (suc levels) n 0 0 s (omega arith) o)
     where
-      go : (x : Search) → x ≡ faulty f → Agree sc (suc levels) n 0 s (messageFrom sc (suc levels) n 0 0 s) x
+      go : (x : Search) → x ≡ faulty f → Agree sc (suc levels) n [] 0 s (messageFrom sc (suc levels) n 0 0 s) x
           → messageFrom sc (suc levels) n 0 0 s ≡ refused (faultRefusal f) (faultPlace f)
       go (whole cut) e h = let z : _≡_ {A = ℕ} 0 1 = cc in absurd (omega arith)
       go (faulty g) e h =
@@ -35,12 +35,12 @@ module _ (sc : Schema) (levels n : ℕ) (s : List ℕ) (o : Octets s) where
   -- Octets have a good cut or a first fault,
   pub cut-or-fault : ((cut : Cut) × Good sc (suc levels) n s cut) ⊎ ((f : Fault) × FirstFault sc (suc levels) n s f)
   unfolding Agree
-  cut-or-fault = go (search sc levels n s) (search-agrees sc levels n 0 0 s o)
+  cut-or-fault = go (search sc (suc levels) n s) (search-agrees sc (suc levels) n 0 0 s (omega arith) o)
     where
-      go : (x : Search) → Agree sc (suc levels) n 0 s (messageFrom sc (suc levels) n 0 0 s) x
+      go : (x : Search) → Agree sc (suc levels) n [] 0 s (messageFrom sc (suc levels) n 0 0 s) x
           → ((cut : Cut) × Good sc (suc levels) n s cut) ⊎ ((f : Fault) × FirstFault sc (suc levels) n s f)
       go (whole cut) h = inl (cut, accepted-good sc (suc levels) n 0 0 s cut h)
-      go (faulty f) h = inr (f, h .1)
+      go (faulty f) h = inr (f, record { divides = h .1; leads = h .2 })
 
   -- and never both.
   pub cut-no-fault : (cut : Cut) (f : Fault) → Good sc (suc levels) n s cut → FirstFault sc (suc levels) n s f → ⊥
@@ -57,15 +57,15 @@ module _ (sc : Schema) (levels n : ℕ) (s : List ℕ) (o : Octets s) where
   fault-of-refused : (k p : ℕ) → messageFrom sc (suc levels) n 0 0 s ≡ refused k p
       → (f : Fault) × FirstFault sc (suc levels) n s f × (faultRefusal f ≡ k) × (faultPlace f ≡ p)
   unfolding Agree
-  fault-of-refused k p e = go (search sc levels n s) (search-agrees sc levels n 0 0 s o)
+  fault-of-refused k p e = go (search sc (suc levels) n s) (search-agrees sc (suc levels) n 0 0 s (omega arith) o)
     where
-      go : (x : Search) → Agree sc (suc levels) n 0 s (messageFrom sc (suc levels) n 0 0 s) x
+      go : (x : Search) → Agree sc (suc levels) n [] 0 s (messageFrom sc (suc levels) n 0 0 s) x
           → (f : Fault) × FirstFault sc (suc levels) n s f × (faultRefusal f ≡ k) × (faultPlace f ≡ p)
       go (whole cut) h = let z : _≡_ {A = ℕ} 0 1 = cc in absurd (omega arith)
       go (faulty f) h =
           let a = h .0 in
           let q : 0 + faultPlace f ≡ p = cc in
-          (f, h .1, cc, omega arith)
+          (f, record { divides = h .1; leads = h .2 }, cc, omega arith)
 
 -- A message is refused with a number at a place exactly where its first fault has that number and that place.
 pub refused-exactly : (sc : Schema) (n : ℕ) (s : List ℕ) → Octets s → (k p : ℕ)

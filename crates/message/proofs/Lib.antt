@@ -1,4 +1,6 @@
 pub mod Samples
+pub mod Singles
+pub mod Notes
 pub mod Steps
 pub mod Accepted
 pub mod Shortened

@@ -1,23 +1,19 @@
 -- A refusal's number is never 0, because 0 means accepted.
-use Prim.Native.Nat.{ℕ, zero, suc, _+_, _-_, _<_}
+use Prim.Native.Nat.{ℕ, zero, suc, _+_, _<_}
 use native.Mathlib.Omega.{arith}
 use mathlib.Core.Path.{_≡_, subst}
-use mathlib.Core.Bool.{Bool, true, false, cond}
-use mathlib.Core.List.{List}
+use mathlib.Core.List.{List, [], _∷_}
 use lib.ListN.{length, take, drop}
-use lib.Dec.{leb}
-use Rattle.octets.specs.Text.{text}
 use Rattle.octets.specs.Control.{control}
 use Rattle.octets.specs.declared.Control.{Control}
 use Rattle.octets.specs.declared.Control.the-variants.{Absent, Partial, Whole}
 use Rattle.table.specs.Schema.{Schema}
-use Rattle.table.specs.declared.Meaning.{Meaning}
-use Rattle.table.specs.declared.Meaning.the-variants.{Raw, Uint, Int, String, Text, Message}
 use Rattle.message.specs.Cut.{Cut}
 use Rattle.message.specs.declared.Step.{Step}
 use Rattle.message.specs.declared.Step.the-variants.{Done, Fault, Over, Into}
 use Rattle.reading.specs.Reading.{Reading, accepted, refused, onAccepted, inOrder}
-use Rattle.message.specs.Reading.{stepByKind, stepFrom, step, tagAt, Inner, afterStep, fieldsFrom, messageFrom}
+use Rattle.message.specs.Reading.{stepFrom, step, tagAt, Inner, afterStep, fieldsFrom, messageFrom}
+use Rattle.message.proofs.Steps.{of-kind, of-whole}
 
 -- A step that is refused has a number above 0.
 Numbered : Step → Type 0
@@ -26,29 +22,14 @@ Numbered (Fault reason) = 0 < reason
 Numbered (Over k l) = Unit {0}
 Numbered (Into m k l) = Unit {0}
 
-tested-numbered : (t : Bool) (k l reason : ℕ) → 0 < reason → Numbered (cond t (Over k l) (Fault reason))
+-- A step's refusal, by the control part at the front.
+stepFrom-numbered : (sc : Schema) (levels n : ℕ) (before s : List ℕ) (c : Control) → Numbered (stepFrom sc levels n before s c)
 unfolding Numbered
-tested-numbered true k l reason h = tt
-tested-numbered false k l reason h = h
-
-stepByKind-numbered : (m : Meaning) (k : ℕ) (s : List ℕ) → Numbered (stepByKind m k s)
-unfolding Numbered stepByKind
-stepByKind-numbered Raw k s = tt
-stepByKind-numbered Uint k s = tested-numbered (leb (length s) 8) k (length s) 6 (omega arith)
-stepByKind-numbered Int k s = tested-numbered (leb (length s) 8) k (length s) 6 (omega arith)
-stepByKind-numbered String k s = tt
-stepByKind-numbered Text k s = tested-numbered (text s) k (length s) 7 (omega arith)
-stepByKind-numbered (Message m) k s = tt
-
-stepFrom-numbered : (sc : Schema) (n : ℕ) (s : List ℕ) (c : Control) → Numbered (stepFrom sc n s c)
-unfolding Numbered stepFrom
-stepFrom-numbered sc n s Absent = tt
-stepFrom-numbered sc n s Partial = omega arith
-stepFrom-numbered sc n s (Whole tag len size) = go (leb len (length s - size))
-  where
-    go : (t : Bool) → Numbered (cond t (stepByKind (sc .means n tag) size (take len (drop size s))) (Fault 4))
-    go true = stepByKind-numbered (sc .means n tag) size (take len (drop size s))
-    go false = omega arith
+stepFrom-numbered sc levels n before s Absent = unfold stepFrom in tt
+stepFrom-numbered sc levels n before s Partial = unfold stepFrom in omega arith
+stepFrom-numbered sc levels n before s (Whole tag len size) =
+    of-whole Numbered sc levels n before s tag len size (λ h. omega arith) (λ h t. omega arith) (λ h t u. omega arith)
+    (λ h t u. of-kind Numbered (sc .means n tag) size (take len (drop size s)) (λ good. tt) (λ k l. omega arith) (λ k l. omega arith) (λ i m. tt))
 
 -- A reading that is refused has a number above 0.
 Told : Reading Cut → Type 0
@@ -76,15 +57,17 @@ module _ (sc : Schema) (inner : Inner) (below : (m field at : ℕ) (b : List ℕ
       inOrder-told (Cut.nested (tagAt s) (take k s)) (inner m at (at + k) (take l (drop k s))) (next (at + k + l) (drop (k + l) s))
       (below m at (at + k) (take l (drop k s))) (later (at + k + l) (drop (k + l) s))
 
-  fields-told : (n fuel at : ℕ) (s : List ℕ) → Told (fieldsFrom sc inner n fuel at s)
+  fields-told : (levels n : ℕ) (before : List ℕ) (fuel at : ℕ) (s : List ℕ) → Told (fieldsFrom sc levels inner n before fuel at s)
   unfolding Told fieldsFrom step
-  fields-told n zero at s = omega arith
-  fields-told n (suc fuel) at s = after-told (fieldsFrom sc inner n fuel) (fields-told n fuel) at s (step sc n s) (stepFrom-numbered sc n s (control s))
+  fields-told levels n before zero at s = omega arith
+  fields-told levels n before (suc fuel) at s =
+      after-told (fieldsFrom sc levels inner n (tagAt s ∷ before) fuel) (fields-told levels n (tagAt s ∷ before) fuel) at s (step sc levels n before s)
+      (stepFrom-numbered sc levels n before s (control s))
 
 message-told : (sc : Schema) (levels n field at : ℕ) (s : List ℕ) → Told (messageFrom sc levels n field at s)
 unfolding Told messageFrom
 message-told sc zero n field at s = omega arith
-message-told sc (suc levels) n field at s = fields-told sc (messageFrom sc levels) (message-told sc levels) n (suc (length s)) at s
+message-told sc (suc levels) n field at s = fields-told sc (messageFrom sc levels) (message-told sc levels) levels n [] (suc (length s)) at s
 
 pub refusal-positive : (sc : Schema) (levels n field at : ℕ) (s : List ℕ) (reason place : ℕ)
     → messageFrom sc levels n field at s ≡ refused reason place → 0 < reason

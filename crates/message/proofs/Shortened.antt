@@ -3,7 +3,8 @@
 use Prim.Native.Nat.{ℕ, _+_, _≤_, _<_}
 use native.Mathlib.Omega.{arith}
 use mathlib.Core.Path.{_≡_, refl, sym, ap, ap₂, _∙_, subst}
-use mathlib.Core.List.{List, [], _++_}
+use mathlib.Core.Bool.{false}
+use mathlib.Core.List.{List, [], _++_, map}
 use lib.ListN.{length, length-append}
 use Rattle.octets.specs.Number.{Octets, bigEndian}
 use Rattle.octets.specs.Signed.{integer}
@@ -18,11 +19,14 @@ use Rattle.table.specs.Schema.{Schema}
 use Rattle.table.specs.declared.Meaning.{Meaning}
 use Rattle.table.specs.declared.Meaning.the-variants.{Raw, Uint, Int, String, Text, Message}
 use Rattle.message.specs.Cut as cuts
-use Rattle.message.specs.Cut.{Cut, joined, WholeField, Contents, LeafField, NestedField, Allowed, Good}
+use Rattle.message.specs.Cut.{Cut, joined, WholeField, Contents, LeafField, NestedField, tags, Allowed, Good}
+use Rattle.message.specs.Single.{repeats}
 use Rattle.message.specs.Tree as trees
 use Rattle.message.specs.Tree.{Tree, Value, value, tree}
+use Rattle.message.specs.Items.{items, itemTag}
 use Rattle.reading.specs.Reading.{depthLimit}
 use Rattle.message.specs.ReadTheSame.{OthersMore, IsShortest}
+use Rattle.message.proofs.Singles.{tags-of-tree}
 use Rattle.message.proofs.Accepted.{good-cut-unique}
 use Rattle.message.specs.Shortest.{leastContents, field, shortest}
 
@@ -105,31 +109,38 @@ pub record Short (sc : Schema) (n : ℕ) (cut : Cut) (t : Tree) : Type 0 where
   octets : Octets (shortest t)
 
 module _ (sc : Schema) (n : ℕ) where
+  -- A tag that is not repeated by the fields of a cut is not repeated in the shortest form.
+  still-once : (tag : ℕ) (cut : Cut) (t : Tree) → Short sc n cut t → repeats sc n (tags cut) tag ≡ false → repeats sc n (tags (cutOf t)) tag ≡ false
+  still-once tag cut t h once =
+      let same : tags (cutOf t) ≡ tags cut =
+      tags-of-tree sc n (cutOf t) ∙ ap (λ (u : Tree). map itemTag (items u)) (h .same-tree ∙ sym (h .is)) ∙ sym (tags-of-tree sc n cut) in
+      rw same once
+
   short-end : Short sc n Cut.end Tree.end
   unfolding tree Allowed cutOf cuts.depth shortest joined Octets
   short-end = record { is = refl; allowed = tt; same-tree = refl; same-depth = refl; no-shorter = no-shorter-self []; octets = tt }
 
-  short-leaf : (tag : ℕ) (c b : List ℕ) (rest : Cut) (t : Tree) → LeafField sc n tag c b → Octets c → Octets b → Short sc n rest t
-      → Short sc n (Cut.leaf tag c b rest) (Tree.leaf tag (value (sc .means n tag) b) t)
+  short-leaf : (tag : ℕ) (c b : List ℕ) (rest : Cut) (t : Tree) → LeafField sc n tag c b → repeats sc n (tags rest) tag ≡ false → Octets c → Octets b
+      → Short sc n rest t → Short sc n (Cut.leaf tag c b rest) (Tree.leaf tag (value (sc .means n tag) b) t)
   unfolding tree Allowed cutOf cuts.depth shortest joined
-  short-leaf tag c b rest t f oc ob later =
+  short-leaf tag c b rest t f once oc ob later =
       let k = sc .means n tag in
       let less = lessened k b ob (f .allowed) in
       let fit = refitted tag c b (leastContents (value k b)) oc (less .octets) (f .whole) (less .no-shorter) in
       let r = leastContents (value k b) in
       record {
         is = rw (later .is);
-        allowed = (record { whole = fit .whole; allowed = less .contents }, later .allowed);
+        allowed = (record { whole = fit .whole; allowed = less .contents }, later .allowed, still-once tag rest t later once);
         same-tree = rw (less .same-value, later .same-tree);
         same-depth = later .same-depth;
         no-shorter = no-shorter-append (field tag r) (c ++ b) (shortest t) (joined rest) (fit .no-shorter) (later .no-shorter);
         octets = octets-append (field tag r) (shortest t) (fit .octets) (later .octets);
       }
 
-  short-nested : (m tag : ℕ) (c : List ℕ) (inside rest : Cut) (u t : Tree) → NestedField sc n m tag c (joined inside) → Octets c → Short sc m inside u
-      → Short sc n rest t → Short sc n (Cut.nested tag c inside rest) (Tree.nested tag u t)
+  short-nested : (m tag : ℕ) (c : List ℕ) (inside rest : Cut) (u t : Tree) → NestedField sc n m tag c (joined inside)
+      → repeats sc n (tags rest) tag ≡ false → Octets c → Short sc m inside u → Short sc n rest t → Short sc n (Cut.nested tag c inside rest) (Tree.nested tag u t)
   unfolding tree Allowed cutOf cuts.depth shortest joined innerOf
-  short-nested m tag c inside rest u t f oc inner later =
+  short-nested m tag c inside rest u t f once oc inner later =
       let r = shortest u in
       let b = joined inside in
       let fit = refitted tag c b r oc (inner .octets) (f .whole) (inner .no-shorter) in
@@ -137,7 +148,7 @@ module _ (sc : Schema) (n : ℕ) where
       subst (λ (x : List ℕ). WholeField tag (leastControl tag (length r)) x) (sym (joined-cutOf u)) (fit .whole) in
       record {
         is = rw (f .allowed, inner .is, later .is);
-        allowed = ((m, record { whole = w; allowed = f .allowed }, inner .allowed), later .allowed);
+        allowed = ((m, record { whole = w; allowed = f .allowed }, inner .allowed), later .allowed, still-once tag rest t later once);
         same-tree = rw (f .allowed, inner .same-tree, later .same-tree);
         same-depth = rw (inner .same-depth, later .same-depth);
         no-shorter = no-shorter-append (field tag r) (c ++ b) (shortest t) (joined rest) (fit .no-shorter) (later .no-shorter);
@@ -150,13 +161,13 @@ unfolding Allowed joined
 short sc Cut.end n a o = unfold tree in short-end sc n
 short sc (Cut.leaf tag c b rest) n a o =
     let h = octets-before (c ++ b) (joined rest) o in
-    let s = short-leaf sc n tag c b rest (tree sc n rest) (a .0) (octets-before c b h) (octets-after c b h)
+    let s = short-leaf sc n tag c b rest (tree sc n rest) (a .0) (a .2) (octets-before c b h) (octets-after c b h)
     (short sc rest n (a .1) (octets-after (c ++ b) (joined rest) o)) in
     subst (Short sc n (Cut.leaf tag c b rest)) (sym (s .is)) s
 short sc (Cut.nested tag c inside rest) n a o =
     let h = octets-before (c ++ joined inside) (joined rest) o in
     let m = a .0 .0 in
-    let s = short-nested sc n m tag c inside rest (tree sc m inside) (tree sc n rest) (a .0 .1) (octets-before c (joined inside) h)
+    let s = short-nested sc n m tag c inside rest (tree sc m inside) (tree sc n rest) (a .0 .1) (a .2) (octets-before c (joined inside) h)
     (short sc inside m (a .0 .2) (octets-after c (joined inside) h))
     (short sc rest n (a .1) (octets-after (c ++ joined inside) (joined rest) o)) in
     subst (Short sc n (Cut.nested tag c inside rest)) (sym (s .is)) s

@@ -1,13 +1,15 @@
 -- What a message is, without saying how it is read: fields, joined, as described below.
 use Prim.Native.Nat.{ℕ, suc, _≤_, max}
 use mathlib.Core.Path.{_≡_}
-use mathlib.Core.List.{List, [], _++_}
+use mathlib.Core.Bool.{false}
+use mathlib.Core.List.{List, [], _∷_, _++_}
 use lib.ListN.{length}
 use Rattle.octets.specs.ControlPart.{ControlPart}
 use Rattle.octets.specs.Utf8.{IsText}
 use Rattle.table.specs.Schema.{Schema}
 use Rattle.table.specs.declared.Meaning.{Meaning}
 use Rattle.table.specs.declared.Meaning.the-variants.{Raw, Uint, Int, String, Text, Message}
+use Rattle.message.specs.Single.{repeats}
 
 -- A list of fields from the left, each with its tag and its control part. A field of kind message has a list of the fields in its contents,
 -- any other its contents. Which of these lists are cuts of a message is said by `Good` below.
@@ -51,12 +53,18 @@ pub record NestedField (sc : Schema) (number inner tag : ℕ) (part contents : L
   pub whole : WholeField tag part contents
   pub allowed : sc .means number tag ≡ Message inner
 
--- Every field of a list, at all depths, is whole and allowed.
+-- The tags of the fields, without those of nested messages.
+unfoldable pub tags : Cut → List ℕ
+tags end = []
+tags (leaf tag part contents rest) = tag ∷ tags rest
+tags (nested tag part inside rest) = tag ∷ tags rest
+
+-- Every field of a list, at all depths, is whole and allowed, and none of the fields after it in the same message repeats it.
 unfoldable pub Allowed : Schema → ℕ → Cut → Type 0
 Allowed sc n end = Unit {0}
-Allowed sc n (leaf tag part contents rest) = LeafField sc n tag part contents × Allowed sc n rest
+Allowed sc n (leaf tag part contents rest) = LeafField sc n tag part contents × Allowed sc n rest × (repeats sc n (tags rest) tag ≡ false)
 Allowed sc n (nested tag part inside rest) =
-    ((m : ℕ) × NestedField sc n m tag part (joined inside) × Allowed sc m inside) × Allowed sc n rest
+    ((m : ℕ) × NestedField sc n m tag part (joined inside) × Allowed sc m inside) × Allowed sc n rest × (repeats sc n (tags rest) tag ≡ false)
 
 -- Document 01's cut of octets, under a schema and a message number: allowed whole fields that joined are the octets, at most `levels`
 -- messages deep.

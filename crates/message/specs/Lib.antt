@@ -1,3 +1,4 @@
+pub mod Single
 pub mod Cut
 pub mod Tree
 pub mod Items
