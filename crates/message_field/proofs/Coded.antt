@@ -8,6 +8,7 @@ use mathlib.Core.Logic.{_⊎_, inl, inr}
 use lib.ListN.{length}
 use borrow.Author.Tests.{le-leb, lt-leb}
 use Rattle.octets.specs.Text.{text}
+use Rattle.table.specs.Entry.{kindNumber}
 use Rattle.table_index.specs.internal.Cells.{meaningOf}
 use Rattle.table_index.proofs.Meanings as means
 use Rattle.message.specs.Reading.{stepByKind}
@@ -39,3 +40,13 @@ module _ (size : ℕ) (s : List ℕ) where
   coded-over (suc (suc zero)) h a b = rw (← means.int 2 refl, le-leb (length s) 8 (at-most-eight (λ l. b l refl)))
   coded-over (suc (suc (suc zero))) h a b = rw (← means.string 3 refl)
   coded-over (suc (suc (suc (suc code)))) h a b = absurd (omega arith)
+
+-- A code up to 4 is that of a kind other than message.
+pub kind-plain : (code : ℕ) → code ≤ 4 → kindNumber (meaningOf code) < 5
+unfolding kindNumber
+kind-plain zero h = rw (← means.raw 0 refl) (omega arith)
+kind-plain (suc zero) h = rw (← means.uint 1 refl) (omega arith)
+kind-plain (suc (suc zero)) h = rw (← means.int 2 refl) (omega arith)
+kind-plain (suc (suc (suc zero))) h = rw (← means.string 3 refl) (omega arith)
+kind-plain (suc (suc (suc (suc zero)))) h = rw (← means.text 4 refl) (omega arith)
+kind-plain (suc (suc (suc (suc (suc code))))) h = absurd (omega arith)

@@ -2,4 +2,5 @@ pub mod Coded
 pub mod Fields
 pub mod Heads
 pub mod Nexts
+pub mod Notes
 pub mod FieldsByHead
