@@ -2,13 +2,13 @@
 use Prim.Native.Nat.{ℕ, _≤_}
 use native.Mathlib.Omega.{arith}
 use mathlib.Core.Path.{_≡_, refl}
-use mathlib.Core.Bool.{Bool, true, false, cond}
+use mathlib.Core.Bool.{Bool, true, false, cond, _&&_}
 use mathlib.Core.List.{List}
 use lib.ListN.{length}
 use lib.Dec.{ltb}
 use borrow.Author.Tests.{ltb-false}
 use Rattle.reading.specs.Refusals as refusals
-use Rattle.table.specs.Schema.{Schema, schema}
+use Rattle.table.specs.Schema.{Schema, isRevision, schema}
 use Rattle.table.specs.Valid.{valid}
 use Rattle.table.specs.declared.Table.{Table}
 use Rattle.message.specs.Cut.{Cut}
@@ -39,20 +39,20 @@ under-passed sc n s e = long (ltb messageLimit (length s)) refl e
     long true f e = absurd (omega arith)
     long false f e = bad (ltb lastNumber n) (ltb-false messageLimit (length s) f) e
 
--- Where the check under a table accepts, so does that under its schema.
-passed-under : (t : Table) (n : ℕ) (s : List ℕ) → check t n s .refusal ≡ 0 → checkUnder (schema t) n s .refusal ≡ 0
+-- Where the check under a table and a revision accepts, so does that under their schema.
+passed-under : (t : Table) (revision n : ℕ) (s : List ℕ) → check t revision n s .refusal ≡ 0 → checkUnder (schema revision t) n s .refusal ≡ 0
 unfolding check refusal
-passed-under t n s e = long (ltb messageLimit (length s)) e
+passed-under t revision n s e = long (ltb messageLimit (length s)) e
   where
-    good : (v : Bool) → cond v (checkUnder (schema t) n s) (refusal refusals.table 0) .refusal ≡ 0 → checkUnder (schema t) n s .refusal ≡ 0
+    good : (v : Bool) → cond v (checkUnder (schema revision t) n s) (refusal refusals.table 0) .refusal ≡ 0 → checkUnder (schema revision t) n s .refusal ≡ 0
     good true e = e
     good false e = absurd (omega arith)
 
-    long : (b : Bool) → cond b (refusal refusals.tooLong 0) (cond (valid t) (checkUnder (schema t) n s) (refusal refusals.table 0)) .refusal ≡ 0
-        → checkUnder (schema t) n s .refusal ≡ 0
+    long : (b : Bool) → cond b (refusal refusals.tooLong 0) (cond (valid t && isRevision revision) (checkUnder (schema revision t) n s) (refusal refusals.table 0)) .refusal ≡ 0
+        → checkUnder (schema revision t) n s .refusal ≡ 0
     long true e = absurd (omega arith)
-    long false e = good (valid t) e
+    long false e = good (valid t && isRevision revision) e
 
-pub check-passed : (t : Table) (n : ℕ) (s : List ℕ) → check t n s .refusal ≡ 0
-    → (length s ≤ messageLimit) × ((cut : Cut) × (reading (schema t) n s ≡ accepted cut))
-check-passed t n s e = under-passed (schema t) n s (passed-under t n s e)
+pub check-passed : (t : Table) (revision n : ℕ) (s : List ℕ) → check t revision n s .refusal ≡ 0
+    → (length s ≤ messageLimit) × ((cut : Cut) × (reading (schema revision t) n s ≡ accepted cut))
+check-passed t revision n s e = under-passed (schema revision t) n s (passed-under t revision n s e)

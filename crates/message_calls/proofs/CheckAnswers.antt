@@ -1,13 +1,13 @@
 -- The answer of the check, case by case; the counts of a verdict are those of the tree.
 use Prim.Native.Nat.{ℕ, _≤_, _<_}
 use mathlib.Core.Path.{_≡_, refl, sym, ap, _∙_}
-use mathlib.Core.Bool.{true, false}
+use mathlib.Core.Bool.{Bool, true, false, _&&_, and-false}
 use mathlib.Core.List.{List}
 use lib.ListN.{length}
 use borrow.Author.Tests.{le-ltb, lt-ltb}
 use Rattle.reading.specs.Refusals as refusals
 use Rattle.table.specs.Entry.{innerOf}
-use Rattle.table.specs.Schema.{Schema, schema}
+use Rattle.table.specs.Schema.{Schema, isRevision, schema}
 use Rattle.table.specs.Valid.{valid}
 use Rattle.table.specs.declared.Table.{Table}
 use Rattle.message.specs.Cut.{Cut}
@@ -34,17 +34,26 @@ unfolding verdictOf checkedBy treeCounts counts
 verdict-counts sc n (accepted cut) = rw (tree-fields sc cut n, tree-depth sc cut n)
 verdict-counts sc n (refused reason place) = refl
 
-module _ (t : Table) (n : ℕ) (s : List ℕ) where
-  pub too-long : messageLimit < length s → refusal refusals.tooLong 0 ≡ check t n s
+-- A table that the loader cannot return fails the test of table and revision, and so does a number that is no revision.
+module _ (t : Table) (revision : ℕ) where
+  pub table-fails : valid t ≡ false → valid t && isRevision revision ≡ false
+  table-fails v = ap (λ (b : Bool). b && isRevision revision) v
+
+  pub revision-fails : isRevision revision ≡ false → valid t && isRevision revision ≡ false
+  revision-fails e = ap (λ (b : Bool). valid t && b) e ∙ and-false (valid t)
+
+module _ (t : Table) (revision n : ℕ) (s : List ℕ) where
+  pub too-long : messageLimit < length s → refusal refusals.tooLong 0 ≡ check t revision n s
   unfolding check
   too-long h = rw (lt-ltb messageLimit (length s) h)
 
-  pub bad-table : length s ≤ messageLimit → valid t ≡ false → refusal refusals.table 0 ≡ check t n s
+  pub bad-table : length s ≤ messageLimit → valid t && isRevision revision ≡ false → refusal refusals.table 0 ≡ check t revision n s
   unfolding check
   bad-table h v = rw (le-ltb messageLimit (length s) h, v)
 
-  -- Under the schema of a table that the loader can return, the check has the same answer as under the table.
-  pub under-valid : length s ≤ messageLimit → valid t ≡ true → (sc : Schema) → sc ≡ schema t → checkUnder sc n s ≡ check t n s
+  -- Under the schema of a table that the loader can return, the check has the same answer as under the table and the revision.
+  pub under-valid : length s ≤ messageLimit → valid t && isRevision revision ≡ true → (sc : Schema) → sc ≡ schema revision t
+      → checkUnder sc n s ≡ check t revision n s
   unfolding check
   under-valid h v sc e = rw (e, le-ltb messageLimit (length s) h, v)
 
@@ -66,6 +75,6 @@ module _ (sc : Schema) (n : ℕ) (s : List ℕ) where
     unfolding reading
     by-verdict w e = ap checkedBy e ∙ verdict-counts sc n (messageFrom sc 8 n 0 0 s) ∙ sym read-under
 
-module _ (t : Table) (n : ℕ) (s : List ℕ) (h : length s ≤ messageLimit) (v : valid t ≡ true) (k : n ≤ lastNumber) where
-  pub read-through : check t n s ≡ treeCounts (schema t) n (reading (schema t) n s)
-  read-through = sym (under-valid t n s h v (schema t) refl) ∙ read-under (schema t) n s h k
+module _ (t : Table) (revision n : ℕ) (s : List ℕ) (h : length s ≤ messageLimit) (v : valid t && isRevision revision ≡ true) (k : n ≤ lastNumber) where
+  pub read-through : check t revision n s ≡ treeCounts (schema revision t) n (reading (schema revision t) n s)
+  read-through = sym (under-valid t revision n s h v (schema revision t) refl) ∙ read-under (schema revision t) n s h k

@@ -1,5 +1,6 @@
 pub mod CheckLoop
 pub mod ShortLoop
+pub mod Progress
 pub mod FirstOctets
 pub mod CheckAnswers
 pub mod AcceptedByCheck

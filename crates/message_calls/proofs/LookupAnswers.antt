@@ -1,8 +1,8 @@
 -- The answer of a lookup, case by case.
-use Prim.Native.Nat.{ℕ, _+_, _-_, _≤_}
+use Prim.Native.Nat.{ℕ, _+_, _-_, _≤_, _<_}
 use native.Mathlib.Omega.{arith}
 use mathlib.Core.Path.{_≡_, refl, sym, ap, _∙_}
-use mathlib.Core.Bool.{true, false}
+use mathlib.Core.Bool.{true, false, _&&_}
 use mathlib.Core.List.{List}
 use mathlib.Core.Option.{Option, none, some, Option·map}
 use lib.ListN.{length, take, drop, length-drop}
@@ -12,7 +12,7 @@ use borrow.Author.Tests.{le-leb, eq-eqb, ne-eqb}
 use Rattle.reading.specs.Refusals as refusals
 use Rattle.octets.specs.internal.Bounded.{unsigned, signed}
 use Rattle.table.specs.Entry.{kindNumber}
-use Rattle.table.specs.Schema.{Schema, schema}
+use Rattle.table.specs.Schema.{Schema, isRevision, schema}
 use Rattle.table.specs.declared.Meaning.{Meaning}
 use Rattle.table.specs.declared.Meaning.the-variants.{Raw, Uint, Int, String, Text, Message}
 use Rattle.table.specs.Valid.{valid}
@@ -24,6 +24,7 @@ use Rattle.reading.specs.Reading.{accepted, messageLimit}
 use Rattle.message.specs.Reading.{reading}
 use Rattle.message.proofs.Accepted.{accepted-good}
 use Rattle.message_calls.specs.Check.{check, checkUnder}
+use Rattle.reading.specs.Checks as answers
 use Rattle.reading.specs.declared.Checked.{Checked}
 use Rattle.message_calls.specs.Lookup.{ItemSpan, outermost, chosen, refusal, found, foundIn, answer, lookup, lookupLast}
 use Rattle.message_calls.specs.internal.LookupUnder.{lookUnder, lookupUnder, lookupLastUnder}
@@ -36,7 +37,7 @@ use Rattle.message_calls.proofs.ChosenElements.{Of, chosen-map, chosen-
 use Rattle.message_calls.proofs.OutermostSpans.{itemOf, InMessage, each-in-message, spanOf, spans-are}
 use Rattle.message_calls.specs.InTree.{Shows}
 use Rattle.message_calls.proofs.AcceptedByCheck.{under-passed}
-use Rattle.message_calls.proofs.CheckAnswers.{under-valid}
+use Rattle.message_calls.proofs.CheckAnswers.{too-long, bad-table, under-valid}
 
 -- The answer for contents that their kind allows has the kind's number and their value.
 read-leaf : (k : Meaning) (t start : ℕ) (b : List ℕ) → Contents k b
@@ -70,17 +71,18 @@ unfolding chosenSpan nthSpan lastSpan chosen
 chosen-span t (Nth k) s = refl
 chosen-span t Last s = refl
 
--- Under the schema of a table that the loader can return, a lookup has the same answer as under the table.
-module _ (t : Table) (sc : Schema) (same : sc ≡ schema t) (n : ℕ) (s : List ℕ) (h : length s ≤ messageLimit) (v : valid t ≡ true) (tag : ℕ) where
-  pub answer-under : (which : Occurrence) → lookUnder sc n s tag which ≡ answer t n s tag which
+-- Under the schema of a table that the loader can return, a lookup has the same answer as under the table and the revision.
+module _ (t : Table) (revision : ℕ) (sc : Schema) (same : sc ≡ schema revision t) (n : ℕ) (s : List ℕ) (h : length s ≤ messageLimit)
+    (v : valid t && isRevision revision ≡ true) (tag : ℕ) where
+  pub answer-under : (which : Occurrence) → lookUnder sc n s tag which ≡ answer t revision n s tag which
   unfolding lookUnder answer
-  answer-under which = rw (under-valid t n s h v sc same, same) refl
+  answer-under which = rw (under-valid t revision n s h v sc same, same) refl
 
-  pub lookup-under : (k : ℕ) → lookupUnder sc n s tag k ≡ lookup t n s tag k
+  pub lookup-under : (k : ℕ) → lookupUnder sc n s tag k ≡ lookup t revision n s tag k
   unfolding lookupUnder lookup
   lookup-under k = answer-under (Nth k)
 
-  pub last-under : lookupLastUnder sc n s tag ≡ lookupLast t n s tag
+  pub last-under : lookupLastUnder sc n s tag ≡ lookupLast t revision n s tag
   unfolding lookupLastUnder lookupLast
   last-under = answer-under Last
 
@@ -160,14 +162,23 @@ module _ (sc : Schema) (n : ℕ) (s : List ℕ) (tag : ℕ) (which : Occurrence)
               answers = rw (l, ← x) (r ∙ sym (answer-is ∙ ap found w));
             }
 
-module _ (t : Table) (n : ℕ) (s : List ℕ) (tag : ℕ) (which : Occurrence) where
-  pub refused-first : (c : Checked) → c ≡ check t n s → (c .refusal ≡ 0 → ⊥) → refusal (c .refusal) (c .place) ≡ answer t n s tag which
+module _ (t : Table) (revision n : ℕ) (s : List ℕ) (tag : ℕ) (which : Occurrence) where
+  pub refused-first : (c : Checked) → c ≡ check t revision n s → (c .refusal ≡ 0 → ⊥) → refusal (c .refusal) (c .place) ≡ answer t revision n s tag which
   unfolding answer
   refused-first c e ne =
-      let f : eqb (check t n s .refusal) 0 ≡ false = ap (λ (x : Checked). eqb (x .refusal) 0) (sym e) ∙ ne-eqb (c .refusal) 0 ne in
+      let f : eqb (check t revision n s .refusal) 0 ≡ false = ap (λ (x : Checked). eqb (x .refusal) 0) (sym e) ∙ ne-eqb (c .refusal) 0 ne in
       rw (f, ← e)
 
-  pub answer-found : check t n s .refusal ≡ 0 → (cut : Cut) → reading (schema t) n s ≡ accepted cut
-      → answer t n s tag which ≡ found (wanted (schema t) n s tag which cut)
+  -- A message that is too long, and a table that the loader cannot return or a number that is no revision.
+  pub too-long-refused : messageLimit < length s → refusal refusals.tooLong 0 ≡ answer t revision n s tag which
+  unfolding answers.refusal
+  too-long-refused h = refused-first (answers.refusal refusals.tooLong 0) (too-long t revision n s h) (λ z. omega arith)
+
+  pub bad-table-refused : length s ≤ messageLimit → valid t && isRevision revision ≡ false → refusal refusals.table 0 ≡ answer t revision n s tag which
+  unfolding answers.refusal
+  bad-table-refused h v = refused-first (answers.refusal refusals.table 0) (bad-table t revision n s h v) (λ z. omega arith)
+
+  pub answer-found : check t revision n s .refusal ≡ 0 → (cut : Cut) → reading (schema revision t) n s ≡ accepted cut
+      → answer t revision n s tag which ≡ found (wanted (schema revision t) n s tag which cut)
   unfolding answer foundIn wanted
-  answer-found e cut f = rw (eq-eqb (check t n s .refusal) 0 e, f)
+  answer-found e cut f = rw (eq-eqb (check t revision n s .refusal) 0 e, f)

@@ -23,31 +23,31 @@ use Rattle.message_calls.proofs.OutermostSpans.{itemOf, items-are, InMe
 use Rattle.message_calls.proofs.LookupAnswers.{refused-first, wanted, answer-found, wanted-in-message}
 use Rattle.message_calls.specs.InTree.{Answers}
 
-module _ (t : Table) (n : ℕ) (s : List ℕ) (tag : ℕ) (which : Occurrence) where
+module _ (t : Table) (revision n : ℕ) (s : List ℕ) (tag : ℕ) (which : Occurrence) where
   -- What the check refuses is refused with the check's number and place.
-  pub refused-as-checked : (check t n s .refusal ≡ 0 → ⊥) → answer t n s tag which ≡ refusal (check t n s .refusal) (check t n s .place)
-  refused-as-checked ne = sym (refused-first t n s tag which (check t n s) refl ne)
+  pub refused-as-checked : (check t revision n s .refusal ≡ 0 → ⊥) → answer t revision n s tag which ≡ refusal (check t revision n s .refusal) (check t revision n s .place)
+  refused-as-checked ne = sym (refused-first t revision n s tag which (check t revision n s) refl ne)
 
-  module _ (e : check t n s .refusal ≡ 0) (cut : Cut) (g : Good (schema t) 8 n s cut) where
-    wanted-item : Option·map itemOf (wanted (schema t) n s tag which cut) ≡ occurrence (tree (schema t) n cut) tag which
+  module _ (e : check t revision n s .refusal ≡ 0) (cut : Cut) (g : Good (schema revision t) 8 n s cut) where
+    wanted-item : Option·map itemOf (wanted (schema revision t) n s tag which cut) ≡ occurrence (tree (schema revision t) n cut) tag which
     unfolding wanted occurrence
     wanted-item =
-        sym (chosen-map itemOf which (withTag itemOf tag (outermost (schema t) n 0 cut)))
-        ∙ ap (chosen which) (sym (withTag-map itemOf (λ (i : Item). i) tag (outermost (schema t) n 0 cut)))
-        ∙ ap (λ (l : List Item). chosen which (withTag (λ (i : Item). i) tag l)) (items-are (schema t) n 0 cut)
+        sym (chosen-map itemOf which (withTag itemOf tag (outermost (schema revision t) n 0 cut)))
+        ∙ ap (chosen which) (sym (withTag-map itemOf (λ (i : Item). i) tag (outermost (schema revision t) n 0 cut)))
+        ∙ ap (λ (l : List Item). chosen which (withTag (λ (i : Item). i) tag l)) (items-are (schema revision t) n 0 cut)
 
-    is-found : answer t n s tag which ≡ found (wanted (schema t) n s tag which cut)
+    is-found : answer t revision n s tag which ≡ found (wanted (schema revision t) n s tag which cut)
     unfolding reading
-    is-found = answer-found t n s tag which e cut (good-accepted (schema t) 8 n 0 0 s cut g)
+    is-found = answer-found t revision n s tag which e cut (good-accepted (schema revision t) 8 n 0 0 s cut g)
 
     -- The answer is the wanted one of the tree's outermost fields with the tag.
-    pub answers-tree : Answers (schema t) n s tag (occurrence (tree (schema t) n cut) tag which) (answer t n s tag which)
+    pub answers-tree : Answers (schema revision t) n s tag (occurrence (tree (schema revision t) n cut) tag which) (answer t revision n s tag which)
     unfolding Answers Of found
     answers-tree =
-        rw (← wanted-item, is-found) (go (wanted (schema t) n s tag which cut) (wanted-in-message (schema t) n s tag which cut g))
+        rw (← wanted-item, is-found) (go (wanted (schema revision t) n s tag which cut) (wanted-in-message (schema revision t) n s tag which cut g))
       where
-        go : (o : Option ItemSpan) → Of (λ (o : ItemSpan). InMessage (schema t) 7 n s o × (itemTag (o .item) ≡ tag)) o
-            → Answers (schema t) n s tag (Option·map itemOf o) (found o)
+        go : (o : Option ItemSpan) → Of (λ (o : ItemSpan). InMessage (schema revision t) 7 n s o × (itemTag (o .item) ≡ tag)) o
+            → Answers (schema revision t) n s tag (Option·map itemOf o) (found o)
         go none h = refl
         go (some o) h =
             record {
@@ -62,18 +62,18 @@ module _ (t : Table) (n : ℕ) (s : List ℕ) (tag : ℕ) (which : Occurrence) w
             }
 
     -- The lookup refuses the field as absent exactly where the tree has no such field.
-    pub absent-exactly : (answer t n s tag which .refusal ≡ 18) ↔ (occurrence (tree (schema t) n cut) tag which ≡ none)
+    pub absent-exactly : (answer t revision n s tag which .refusal ≡ 18) ↔ (occurrence (tree (schema revision t) n cut) tag which ≡ none)
     unfolding Answers refusal
-    absent-exactly = go (occurrence (tree (schema t) n cut) tag which) answers-tree
+    absent-exactly = go (occurrence (tree (schema revision t) n cut) tag which) answers-tree
       where
-        go : (o : Option Item) → Answers (schema t) n s tag o (answer t n s tag which) → (answer t n s tag which .refusal ≡ 18) ↔ (o ≡ none)
+        go : (o : Option Item) → Answers (schema revision t) n s tag o (answer t revision n s tag which) → (answer t revision n s tag which .refusal ≡ 18) ↔ (o ≡ none)
         go none h = (λ x. refl, λ x. ap (λ (r : Found). r .refusal) h)
         go (some i) h = (λ x. let a = h .accepted in absurd (omega arith), λ x. let z : _≡_ {A = ℕ} 0 1 = cc in absurd (omega arith))
 
     -- A tag over 65,535 is in no message of octets.
-    pub large-tag : Octets s → 65535 < tag → answer t n s tag which ≡ refusal refusals.absent 0
+    pub large-tag : Octets s → 65535 < tag → answer t revision n s tag which ≡ refusal refusals.absent 0
     unfolding wanted found
     large-tag o h =
-        let k = small-tags (schema t) n cut 0 (g .allowed) (subst Octets (sym (g .divides)) o) in
-        let f = withTag-none itemOf (256 ^ 2) tag (outermost (schema t) n 0 cut) (omega arith) k in
+        let k = small-tags (schema revision t) n cut 0 (g .allowed) (subst Octets (sym (g .divides)) o) in
+        let f = withTag-none itemOf (256 ^ 2) tag (outermost (schema revision t) n 0 cut) (omega arith) k in
         is-found ∙ rw (f, chosen-none {A = ItemSpan} which)

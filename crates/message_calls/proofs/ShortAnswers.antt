@@ -15,7 +15,7 @@ use Rattle.octets.specs.Number.{Octets}
 use Rattle.octets.specs.Short.{same}
 use Rattle.octets.proofs.Bools.{and-right}
 use Rattle.octets.proofs.Same.{same-true}
-use Rattle.table.specs.Schema.{Schema, schema}
+use Rattle.table.specs.Schema.{Schema, isRevision, schema}
 use Rattle.table.specs.Valid.{valid}
 use Rattle.table.specs.declared.Table.{Table}
 use Rattle.message.specs.Cut.{Cut}
@@ -50,20 +50,21 @@ module _ (sc : Schema) (n : ℕ) (s : List ℕ) where
       go (accepted cut) e = short-good sc depthLimit n s cut o (accepted-good sc depthLimit n 0 0 s cut e)
       go (refused reason place) e = let p = refusal-positive sc depthLimit n 0 0 s reason place e in rw (ne-eqb reason 0 (λ z. omega arith)) refl
 
-module _ (t : Table) (n : ℕ) (s : List ℕ) where
-  pub refused-not-short : (c : Checked) → c ≡ check t n s → (c .refusal ≡ 0 → ⊥) → false ≡ short t n s
+module _ (t : Table) (revision n : ℕ) (s : List ℕ) where
+  pub refused-not-short : (c : Checked) → c ≡ check t revision n s → (c .refusal ≡ 0 → ⊥) → false ≡ short t revision n s
   unfolding short
   refused-not-short c e ne = rw (← e, ne-eqb (c .refusal) 0 ne)
 
-  pub too-long-not-short : messageLimit < length s → false ≡ short t n s
+  pub too-long-not-short : messageLimit < length s → false ≡ short t revision n s
   unfolding refusal
-  too-long-not-short h = refused-not-short (refusal refusals.tooLong 0) (too-long t n s h) (λ z. omega arith)
+  too-long-not-short h = refused-not-short (refusal refusals.tooLong 0) (too-long t revision n s h) (λ z. omega arith)
 
-  pub bad-table-not-short : length s ≤ messageLimit → valid t ≡ false → false ≡ short t n s
+  pub bad-table-not-short : length s ≤ messageLimit → valid t && isRevision revision ≡ false → false ≡ short t revision n s
   unfolding refusal
-  bad-table-not-short h v = refused-not-short (refusal refusals.table 0) (bad-table t n s h v) (λ z. omega arith)
+  bad-table-not-short h v = refused-not-short (refusal refusals.table 0) (bad-table t revision n s h v) (λ z. omega arith)
 
-  -- Under the schema of a table that the loader can return, a message is short exactly if it is so under the table.
-  pub short-under : length s ≤ messageLimit → valid t ≡ true → (sc : Schema) → sc ≡ schema t → shortUnder sc n s ≡ short t n s
+  -- Under the schema of a table that the loader can return, a message is short exactly if it is so under the table and the revision.
+  pub short-under : length s ≤ messageLimit → valid t && isRevision revision ≡ true → (sc : Schema) → sc ≡ schema revision t
+      → shortUnder sc n s ≡ short t revision n s
   unfolding shortUnder short shortestByTable
-  short-under h v sc e = rw (under-valid t n s h v sc e, e) refl
+  short-under h v sc e = rw (under-valid t revision n s h v sc e, e) refl

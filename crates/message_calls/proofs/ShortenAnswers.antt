@@ -2,7 +2,7 @@
 use Prim.Native.Nat.{ℕ, _+_, _≤_, _<_}
 use native.Mathlib.Omega.{arith}
 use mathlib.Core.Path.{_≡_, refl, sym, ap, _∙_}
-use mathlib.Core.Bool.{true, false}
+use mathlib.Core.Bool.{true, false, _&&_}
 use mathlib.Core.List.{List}
 use lib.ListN.{length}
 use lib.Dec.{eqb}
@@ -10,14 +10,15 @@ use borrow.Author.Tests.{le-leb, lt-leb, eq-eqb, ne-eqb}
 use Rattle.reading.specs.Reading.{messageLimit}
 use Rattle.reading.specs.Refusals as refusals
 use Rattle.message.specs.internal.Accepts.{Accepts}
-use Rattle.table.specs.Schema.{Schema, schema}
+use Rattle.table.specs.Schema.{Schema, isRevision, schema}
 use Rattle.table.specs.Valid.{valid}
 use Rattle.table.specs.declared.Table.{Table}
 use Rattle.reading.specs.internal.Verdicts.{IsAccepted}
 use Rattle.message.specs.Reading.{reading}
 use Rattle.message_calls.specs.Check.{check, checkUnder}
+use Rattle.reading.specs.Checks as answers
 use Rattle.reading.specs.declared.Checked.{Checked}
-use Rattle.message_calls.proofs.CheckAnswers.{under-valid}
+use Rattle.message_calls.proofs.CheckAnswers.{too-long, bad-table, under-valid}
 use Rattle.octets_store.specs.Store.{stored}
 use Rattle.octets_store.proofs.Stores.{stored-fits}
 use Rattle.message_calls.specs.internal.Stores.{shortestWithin}
@@ -35,9 +36,9 @@ pub shortestUnder-is : (sc : Schema) (n : ℕ) (s : List ℕ) → shortestUnder 
 unfolding shortestUnder shortestWithin reading
 shortestUnder-is sc n s = refl
 
-pub shortestByTable-is : (t : Table) (n : ℕ) (s : List ℕ) → shortestByTable t n s ≡ shortestWithin (schema t) 8 n s
+pub shortestByTable-is : (t : Table) (revision n : ℕ) (s : List ℕ) → shortestByTable t revision n s ≡ shortestWithin (schema revision t) 8 n s
 unfolding shortestByTable
-shortestByTable-is t n s = shortestUnder-is (schema t) n s
+shortestByTable-is t revision n s = shortestUnder-is (schema revision t) n s
 
 -- The contract's statement of the answer r and of the buffer afterwards, by the check's answer c, the shortest octets xs and the buffer before.
 pub record Meets (c : Checked) (xs out : List ℕ) (r : Shortened) (after : List ℕ) : Type 0 where
@@ -91,17 +92,34 @@ module _ (s out : List ℕ) where
   unfolding copyAnswer copyBuffer accepted
   copy-fits h after e = let r = shortened accepted s out refl (length s) after h (omega arith) e in (r .result-is, r .buffer-is)
 
--- Under the schema of a table that the loader can return, the shortener has the same answer as under the table.
-module _ (t : Table) (sc : Schema) (same : sc ≡ schema t) (n : ℕ) (s out : List ℕ) (h : length s ≤ messageLimit) (v : valid t ≡ true) where
-  pub answer-under : shortenUnder sc n s out ≡ answer t n s out
+-- Under the schema of a table that the loader can return, the shortener has the same answer as under the table and the revision.
+module _ (t : Table) (revision : ℕ) (sc : Schema) (same : sc ≡ schema revision t) (n : ℕ) (s out : List ℕ) (h : length s ≤ messageLimit)
+    (v : valid t && isRevision revision ≡ true) where
+  pub answer-under : shortenUnder sc n s out ≡ answer t revision n s out
   unfolding shortenUnder answer shortestByTable
-  answer-under = rw (under-valid t n s h v sc same, same) refl
+  answer-under = rw (under-valid t revision n s h v sc same, same) refl
 
-  pub buffer-under : bufferUnder sc n s out ≡ buffer t n s out
+  pub buffer-under : bufferUnder sc n s out ≡ buffer t revision n s out
   unfolding bufferUnder buffer shortestByTable
-  buffer-under = rw (under-valid t n s h v sc same, same) refl
+  buffer-under = rw (under-valid t revision n s h v sc same, same) refl
+
+-- A message that is too long, and a table that the loader cannot return or a number that is no revision.
+module _ (t : Table) (revision n : ℕ) (s out : List ℕ) where
+  pub too-long-refused : messageLimit < length s
+      → (refusal refusals.tooLong 0 ≡ answer t revision n s out) × (out ≡ buffer t revision n s out)
+  unfolding refusal answers.refusal answer buffer
+  too-long-refused h =
+      let r = refused-first (check t revision n s) (shortestByTable t revision n s) out (answers.refusal refusals.tooLong 0) (too-long t revision n s h) (λ z. omega arith) in
+      (r .result-is, r .buffer-is)
+
+  pub bad-table-refused : length s ≤ messageLimit → valid t && isRevision revision ≡ false
+      → (refusal refusals.table 0 ≡ answer t revision n s out) × (out ≡ buffer t revision n s out)
+  unfolding refusal answers.refusal answer buffer
+  bad-table-refused h v =
+      let r = refused-first (check t revision n s) (shortestByTable t revision n s) out (answers.refusal refusals.table 0) (bad-table t revision n s h v) (λ z. omega arith) in
+      (r .result-is, r .buffer-is)
 
 -- A refused call leaves the second buffer as it was.
-pub refused-leaves : (t : Table) (n : ℕ) (s out : List ℕ) → (answer t n s out .refusal ≡ 0 → ⊥) → buffer t n s out ≡ out
+pub refused-leaves : (t : Table) (revision n : ℕ) (s out : List ℕ) → (answer t revision n s out .refusal ≡ 0 → ⊥) → buffer t revision n s out ≡ out
 unfolding answer buffer resultBuffer
-refused-leaves t n s out ne = rw (ne-eqb (shortenResult (check t n s) (shortestByTable t n s) out .refusal) 0 ne) refl
+refused-leaves t revision n s out ne = rw (ne-eqb (shortenResult (check t revision n s) (shortestByTable t revision n s) out .refusal) 0 ne) refl

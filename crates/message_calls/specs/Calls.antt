@@ -24,22 +24,22 @@ withTable octets message under refuse =
     cond (ltb messageLimit (length message)) (refuse refusals.tooLong 0)
     (cond (eqb (load octets .refusal) 0) (under (load octets .table)) (refuse (load octets .refusal) (load octets .place)))
 
-unfoldable pub checkOctets : List ℕ → ℕ → List ℕ → Checked
-checkOctets octets n s = withTable octets s (λ t. checks.check t n s) answers.refusal
+unfoldable pub checkOctets : List ℕ → ℕ → ℕ → List ℕ → Checked
+checkOctets octets revision n s = withTable octets s (λ t. checks.check t revision n s) answers.refusal
 
 -- Whether the message is in its shortest form already.
-unfoldable pub shortOctets : List ℕ → ℕ → List ℕ → Bool
-shortOctets octets n s = withTable octets s (λ t. shorts.short t n s) (λ reason place. false)
+unfoldable pub shortOctets : List ℕ → ℕ → ℕ → List ℕ → Bool
+shortOctets octets revision n s = withTable octets s (λ t. shorts.short t revision n s) (λ reason place. false)
 
-unfoldable pub shortenOctets : List ℕ → ℕ → List ℕ → List ℕ → Shortened
-shortenOctets octets n s out = withTable octets s (λ t. shortens.answer t n s out) shortens.refusal
+unfoldable pub shortenOctets : List ℕ → ℕ → ℕ → List ℕ → List ℕ → Shortened
+shortenOctets octets revision n s out = withTable octets s (λ t. shortens.answer t revision n s out) shortens.refusal
 
 -- The second buffer afterwards.
-unfoldable pub shortenBuffer : List ℕ → ℕ → List ℕ → List ℕ → List ℕ
-shortenBuffer octets n s out = withTable octets s (λ t. shortens.buffer t n s out) (λ reason place. out)
+unfoldable pub shortenBuffer : List ℕ → ℕ → ℕ → List ℕ → List ℕ → List ℕ
+shortenBuffer octets revision n s out = withTable octets s (λ t. shortens.buffer t revision n s out) (λ reason place. out)
 
-unfoldable pub lookupOctets : List ℕ → ℕ → List ℕ → ℕ → ℕ → Found
-lookupOctets octets n s tag k = withTable octets s (λ t. lookups.lookup t n s tag k) lookups.refusal
+unfoldable pub lookupOctets : List ℕ → ℕ → ℕ → List ℕ → ℕ → ℕ → Found
+lookupOctets octets revision n s tag k = withTable octets s (λ t. lookups.lookup t revision n s tag k) lookups.refusal
 
-unfoldable pub lookupLastOctets : List ℕ → ℕ → List ℕ → ℕ → Found
-lookupLastOctets octets n s tag = withTable octets s (λ t. lookups.lookupLast t n s tag) lookups.refusal
+unfoldable pub lookupLastOctets : List ℕ → ℕ → ℕ → List ℕ → ℕ → Found
+lookupLastOctets octets revision n s tag = withTable octets s (λ t. lookups.lookupLast t revision n s tag) lookups.refusal

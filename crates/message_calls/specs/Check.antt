@@ -1,6 +1,6 @@
 -- The answer of the check.
 use Prim.Native.Nat.{ℕ}
-use mathlib.Core.Bool.{cond}
+use mathlib.Core.Bool.{cond, _&&_}
 use mathlib.Core.List.{List}
 use lib.ListN.{length}
 use lib.Dec.{ltb}
@@ -8,7 +8,7 @@ use Rattle.reading.specs.Refusals as refusals
 use Rattle.reading.specs.Reading.{Reading, messageLimit, lastNumber}
 use Rattle.reading.specs.Checks.{refusal, counts}
 use Rattle.reading.specs.declared.Checked.{Checked}
-use Rattle.table.specs.Schema.{Schema, schema}
+use Rattle.table.specs.Schema.{Schema, isRevision, schema}
 use Rattle.table.specs.Valid.{valid}
 use Rattle.table.specs.declared.Table.{Table}
 use Rattle.message.specs.Cut.{Cut}
@@ -26,6 +26,9 @@ checkUnder sc n s =
     (cond (ltb lastNumber n) (refusal refusals.table 0)
     (treeCounts sc n (reading sc n s)))
 
--- The check under a table. A message over the length limit is refused first, then a table value that the loader cannot return.
-unfoldable pub check : Table → ℕ → List ℕ → Checked
-check t n s = cond (ltb messageLimit (length s)) (refusal refusals.tooLong 0) (cond (valid t) (checkUnder (schema t) n s) (refusal refusals.table 0))
+-- The check under a table and a revision. A message over the length limit is refused first, then a table value that the loader cannot return and
+-- a number that is no revision.
+unfoldable pub check : Table → ℕ → ℕ → List ℕ → Checked
+check t revision n s =
+    cond (ltb messageLimit (length s)) (refusal refusals.tooLong 0)
+    (cond (valid t && isRevision revision) (checkUnder (schema revision t) n s) (refusal refusals.table 0))

@@ -71,19 +71,19 @@ unfoldable pub foundIn : Schema → ℕ → ℕ → Occurrence → Reading Cut �
 foundIn sc n t which (accepted cut) = found (chosen which (withTag (λ (o : ItemSpan). o .item) t (outermost sc n 0 cut)))
 foundIn sc n t which (refused reason place) = refusal reason place
 
--- The answer under a table: the check's refusal, or the field that is found.
-unfoldable pub answer : Table → ℕ → List ℕ → ℕ → Occurrence → Found
-answer t n s tag which =
-    let c = check t n s in
-    cond (eqb (c .refusal) 0) (foundIn (schema t) n tag which (reading (schema t) n s)) (refusal (c .refusal) (c .place))
+-- The answer under a table and a revision: the check's refusal, or the field that is found.
+unfoldable pub answer : Table → ℕ → ℕ → List ℕ → ℕ → Occurrence → Found
+answer t revision n s tag which =
+    let c = check t revision n s in
+    cond (eqb (c .refusal) 0) (foundIn (schema revision t) n tag which (reading (schema revision t) n s)) (refusal (c .refusal) (c .place))
 
 -- The k-th of the outermost fields with a tag.
-unfoldable pub lookup : Table → ℕ → List ℕ → ℕ → ℕ → Found
-lookup t n s tag k = answer t n s tag (Nth k)
+unfoldable pub lookup : Table → ℕ → ℕ → List ℕ → ℕ → ℕ → Found
+lookup t revision n s tag k = answer t revision n s tag (Nth k)
 
 -- The last of them.
-unfoldable pub lookupLast : Table → ℕ → List ℕ → ℕ → Found
-lookupLast t n s tag = answer t n s tag Last
+unfoldable pub lookupLast : Table → ℕ → ℕ → List ℕ → ℕ → Found
+lookupLast t revision n s tag = answer t revision n s tag Last
 
 -- The k-th, or the last, of a tree's outermost fields with a tag. proofs/LookupInTree.antt shows that the
 -- lookup returns this field, and that it refuses as absent exactly where there is none.

@@ -10,9 +10,9 @@ use Rattle.table.specs.declared.Table.{Table}
 use Rattle.message_calls.specs.Check.{check, checkUnder}
 use Rattle.message_calls.specs.Shorten.{shortestUnder, shortestByTable}
 
--- Under a schema, and under a table.
+-- Under a schema, and under a table and a revision.
 unfoldable pub shortUnder : Schema → ℕ → List ℕ → Bool
 shortUnder sc n s = eqb (checkUnder sc n s .refusal) 0 && same (shortestUnder sc n s) s
 
-unfoldable pub short : Table → ℕ → List ℕ → Bool
-short t n s = eqb (check t n s .refusal) 0 && same (shortestByTable t n s) s
+unfoldable pub short : Table → ℕ → ℕ → List ℕ → Bool
+short t revision n s = eqb (check t revision n s .refusal) 0 && same (shortestByTable t revision n s) s

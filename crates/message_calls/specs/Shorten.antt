@@ -22,9 +22,9 @@ refusal reason place = record { refusal = reason; place = place; length = 0 }
 unfoldable pub shortestUnder : Schema → ℕ → List ℕ → List ℕ
 shortestUnder sc n s = shortestOfReading sc n (reading sc n s)
 
--- The same under a table.
-unfoldable pub shortestByTable : Table → ℕ → List ℕ → List ℕ
-shortestByTable t n s = shortestUnder (schema t) n s
+-- The same under a table and a revision.
+unfoldable pub shortestByTable : Table → ℕ → ℕ → List ℕ → List ℕ
+shortestByTable t revision n s = shortestUnder (schema revision t) n s
 
 -- Document 01's room: the second buffer is no shorter than the shortest octets.
 unfoldable pub roomy : List ℕ → List ℕ → Bool
@@ -42,9 +42,9 @@ shortenResult c shortest out =
 unfoldable pub resultBuffer : Checked → List ℕ → List ℕ → List ℕ
 resultBuffer c shortest out = cond (eqb (shortenResult c shortest out .refusal) 0) (sets out 0 shortest) out
 
--- The shortener's answer and the second buffer afterwards, under a table.
-unfoldable pub answer : Table → ℕ → List ℕ → List ℕ → Shortened
-answer t n s out = shortenResult (check t n s) (shortestByTable t n s) out
+-- The shortener's answer and the second buffer afterwards, under a table and a revision.
+unfoldable pub answer : Table → ℕ → ℕ → List ℕ → List ℕ → Shortened
+answer t revision n s out = shortenResult (check t revision n s) (shortestByTable t revision n s) out
 
-unfoldable pub buffer : Table → ℕ → List ℕ → List ℕ → List ℕ
-buffer t n s out = resultBuffer (check t n s) (shortestByTable t n s) out
+unfoldable pub buffer : Table → ℕ → ℕ → List ℕ → List ℕ → List ℕ
+buffer t revision n s out = resultBuffer (check t revision n s) (shortestByTable t revision n s) out

@@ -1,7 +1,7 @@
 // The calls that read a message: the check, the shortener and the lookup of a field. Each comes twice: one takes the octets of a field
-// table, the other a table that was loaded. A message that is too long is rejected before the table is read, and a faulty table before the
-// message number is tested. The calls that take octets build only the index of the table: if it lacks a record, the first one that it lacks
-// is faulty.
+// table, the other a table that was loaded. Both take the revision of the profile that the table is read under. A message that is too long is
+// rejected before the table is read, and a faulty table before the revision and the message number are tested. The calls that take octets build
+// only the index of the table: if it lacks a record, the first one that it lacks is faulty.
 mod outermost;
 mod shortest;
 mod sizes;
@@ -44,107 +44,144 @@ pub struct Found {
 }
 
 // Checks a message: returns the count of its fields, its depth and whether it is in its shortest form, or the first refusal.
-pub fn check(table: &[u8], number: u64, message: &[u8]) -> CheckedMessage
-    ensures { λ r. ⌜ r .checked ≡ checkOctets (now (table .entry)) number (now (message .entry)) ⌝ }
-    ensures { λ r. ⌜ r .shortest ≡ shortOctets (now (table .entry)) number (now (message .entry)) ⌝ }
+pub fn check(table: &[u8], revision: u64, number: u64, message: &[u8]) -> CheckedMessage
+    ensures { λ r. ⌜ r .checked ≡ checkOctets (now (table .entry)) revision number (now (message .entry)) ⌝ }
+    ensures { λ r. ⌜ r .shortest ≡ shortOctets (now (table .entry)) revision number (now (message .entry)) ⌝ }
 {
     if reading::MESSAGE_LIMIT < message.len() {
         return traversal::refused(reading::TOO_LONG, 0);
     }
     let mut cells = [0u32; 128];
-    let end = table_index::index(table, &mut cells) * 8;
+    let end = table_index::index(table, revision, &mut cells);
     if end < table.len() {
         return traversal::refused(reading::TABLE, end as u64);
+    }
+    if !table_index::is_revision(revision) {
+        return traversal::refused(reading::TABLE, 0);
     }
     traversal::check_under(&cells, number, message)
 }
 
 // Writes the shortest octets that read the same as a message to the front of `out`, and returns their length.
-pub fn shorten(table: &[u8], number: u64, message: &[u8], out: &mut [u8]) -> Shortened
-    ensures { λ r. ⌜ r ≡ shortenOctets (now (table .entry)) number (now (message .entry)) (now (out .entry)) ⌝ }
-    ensures { λ r. ⌜ now (out .exit) ≡ shortenBuffer (now (table .entry)) number (now (message .entry)) (now (out .entry)) ⌝ }
+pub fn shorten(
+    table: &[u8],
+    revision: u64,
+    number: u64,
+    message: &[u8],
+    out: &mut [u8],
+) -> Shortened
+    ensures { λ r. ⌜ r ≡ shortenOctets (now (table .entry)) revision number (now (message .entry)) (now (out .entry)) ⌝ }
+    ensures { λ r. ⌜ now (out .exit) ≡ shortenBuffer (now (table .entry)) revision number (now (message .entry)) (now (out .entry)) ⌝ }
 {
     if reading::MESSAGE_LIMIT < message.len() {
         return shortest::refused(reading::TOO_LONG, 0);
     }
     let mut cells = [0u32; 128];
-    let end = table_index::index(table, &mut cells) * 8;
+    let end = table_index::index(table, revision, &mut cells);
     if end < table.len() {
         return shortest::refused(reading::TABLE, end as u64);
+    }
+    if !table_index::is_revision(revision) {
+        return shortest::refused(reading::TABLE, 0);
     }
     shortest::shorten_under(&cells, number, message, out)
 }
 
 // Returns the k-th, from 0, of the outermost fields with a tag.
-pub fn lookup(table: &[u8], number: u64, message: &[u8], tag: u64, k: u64) -> Found
-    ensures { λ r. ⌜ r ≡ lookupOctets (now (table .entry)) number (now (message .entry)) tag k ⌝ }
+pub fn lookup(table: &[u8], revision: u64, number: u64, message: &[u8], tag: u64, k: u64) -> Found
+    ensures { λ r. ⌜ r ≡ lookupOctets (now (table .entry)) revision number (now (message .entry)) tag k ⌝ }
 {
     if reading::MESSAGE_LIMIT < message.len() {
         return outermost::refused(reading::TOO_LONG, 0);
     }
     let mut cells = [0u32; 128];
-    let end = table_index::index(table, &mut cells) * 8;
+    let end = table_index::index(table, revision, &mut cells);
     if end < table.len() {
         return outermost::refused(reading::TABLE, end as u64);
+    }
+    if !table_index::is_revision(revision) {
+        return outermost::refused(reading::TABLE, 0);
     }
     outermost::lookup_under(&cells, number, message, tag, k)
 }
 
 // Returns the last of the outermost fields with a tag.
-pub fn lookup_last(table: &[u8], number: u64, message: &[u8], tag: u64) -> Found
-    ensures { λ r. ⌜ r ≡ lookupLastOctets (now (table .entry)) number (now (message .entry)) tag ⌝ }
+pub fn lookup_last(table: &[u8], revision: u64, number: u64, message: &[u8], tag: u64) -> Found
+    ensures { λ r. ⌜ r ≡ lookupLastOctets (now (table .entry)) revision number (now (message .entry)) tag ⌝ }
 {
     if reading::MESSAGE_LIMIT < message.len() {
         return outermost::refused(reading::TOO_LONG, 0);
     }
     let mut cells = [0u32; 128];
-    let end = table_index::index(table, &mut cells) * 8;
+    let end = table_index::index(table, revision, &mut cells);
     if end < table.len() {
         return outermost::refused(reading::TABLE, end as u64);
+    }
+    if !table_index::is_revision(revision) {
+        return outermost::refused(reading::TABLE, 0);
     }
     outermost::lookup_last_under(&cells, number, message, tag)
 }
 
 // The check under a table that was loaded.
-pub fn check_loaded(t: Table, number: u64, message: &[u8]) -> CheckedMessage
-    ensures { λ r. ⌜ r .checked ≡ check-of t number (now (message .entry)) ⌝ }
-    ensures { λ r. ⌜ r .shortest ≡ short t number (now (message .entry)) ⌝ }
+pub fn check_loaded(t: Table, revision: u64, number: u64, message: &[u8]) -> CheckedMessage
+    ensures { λ r. ⌜ r .checked ≡ check-of t revision number (now (message .entry)) ⌝ }
+    ensures { λ r. ⌜ r .shortest ≡ short t revision number (now (message .entry)) ⌝ }
 {
     let n = message.len();
     if reading::MESSAGE_LIMIT < n {
         return traversal::refused(reading::TOO_LONG, 0);
     }
     let mut index = [0u32; 128];
-    if !table_index::index_table(&t.words, t.count, &mut index) {
+    if !table_index::index_table(&t.words, t.count, revision, &mut index) {
+        return traversal::refused(reading::TABLE, 0);
+    }
+    if !table_index::is_revision(revision) {
         return traversal::refused(reading::TABLE, 0);
     }
     traversal::check_under(&index, number, message)
 }
 
 // The shortener under a table that was loaded. A table that the loader cannot return is rejected before the message is read.
-pub fn shorten_loaded(t: Table, number: u64, message: &[u8], out: &mut [u8]) -> Shortened
-    ensures { λ r. ⌜ r ≡ answer t number (now (message .entry)) (now (out .entry)) ⌝ }
-    ensures { λ r. ⌜ now (out .exit) ≡ buffer t number (now (message .entry)) (now (out .entry)) ⌝ }
+pub fn shorten_loaded(
+    t: Table,
+    revision: u64,
+    number: u64,
+    message: &[u8],
+    out: &mut [u8],
+) -> Shortened
+    ensures { λ r. ⌜ r ≡ answer t revision number (now (message .entry)) (now (out .entry)) ⌝ }
+    ensures { λ r. ⌜ now (out .exit) ≡ buffer t revision number (now (message .entry)) (now (out .entry)) ⌝ }
 {
     if reading::MESSAGE_LIMIT < message.len() {
         return shortest::refused(reading::TOO_LONG, 0);
     }
     let mut index = [0u32; 128];
-    if !table_index::index_table(&t.words, t.count, &mut index) {
+    if !table_index::index_table(&t.words, t.count, revision, &mut index) {
+        return shortest::refused(reading::TABLE, 0);
+    }
+    if !table_index::is_revision(revision) {
         return shortest::refused(reading::TABLE, 0);
     }
     shortest::shorten_under(&index, number, message, out)
 }
 
 // The two lookups under a table that was loaded.
-pub fn lookup_loaded(t: Table, number: u64, message: &[u8], tag: u64, k: u64) -> Found
-    ensures { λ r. ⌜ r ≡ lookup-of t number (now (message .entry)) tag k ⌝ }
+pub fn lookup_loaded(
+    t: Table,
+    revision: u64,
+    number: u64,
+    message: &[u8],
+    tag: u64,
+    k: u64,
+) -> Found
+    ensures { λ r. ⌜ r ≡ lookup-of t revision number (now (message .entry)) tag k ⌝ }
 {
-    outermost::look(t, number, message, tag, Occurrence::Nth(k))
+    outermost::look(t, revision, number, message, tag, Occurrence::Nth(k))
 }
 
-pub fn lookup_last_loaded(t: Table, number: u64, message: &[u8], tag: u64) -> Found
-    ensures { λ r. ⌜ r ≡ lookupLast t number (now (message .entry)) tag ⌝ }
+pub fn lookup_last_loaded(t: Table, revision: u64, number: u64, message: &[u8], tag: u64) -> Found
+    ensures { λ r. ⌜ r ≡ lookupLast t revision number (now (message .entry)) tag ⌝ }
 {
-    outermost::look(t, number, message, tag, Occurrence::Last)
+    outermost::look(t, revision, number, message, tag, Occurrence::Last)
 }

@@ -5,7 +5,7 @@ use message_field::Head;
 use table::Table;
 ghost use mathlib.Core.Path.{_≡_};
 ghost use Rattle.message_calls.specs.Lookup.{refusal, answer};
-ghost use Rattle.table_index.specs.internal.Cells.{indexed};
+ghost use Rattle.table_index.specs.internal.Cells.{indexed, OneOrder};
 ghost use Rattle.message_calls.specs.internal.LookupUnder.{lookUnder, lookupUnder, lookupLastUnder};
 ghost use Rattle.message_calls.specs.internal.Spans.{nthSpan, lastSpan, chosenSpan, uintIn, intIn, read};
 
@@ -135,6 +135,7 @@ fn contents(kind: u64, start: u64, s: &[u8]) -> Found
 // A lookup under any index. It checks the whole message before it looks for a field, so it also rejects a message with a fault after the
 // wanted field.
 fn look_under(cells: &[u32; 128], number: u64, message: &[u8], tag: u64, which: Occurrence) -> Found
+    requires { ⌜ OneOrder (now cells) ⌝ }
     ensures { λ r. ⌜ r ≡ lookUnder (indexed (now (cells .entry))) number (now (message .entry)) tag which ⌝ }
 {
     let c = traversal::check_under(cells, number, message);
@@ -162,26 +163,38 @@ pub(crate) fn lookup_under(
     tag: u64,
     k: u64,
 ) -> Found
+    requires { ⌜ OneOrder (now cells) ⌝ }
     ensures { λ r. ⌜ r ≡ lookupUnder (indexed (now (cells .entry))) number (now (message .entry)) tag k ⌝ }
 {
     look_under(cells, number, message, tag, Occurrence::Nth(k))
 }
 
 pub(crate) fn lookup_last_under(cells: &[u32; 128], number: u64, message: &[u8], tag: u64) -> Found
+    requires { ⌜ OneOrder (now cells) ⌝ }
     ensures { λ r. ⌜ r ≡ lookupLastUnder (indexed (now (cells .entry))) number (now (message .entry)) tag ⌝ }
 {
     look_under(cells, number, message, tag, Occurrence::Last)
 }
 
 // A lookup under a table. A table that the loader cannot return is rejected before the message is read.
-pub(crate) fn look(t: Table, number: u64, message: &[u8], tag: u64, which: Occurrence) -> Found
-    ensures { λ r. ⌜ r ≡ answer t number (now (message .entry)) tag which ⌝ }
+pub(crate) fn look(
+    t: Table,
+    revision: u64,
+    number: u64,
+    message: &[u8],
+    tag: u64,
+    which: Occurrence,
+) -> Found
+    ensures { λ r. ⌜ r ≡ answer t revision number (now (message .entry)) tag which ⌝ }
 {
     if reading::MESSAGE_LIMIT < message.len() {
         return refused(reading::TOO_LONG, 0);
     }
     let mut cells = [0u32; 128];
-    if !table_index::index_table(&t.words, t.count, &mut cells) {
+    if !table_index::index_table(&t.words, t.count, revision, &mut cells) {
+        return refused(reading::TABLE, 0);
+    }
+    if !table_index::is_revision(revision) {
         return refused(reading::TABLE, 0);
     }
     look_under(&cells, number, message, tag, which)

@@ -14,7 +14,7 @@ ghost use Rattle.octets.specs.Signed.{integer, leastInt};
 ghost use Rattle.octets.specs.Control.{leastControl, control as control-of};
 ghost use Rattle.octets_store.specs.Store.{stored};
 ghost use Rattle.octets_store.specs.internal.Moved.{moved};
-ghost use Rattle.table_index.specs.internal.Cells.{meaningOf, indexed};
+ghost use Rattle.table_index.specs.internal.Cells.{meaningOf, indexed, OneOrder};
 ghost use Rattle.message_field.specs.internal.Heads.{headAt};
 ghost use Rattle.message.specs.Cut.{Contents};
 ghost use Rattle.message.specs.internal.Accepts.{Accepts};
@@ -267,6 +267,7 @@ pub(crate) fn shorten_under(
     message: &[u8],
     out: &mut [u8],
 ) -> Shortened
+    requires { ⌜ OneOrder (now cells) ⌝ }
     ensures { λ r. ⌜ r ≡ shortenUnder (indexed (now (cells .entry))) number (now (message .entry)) (now (out .entry)) ⌝ }
     ensures { λ r. ⌜ now (out .exit) ≡ bufferUnder (indexed (now (cells .entry))) number (now (message .entry)) (now (out .entry)) ⌝ }
 {

@@ -1,13 +1,11 @@
--- `look` refuses a table that no loader gives, and looks under the index of any other.
-use native.Mathlib.Omega.{arith}
+-- `look` refuses a table that no loader gives, then a number that is no revision, and looks under the index otherwise.
 use mathlib.Core.Path.{sym, _∙_}
 use borrow.Author.Tests.{not-true, not-false}
+use Rattle.octets.proofs.Bools.{and-both}
 use Rattle.table_index.specs.internal.Cells.{indexed}
-use Rattle.table_index.proofs.IndexLaws.{table-valid, table-schema}
-use Rattle.reading.specs.Checks as answers
-use Rattle.message_calls.proofs.CheckAnswers.{too-long, bad-table}
-use Rattle.message_calls.specs.Lookup.{refusal}
-use Rattle.message_calls.proofs.LookupAnswers.{refused-first, answer-under}
+use Rattle.table_index.proofs.IndexLaws.{table-valid, table-schema, table-one-order}
+use Rattle.message_calls.proofs.CheckAnswers.{table-fails, revision-fails}
+use Rattle.message_calls.proofs.LookupAnswers.{answer-under, too-long-refused, bad-table-refused}
 use borrow.Author.Needs.{needs}
 use Rattle.message_calls.proofs.outermost.look.Statement.{statement}
 use Rattle.message_calls.proofs.outermost.look.Tie as tie
@@ -16,11 +14,9 @@ refused-requires : tie.Need-refused-requires
 refused-requires c κs = search needs
 
 returns : tie.Need-returns
-unfolding answers.refusal
 returns c =
     let a = c .before .before .before .args in
-    c .refused .ensures
-    ∙ refused-first (a .t1) (a .number) (a .message .now) (a .tag) (a .which) (answers.refusal 1 0) (too-long (a .t1) (a .number) (a .message .now) (c .before .if1 .taken)) (λ z. omega arith)
+    c .refused .ensures ∙ too-long-refused (a .t1) (a .revision) (a .number) (a .message .now) (a .tag) (a .which) (c .before .if1 .taken)
 
 index-table-requires : tie.Need-index-table-requires
 index-table-requires c κs = search needs
@@ -29,23 +25,48 @@ refused-requires-2 : tie.Need-refused-requires-2
 refused-requires-2 c κs = search needs
 
 returns-2 : tie.Need-returns-2
-unfolding answers.refusal
 returns-2 c =
     let a = c .before .before .before .before .before .before .before .before .args in
     let x = c .before .before .index-table in
-    let b = bad-table (a .t1) (a .number) (a .message .now) (c .before .before .before .before .before .before .if1 .left) (sym (table-valid (a .t1) (x .ensures .0)) ∙ not-true (x .result) (c .before .if2 .taken)) in
-    c .refused2 .ensures ∙ refused-first (a .t1) (a .number) (a .message .now) (a .tag) (a .which) (answers.refusal 2 0) b (λ z. omega arith)
+    let h = c .before .before .before .before .before .before .if1 .left in
+    let v = table-fails (a .t1) (a .revision) (sym (table-valid (a .revision) (a .t1) (x .ensures .0)) ∙ not-true (x .result) (c .before .if2 .taken)) in
+    c .refused2 .ensures ∙ bad-table-refused (a .t1) (a .revision) (a .number) (a .message .now) (a .tag) (a .which) h v
 
-look-under-requires : tie.Need-look-under-requires
-look-under-requires c κs = search needs
+is-revision-requires : tie.Need-is-revision-requires
+is-revision-requires c κs = search needs
+
+refused-requires-3 : tie.Need-refused-requires-3
+refused-requires-3 c κs = search needs
 
 returns-3 : tie.Need-returns-3
 returns-3 c =
-    let a = c .before .before .before .before .before .before .before .before .before .args in
-    let x = c .before .before .before .index-table in
-    let g = sym (table-valid (a .t1) (x .ensures .0)) ∙ not-false (x .result) (c .before .before .if2 .left) in
+    let d = c .before .before .before .before in
+    let a = d .before .before .before .before .before .before .args in
+    let w = c .before .before .is-revision in
+    let h = d .before .before .before .before .if1 .left in
+    let v = revision-fails (a .t1) (a .revision) (sym (w .ensures) ∙ not-true (w .result) (c .before .if3 .taken)) in
+    c .refused3 .ensures ∙ bad-table-refused (a .t1) (a .revision) (a .number) (a .message .now) (a .tag) (a .which) h v
+
+look-under-requires : tie.Need-look-under-requires
+look-under-requires c κs =
+    let d = c .before .before .before .before in
+    let a = d .before .before .before .before .before .before .args in
+    let x = d .index-table in
+    let v = sym (table-valid (a .revision) (a .t1) (x .ensures .0)) ∙ not-false (x .result) (c .before .before .before .if2 .left) in
+    table-one-order (a .revision) (a .t1) v (x .ensures .1)
+
+returns-4 : tie.Need-returns-4
+returns-4 c =
+    let d = c .before .before .before .before .before in
+    let a = d .before .before .before .before .before .before .args in
+    let x = d .index-table in
+    let w = c .before .before .before .is-revision in
+    let h = d .before .before .before .before .if1 .left in
+    let v = sym (table-valid (a .revision) (a .t1) (x .ensures .0)) ∙ not-false (x .result) (c .before .before .before .before .if2 .left) in
+    let g = and-both _ _ v (sym (w .ensures) ∙ not-false (w .result) (c .before .before .if3 .left)) in
+    let e = table-schema (a .revision) (a .t1) v (x .ensures .1) in
     c .look-under .ensures
-    ∙ answer-under (a .t1) (indexed (x .last .1 .1 .0)) (table-schema (a .t1) g (x .ensures .1)) (a .number) (a .message .now) (c .before .before .before .before .before .before .before .if1 .left) g (a .tag) (a .which)
+    ∙ answer-under (a .t1) (a .revision) (indexed (x .last .1 .1 .1 .0)) e (a .number) (a .message .now) h g (a .tag) (a .which)
 
 pub look-spec : {M : Type 1} → statement M
 look-spec =
@@ -56,5 +77,8 @@ look-spec =
     index-table-requires
     refused-requires-2
     returns-2
+    is-revision-requires
+    refused-requires-3
+    returns-3
     look-under-requires
-    returns-3)
+    returns-4)

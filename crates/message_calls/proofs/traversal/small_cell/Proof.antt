@@ -1,17 +1,16 @@
--- `small_code` tests what its definition tests.
+-- `small_cell` tests what its definition tests.
 use native.Mathlib.Omega.{arith}
-use mathlib.Core.Path.{ap, _∙_}
+use mathlib.Core.Path.{_∙_}
 use mathlib.Core.Logic.{⊎-elim}
 use denote.Ref.{now}
 use lib.Bits.{bitAnd, mask-lt}
 use lib.ListN.{length, getD}
 use Prim.Native.Nat.{_+_}
 use borrow.Author.Tests.{leb-true, leb-false, ltb-true, ltb-false}
-use Rattle.table_index.specs.internal.Cells.{codeIn}
-use Rattle.message_field.proofs.Nexts.{none-past, none-by-tag, none-by-length, none-by-end, code-found}
+use Rattle.message_field.proofs.Nexts.{none-past, none-by-tag, none-by-length, none-by-end, cell-found}
 use borrow.Author.Needs.{needs}
-use Rattle.message_calls.proofs.traversal.small_code.Statement.{statement}
-use Rattle.message_calls.proofs.traversal.small_code.Tie as tie
+use Rattle.message_calls.proofs.traversal.small_cell.Statement.{statement}
+use Rattle.message_calls.proofs.traversal.small_cell.Tie as tie
 
 returns : tie.Need-returns
 returns c =
@@ -54,21 +53,18 @@ cast-cell c = search needs
 cell-requires : tie.Need-cell-requires
 cell-requires c κs = search needs
 
-code-requires : tie.Need-code-requires
-code-requires c κs = search needs
-
 returns-3 : tie.Need-returns-3
 returns-3 c =
-    let k = c .before .before in
+    let k = c .before in
     let b = k .before .before .before .before in
     let a = b .before .before .args in
     let s = now (a .s) in
     let n = bitAnd (getD s (a .i) 0) 15 in
-    c .code .ensures ∙ ap codeIn (c .before .cell .ensures)
-    ∙ code-found (now (a .cells)) (a .number) s (a .i) (b .if1 .left) (k .before .before .if2 .left) (leb-false 12 n (k .before .if3 .left)) (ltb-false (length s) (a .i + 1 + n) (k .if4 .left))
+    c .cell .ensures
+    ∙ cell-found (now (a .cells)) (a .number) s (a .i) (b .if1 .left) (k .before .before .if2 .left) (leb-false 12 n (k .before .if3 .left)) (ltb-false (length s) (a .i + 1 + n) (k .if4 .left))
 
-pub small-code-spec : {M : Type 1} → statement M
-small-code-spec =
+pub small-cell-spec : {M : Type 1} → statement M
+small-cell-spec =
     tie.close
     (tie.spec
     returns
@@ -79,5 +75,4 @@ small-code-spec =
     returns-2
     cast-cell
     cell-requires
-    code-requires
     returns-3)
