@@ -3,8 +3,10 @@ use Prim.Native.Nat.{ℕ}
 use native.Mathlib.Omega.{arith}
 use mathlib.Core.Path.{_≡_, refl, sym, ap, _∙_, subst}
 use mathlib.Core.List.{List}
-use Rattle.table.specs.Schema.{schema}
+use Rattle.table.specs.Schema.{isRevision, schema}
+use Rattle.table.specs.Valid.{valid}
 use Rattle.table.specs.declared.Table.{Table}
+use Rattle.octets.proofs.Bools.{and-both}
 use Rattle.message.specs.Tree.{Tree, tree}
 use Rattle.message.specs.Shortest.{shortest}
 use Rattle.message.proofs.Accepted.{accepted-exactly}
@@ -28,11 +30,11 @@ use Rattle.writer_laws.proofs.Refused.{start-refused, refusals}
 use Rattle.writer_laws.proofs.Unchanged.{refused-unchanged, finish-unchanged}
 use Rattle.writer_laws.proofs.Zeros.{zeros}
 
-module _ (t : Table) (number : ℕ) (lent : List ℕ) (s : State) (d : List ℕ) where
-  whole-reads : (w : Tree) → Reached t number lent s d (message w) → Demand2 check t number lent (s .start) d (message w)
+module _ (t : Table) (revision number : ℕ) (lent : List ℕ) (s : State) (d : List ℕ) where
+  whole-reads : (w : Tree) → Reached t revision number lent s d (message w) → Demand2 check t revision number lent (s .start) d (message w)
   unfolding written AllRead treeCounts counts
   whole-reads w r =
-      let sc = schema t in
+      let sc = schema revision t in
       let back = r .reads in
       let p = r .filled .place in
       let limit = r .limit in
@@ -43,7 +45,7 @@ module _ (t : Table) (number : ℕ) (lent : List ℕ) (s : State) (d : List ℕ)
         octets = shortest w;
         stand = filled-end lent d (s .start) (shortest w) (r .filled);
         accepted =
-            read-through t number (shortest w) (omega arith) (r .good-table) (r .good-number) ∙ ap (treeCounts sc number) read
+            read-through t revision number (shortest w) (omega arith) (and-both (valid t) (isRevision revision) (r .good-table) (r .good-revision)) (r .good-number) ∙ ap (treeCounts sc number) read
             ∙ rw (back .is) refl;
         cut = back .cut;
         good = back .good;
@@ -51,7 +53,7 @@ module _ (t : Table) (number : ℕ) (lent : List ℕ) (s : State) (d : List ℕ)
         is-shortest = rw (← back .is) (others-more sc number (shortest (tree sc number (back .cut))) (back .cut) (rw (back .is) (back .good)));
       }
 
-  finished-whole : (g : Given) → refusalOfFinish g ≡ 0 → Reached t number lent s d g → Demand2 check t number lent (s .start) d g
+  finished-whole : (g : Given) → refusalOfFinish g ≡ 0 → Reached t revision number lent s d g → Demand2 check t revision number lent (s .start) d g
   unfolding refusalOfFinish
   finished-whole (message w) e r = whole-reads w r
   finished-whole (opened tag w around) e r = absurd (omega arith)
@@ -60,15 +62,15 @@ module _ (t : Table) (number : ℕ) (lent : List ℕ) (s : State) (d : List ℕ)
   unfolding finished
   finish-place e = rw e refl
 
-  after-run : (g : Given) → Run writer t number lent s d g → AfterRun check writer t number lent s d g
+  after-run : (g : Given) → Run writer t revision number lent s d g → AfterRun check writer t revision number lent s d g
   after-run g run =
-      let r = run-reached t number lent s d g run in
-      let next = refusals t number lent s d g run in
+      let r = run-reached t revision number lent s d g run in
+      let next = refusals t revision number lent s d g run in
       record {
         refusals = next;
         stand = filled-end lent d (s .start) (written g) (r .filled);
         finished =
-            λ e. subst (λ (from : ℕ). Demand2 check t number lent from d g) (sym (finish-place e)) (finished-whole g (sym (next .finish) ∙ e) r);
+            λ e. subst (λ (from : ℕ). Demand2 check t revision number lent from d g) (sym (finish-place e)) (finished-whole g (sym (next .finish) ∙ e) r);
       }
 
 pub demand-2 : Demand2Holds check writer

@@ -17,12 +17,12 @@ use Rattle.writer_laws.specs.Written.{written}
 use Rattle.writer_laws.proofs.Tables.{inner-small}
 use Rattle.writer_laws.proofs.Falling.{falling-last, small-last}
 
-module _ (t : Table) (number len : ℕ) where
+module _ (t : Table) (revision number len : ℕ) where
   -- The entries of the state for an open field. The octets before its mark are its contents, those from the mark on lie around it.
   pub record FieldAgrees (numbers marks tags : List ℕ) (tag : ℕ) (w : Tree) (around : Given) : Type 0 where
     pub tag-agrees : getD tags (openFields around) 0 ≡ tag
     pub mark-agrees : getD marks (openFields around) 0 + length (written around) ≡ len
-    pub number-agrees : getD numbers (suc (openFields around)) 0 ≡ innermost (schema t) number (opened tag w around)
+    pub number-agrees : getD numbers (suc (openFields around)) 0 ≡ innermost (schema revision t) number (opened tag w around)
 
   unfoldable pub LevelsAgree : List ℕ → List ℕ → List ℕ → Given → Type 0
   LevelsAgree numbers marks tags (message w) = getD numbers 0 0 ≡ number
@@ -30,7 +30,7 @@ module _ (t : Table) (number len : ℕ) where
 
   module _ (numbers marks tags : List ℕ) where
     -- The number that the state has for the innermost message is its message number.
-    pub levels-number : (g : Given) → LevelsAgree numbers marks tags g → getD numbers (openFields g) 0 ≡ innermost (schema t) number g
+    pub levels-number : (g : Given) → LevelsAgree numbers marks tags g → getD numbers (openFields g) 0 ≡ innermost (schema revision t) number g
     unfolding LevelsAgree openFields innermost
     levels-number (message w) n = n
     levels-number (opened tag w around) n = n .0 .number-agrees
@@ -61,7 +61,7 @@ module _ (t : Table) (number len : ℕ) where
     levels-small v s (opened tag w around) h n =
         let k = suc (openFields around) in
         let e = n .0 .number-agrees in
-        let l = inner-small t (innermost (schema t) number around) tag v in
+        let l = inner-small revision t (innermost (schema revision t) number around) tag v in
         rw (take-suc numbers k 0 h) (small-last (getD numbers k 0) (take k numbers) (omega arith)
         (levels-small v s around (omega arith) (n .1)))
 
@@ -82,12 +82,12 @@ module _ (t : Table) (number len : ℕ) where
 
     pub levels-opened : (tag start : ℕ) (g : Given) → suc (openFields g) < length numbers → openFields g < length marks → openFields g < length tags
         → start + length (written g) ≡ len → LevelsAgree numbers marks tags g
-        → LevelsAgree (set numbers (suc (openFields g)) (innermost (schema t) number (opened tag end g))) (set marks (openFields g) start)
+        → LevelsAgree (set numbers (suc (openFields g)) (innermost (schema revision t) number (opened tag end g))) (set marks (openFields g) start)
         (set tags (openFields g) tag) (opened tag end g)
     unfolding LevelsAgree
     levels-opened tag start g a b d e n =
         let k = openFields g in
-        let m = innermost (schema t) number (opened tag end g) in (
+        let m = innermost (schema revision t) number (opened tag end g) in (
           record {
             tag-agrees = getD-set-same tags k tag 0 d;
             mark-agrees = ap (λ (x : ℕ). x + length (written g)) (getD-set-same marks k start 0 b) ∙ e;

@@ -3,6 +3,7 @@ pub mod Tables
 pub mod Falling
 pub mod Fields
 pub mod Levels
+pub mod Masks
 pub mod Buffer
 pub mod Reached
 pub mod Moves

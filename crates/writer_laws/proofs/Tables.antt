@@ -21,8 +21,12 @@ use Rattle.octets.proofs.Bools.{and-left, and-right}
 entry-small : (e : Entry) → inRange e ≡ true → innerOf (meaning e) ≤ 15
 unfolding inRange meaning innerOf
 entry-small e h = kinds (eqb (e .kind) 1) (eqb (e .kind) 2) (eqb (e .kind) 3) (eqb (e .kind) 4) (eqb (e .kind) 5)
-    (and-right (ltb (e .number) 16 && leb 1 (e .kind) && leb (e .kind) 5) (cond (eqb (e .kind) 5) (ltb (e .inner) 16) (eqb (e .inner) 0)) h)
+    (and-right (ltb (e .number) 16 && leb 1 (e .kind) && leb (e .kind) 5) inner-fits
+    (and-left (ltb (e .number) 16 && leb 1 (e .kind) && leb (e .kind) 5 && inner-fits) (ltb (e .mark) 2) h))
   where
+    inner-fits : Bool
+    inner-fits = cond (eqb (e .kind) 5) (ltb (e .inner) 16) (eqb (e .inner) 0)
+
     kinds : (a b c d f : Bool) → cond f (ltb (e .inner) 16) (eqb (e .inner) 0) ≡ true
         → innerOf (cond a Uint (cond b Int (cond c String (cond d Text (cond f (Message (e .inner)) Raw))))) ≤ 15
     kinds true b c d f h = omega arith
@@ -45,9 +49,9 @@ words-small (w ∷ ws) number tag h =
     (words-small ws number tag (and-right (inRange (entry w)) (allInRange ws) h))
 
 -- No inner number of a valid table is above 15.
-pub inner-small : (t : Table) (number tag : ℕ) → valid t ≡ true → innerOf (schema t .means number tag) ≤ 15
+pub inner-small : (revision : ℕ) (t : Table) (number tag : ℕ) → valid t ≡ true → innerOf (schema revision t .means number tag) ≤ 15
 unfolding valid schema schemaOf entries
-inner-small t number tag v =
+inner-small revision t number tag v =
     let used = take (t .count) (t .words) in
     let a = leb (t .count) 64 in
     let b = allInRange used in

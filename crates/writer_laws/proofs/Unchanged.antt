@@ -23,7 +23,7 @@ module _ (t : Table) (s : State) (d : List ℕ) where
       → (put t s tag agrees reads xs (length d) .state ≡ s) × (putBuffer t s tag agrees reads xs d ≡ d)
   unfolding put putBuffer callResult bufferAfter
   put-unchanged tag agrees reads xs ne =
-      let e = ne-eqb (putRefusal t s (length d) agrees reads (length (field tag xs))) 0 ne in
+      let e = ne-eqb (putRefusal t s tag (length d) agrees reads (length (field tag xs))) 0 ne in
       (rw e refl, rw e refl)
 
   pub refused-unchanged : (c : Call) → (answer t s d c .refusal ≡ 0 → ⊥) → Unchanged writer t s d c
@@ -38,7 +38,7 @@ module _ (t : Table) (s : State) (d : List ℕ) where
       let u = put-unchanged tag (ofOctets (kindNumber (meant t s tag))) (readable (kindNumber (meant t s tag)) xs) xs ne in
       record { same-state = u .0; same-buffer = u .1 }
   refused-unchanged (openField tag) ne =
-      let e = ne-eqb (openRefusal t s (eqb (kindNumber (meant t s tag)) 5)) 0 ne in
+      let e = ne-eqb (openRefusal t s tag (eqb (kindNumber (meant t s tag)) 5)) 0 ne in
       record { same-state = rw e refl; same-buffer = refl }
   refused-unchanged closeField ne =
       let e = ne-eqb (closeRefusal t s (length d)) 0 ne in

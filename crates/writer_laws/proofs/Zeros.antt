@@ -18,9 +18,9 @@ call-place t s d (putOctets tag xs) = refl
 call-place t s d (openField tag) = refl
 call-place t s d closeField = refl
 
-start-zeros : (t : Table) (number len : ℕ) → (started t number len .refusal ≡ 0 → ⊥) → started t number len .state ≡ noState
+start-zeros : (t : Table) (revision number len : ℕ) → (started t revision number len .refusal ≡ 0 → ⊥) → started t revision number len .state ≡ noState
 unfolding started callResult begun
-start-zeros t number len ne = rw (ne-eqb (startRefusal t number len) 0 ne) refl
+start-zeros t revision number len ne = rw (ne-eqb (startRefusal t revision number len) 0 ne) refl
 
 finish-zero : (s : State) → (finished s .refusal ≡ 0 → ⊥) → finished s .start ≡ 0
 unfolding finished
@@ -30,7 +30,7 @@ pub zeros : Zeros writer
 unfolding started callResult finished
 zeros =
     record {
-      start-place = λ t number len. refl;
+      start-place = λ t revision number len. refl;
       call-place = call-place;
       finish-place = λ s. refl;
       start-refused = start-zeros;

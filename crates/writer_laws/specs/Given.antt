@@ -1,7 +1,9 @@
 -- The fields that calls of the writer give.
 use Prim.Native.Nat.{ℕ, suc}
+use mathlib.Core.List.{List, map}
 use Rattle.table.specs.Entry.{innerOf}
 use Rattle.table.specs.Schema.{Schema}
+use Rattle.message.specs.Items.{items, itemTag}
 use Rattle.message.specs.Tree.{Tree, nested}
 
 -- The fields given so far. `message w`: nothing is open, and w holds the fields of the outermost message. `opened tag w around`: a
@@ -20,6 +22,14 @@ onFields f (opened tag w around) = opened tag (f w) around
 unfoldable pub closed : Given → Given
 closed (message w) = message w
 closed (opened tag w around) = onFields (nested tag w) around
+
+-- The tags of the fields of a message, and of those given in the innermost message. A field that is still open is not among them.
+unfoldable pub tagsOf : Tree → List ℕ
+tagsOf w = map itemTag (items w)
+
+unfoldable pub tagsGiven : Given → List ℕ
+tagsGiven (message w) = tagsOf w
+tagsGiven (opened tag w around) = tagsOf w
 
 -- How many message fields are open.
 unfoldable pub openFields : Given → ℕ

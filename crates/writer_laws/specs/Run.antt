@@ -23,26 +23,26 @@ InRange (putOctets tag xs) = Unit {0}
 InRange (openField tag) = Unit {0}
 InRange closeField = Unit {0}
 
--- The number of the kind that a tag has in the innermost message, under a table and the number of the outermost message.
-unfoldable pub kindIn : Table → ℕ → Given → ℕ → ℕ
-kindIn t number g tag = kindNumber (schema t .means (innermost (schema t) number g) tag)
+-- The number of the kind that a tag has in the innermost message, under a table, a revision and the number of the outermost message.
+unfoldable pub kindIn : Table → ℕ → ℕ → Given → ℕ → ℕ
+kindIn t revision number g tag = kindNumber (schema revision t .means (innermost (schema revision t) number g) tag)
 
 -- Octets as a value of a kind: text for kind 4, else string.
 unfoldable pub octetsAs : ℕ → List ℕ → Value
 octetsAs kind xs = cond (eqb kind 4) (text xs) (string xs)
 
--- The fields given after a call, under a table and the number of the outermost message.
-unfoldable pub giving : Table → ℕ → Call → Given → Given
-giving t number (putUint tag v) g = onFields (leaf tag (uint v)) g
-giving t number (putInt tag z) g = onFields (leaf tag (int z)) g
-giving t number (putOctets tag xs) g = onFields (leaf tag (octetsAs (kindIn t number g tag) xs)) g
-giving t number (openField tag) g = opened tag end g
-giving t number closeField g = closed g
+-- The fields given after a call, under a table, a revision and the number of the outermost message.
+unfoldable pub giving : Table → ℕ → ℕ → Call → Given → Given
+giving t revision number (putUint tag v) g = onFields (leaf tag (uint v)) g
+giving t revision number (putInt tag z) g = onFields (leaf tag (int z)) g
+giving t revision number (putOctets tag xs) g = onFields (leaf tag (octetsAs (kindIn t revision number g tag) xs)) g
+giving t revision number (openField tag) g = opened tag end g
+giving t revision number closeField g = closed g
 
--- A run of a writer under a table, with a message number, over a lent buffer: the state and the buffer after its last call, and the fields
--- that its calls gave.
-pub data Run (w : Writer) (t : Table) (number : ℕ) (lent : List ℕ) : State → List ℕ → Given → Type 0 where
-  start : w .start t number (length lent) .refusal ≡ 0
-      → Run w t number lent (w .start t number (length lent) .state) lent (message end)
-  next : (s : State) (d : List ℕ) (g : Given) → Run w t number lent s d g → (c : Call) → InRange c → w .answer t s d c .refusal ≡ 0
-      → Run w t number lent (w .answer t s d c .state) (w .buffer t s d c) (giving t number c g)
+-- A run of a writer under a table and a revision, with a message number, over a lent buffer: the state and the buffer after its last call, and
+-- the fields that its calls gave.
+pub data Run (w : Writer) (t : Table) (revision number : ℕ) (lent : List ℕ) : State → List ℕ → Given → Type 0 where
+  start : w .start t revision number (length lent) .refusal ≡ 0
+      → Run w t revision number lent (w .start t revision number (length lent) .state) lent (message end)
+  next : (s : State) (d : List ℕ) (g : Given) → Run w t revision number lent s d g → (c : Call) → InRange c → w .answer t s d c .refusal ≡ 0
+      → Run w t revision number lent (w .answer t s d c .state) (w .buffer t s d c) (giving t revision number c g)

@@ -68,16 +68,18 @@ module _ (t : Table) (s : State) (d : List ℕ) where
     pub answer : r ≡ writes.answer t s d closeField
     pub buffer : after ≡ writes.buffer t s d closeField
 
-  close-refused : (got : ℕ) → got ≡ closeRefusal t s (length d) → (got ≡ 0 → ⊥) → CloseDone (record { refusal = got; place = 0; state = s }) d
+  close-refused : (got : ℕ) → got ≡ closeRefusal t s (length d) → (got ≡ 0 → ⊥) → {r : Written} → r ≡ record { refusal = got; place = 0; state = s }
+      → CloseDone r d
   unfolding writes.answer writes.buffer closing closeBuffer
-  close-refused got e ne =
+  close-refused got e ne q =
       let size = length (closingPart s) in
       record {
-        answer = refused-result got (closeRefusal t s (length d)) s (outer (back s size)) s e ne refl;
+        answer = q ∙ refused-result got (closeRefusal t s (length d)) s (outer (back s size)) s e ne refl;
         buffer = refused-buffer got (closeRefusal t s (length d)) d (stored d (s .start - size) (closingPart s)) e ne;
       }
 
-  pub close-early : (got : ℕ) → got ≡ closeEarly t s (length d) 0 → (got ≡ 0 → ⊥) → CloseDone (record { refusal = got; place = 0; state = s }) d
+  pub close-early : (got : ℕ) → got ≡ closeEarly t s (length d) 0 → (got ≡ 0 → ⊥) → {r : Written} → r ≡ record { refusal = got; place = 0; state = s }
+      → CloseDone r d
   unfolding closeRefusal
   close-early got e ne = close-refused got (close-kept t s (length d) got e (orRefuse (leb (length (closingPart s)) (s .start)) 9 0) ne) ne
 
@@ -88,18 +90,31 @@ module _ (t : Table) (s : State) (d : List ℕ) where
         let f : orRefuse (leb (length (closingPart s)) (s .start)) 9 0 ≡ 9 = rw (lt-leb (length (closingPart s)) (s .start) h) refl in
         sym (close-decides t s (length d) (orRefuse (leb (length (closingPart s)) (s .start)) 9 0) m ∙ f)
 
-    pub close-long : s .start < length (closingPart s) → CloseDone (record { refusal = 9; place = 0; state = s }) d
+    pub close-long : s .start < length (closingPart s) → {r : Written} → r ≡ record { refusal = 9; place = 0; state = s } → CloseDone r d
     close-long h = close-refused 9 (no-room h) (λ z. omega arith)
+
+    -- The state after a close that stored `size` octets.
+    abbrev closed-state : ℕ → State
+    closed-state size =
+        record {
+          length = s .length;
+          start = s .start - size;
+          opened = s .opened - 1;
+          revision = s .revision;
+          numbers = s .numbers;
+          masks = s .masks;
+          marks = s .marks;
+          tags = s .tags;
+        }
 
     pub close-accepted : (after : List ℕ) (size : ℕ) → size ≡ length (closingPart s) → size ≤ s .start
         → after ≡ stored d (s .start - size) (closingPart s)
-        → CloseDone (record { refusal = 0; place = 0; state = record { length = s .length; start = s .start - size; opened = s .opened - 1; numbers = s .numbers; marks = s .marks; tags = s .tags } }) after
+        → CloseDone (record { refusal = 0; place = 0; state = closed-state size }) after
     unfolding writes.answer writes.buffer closing closeBuffer closeRefusal orRefuse outer back
     close-accepted after size e h b =
         let part = length (closingPart s) in
         let z : closeRefusal t s (length d) ≡ 0 = close-decides t s (length d) (orRefuse (leb part (s .start)) 9 0) m ∙ rw (le-leb part (s .start) (omega arith)) refl in
-        let r : State = record { length = s .length; start = s .start - size; opened = s .opened - 1; numbers = s .numbers; marks = s .marks; tags = s .tags } in
         record {
-          answer = accepted-result (closeRefusal t s (length d)) s (outer (back s part)) r z (rw e refl);
+          answer = accepted-result (closeRefusal t s (length d)) s (outer (back s part)) (closed-state size) z (rw e refl);
           buffer = accepted-buffer (closeRefusal t s (length d)) d (stored d (s .start - part) (closingPart s)) after z (b ∙ rw e refl);
         }

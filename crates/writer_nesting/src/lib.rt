@@ -3,42 +3,46 @@ use table::Table;
 use writer_state::State;
 use writer_state::Written;
 ghost use mathlib.Core.Path.{_≡_};
-ghost use Prim.Native.Nat.{_-_};
+ghost use Prim.Native.Nat.{_-_, _≤_};
 ghost use mathlib.Core.List.{[]};
 ghost use Rattle.writer_state.specs.Call.{openField, closeField};
 ghost use Rattle.writer_state.specs.Answer.{answer, buffer};
-ghost use Rattle.writer_state.specs.Calls.{closeEarly};
+ghost use Rattle.writer_state.specs.Calls.{masked, deeper as deeper-of, closeEarly};
+
+// Returns the state one level deeper: a field with a tag and a message number is open, and the message around it has the mask `mask`. Nothing is
+// noted in the new message.
+fn deeper(s: State, tag: u16, number: u64, mask: u64) -> State
+    requires { ⌜ s .opened ≤ 6 ⌝ }
+    ensures { λ r. ⌜ r ≡ deeper-of (masked s mask) tag number ⌝ }
+{
+    let k = s.opened;
+    let mut after = s;
+    after.opened = k + 1;
+    after.numbers[k + 1] = number;
+    after.masks[k] = mask;
+    after.masks[k + 1] = 0;
+    after.marks[k] = s.start;
+    after.tags[k] = tag;
+    after
+}
 
 // Opens a message field. Its mark is the offset at which its contents end: the fields that are put until it is closed lie before the
-// mark. Refusals, all at place 0: STATE, TABLE, TAG_OR_KIND, TOO_DEEP if seven fields are open.
+// mark. The field is noted in the message that it stands in, and nothing is noted in the new one. Refusals, all at place 0: STATE, TABLE,
+// TAG_OR_KIND, REPEATED, TOO_DEEP if seven fields are open.
 pub fn open_field(t: Table, s: State, tag: u64) -> Written
     ensures { λ r. ⌜ r ≡ answer t s [] (openField tag) ⌝ }
 {
     let tagged = writer_state::tag_kind(t, s, s.length, tag, 5);
     if tagged.refusal != 0 {
-        return Written {
-            refusal: tagged.refusal,
-            place: 0,
-            state: s,
-        };
+        return writer_state::refused(tagged.refusal, s);
     }
     if 6 < s.opened {
-        return Written {
-            refusal: reading::TOO_DEEP,
-            place: 0,
-            state: s,
-        };
+        return writer_state::refused(reading::TOO_DEEP, s);
     }
-    let k = s.opened;
-    let mut after = s;
-    after.opened = k + 1;
-    after.numbers[k + 1] = tagged.inner;
-    after.marks[k] = s.start;
-    after.tags[k] = tag as u16;
     Written {
         refusal: 0,
         place: 0,
-        state: after,
+        state: deeper(s, tag as u16, tagged.inner, tagged.mask),
     }
 }
 
@@ -80,11 +84,7 @@ pub fn close_field(t: Table, s: State, out: &mut [u8]) -> Written
 {
     let refusal = close_early(t, s, out.len());
     if refusal != 0 {
-        return Written {
-            refusal,
-            place: 0,
-            state: s,
-        };
+        return writer_state::refused(refusal, s);
     }
     let k = s.opened - 1;
     let tag = s.tags[k];
@@ -92,11 +92,7 @@ pub fn close_field(t: Table, s: State, out: &mut [u8]) -> Written
     let n = less(mark, s.start) as u64;
     let size = octets_put::control_size(tag, n);
     if s.start < size {
-        return Written {
-            refusal: reading::NO_ROOM,
-            place: 0,
-            state: s,
-        };
+        return writer_state::refused(reading::NO_ROOM, s);
     }
     let mut after = s;
     after.start = s.start - size;

@@ -14,9 +14,22 @@ ghost use Rattle.table.specs.Entry.{kindNumber};
 ghost use Rattle.message.specs.Shortest.{field};
 ghost use Rattle.writer_state.specs.Call.{putUint, putInt, putOctets};
 ghost use Rattle.writer_state.specs.Answer.{answer, buffer};
-ghost use Rattle.writer_state.specs.Calls.{meant, readable as readable-of, put, putBuffer};
+ghost use Rattle.writer_state.specs.Calls.{meant, masked as masked-of, readable as readable-of, put, putBuffer};
 ghost use Rattle.writer_state.specs.internal.Tags.{fits};
 ghost use Rattle.writer_put.specs.internal.Stores.{Before};
+
+// Returns a state in which the innermost message has another mask. In a state with too many open fields nothing changes.
+fn masked(s: State, mask: u64) -> State
+    ensures { λ r. ⌜ r ≡ masked-of s mask ⌝ }
+{
+    let k = s.opened;
+    if 7 < k {
+        return s;
+    }
+    let mut after = s;
+    after.masks[k] = mask;
+    after
+}
 
 // Returns whether a field with n octets of contents fits into the free octets. The sum could overflow, so n is compared first.
 fn has_room(free: usize, tag: u16, n: usize) -> bool
@@ -77,20 +90,12 @@ fn put_least(t: Table, s: State, tag: u64, wanted: u64, least: Least, out: &mut 
 {
     let k = writer_state::tag_kind(t, s, out.len(), tag, wanted);
     if k.refusal != 0 {
-        return Written {
-            refusal: k.refusal,
-            place: 0,
-            state: s,
-        };
+        return writer_state::refused(k.refusal, s);
     }
+    let mut after = masked(s, k.mask);
     if !has_room(s.start, tag as u16, least.width as usize) {
-        return Written {
-            refusal: reading::NO_ROOM,
-            place: 0,
-            state: s,
-        };
+        return writer_state::refused(reading::NO_ROOM, s);
     }
-    let mut after = s;
     after.start = store_number(out, s.start, tag as u16, least);
     Written {
         refusal: 0,
@@ -99,7 +104,7 @@ fn put_least(t: Table, s: State, tag: u64, wanted: u64, least: Least, out: &mut 
     }
 }
 
-// Puts a uint field. Refusals, all at place 0: STATE, TABLE, TAG_OR_KIND, NO_ROOM.
+// Puts a uint field. Refusals, all at place 0: STATE, TABLE, TAG_OR_KIND, REPEATED, NO_ROOM.
 pub fn put_uint(t: Table, s: State, tag: u64, v: u64, out: &mut [u8]) -> Written
     ensures { λ r. ⌜ r ≡ answer t s (now (out .entry)) (putUint tag v) ⌝ }
     ensures { λ r. ⌜ now (out .exit) ≡ buffer t s (now (out .entry)) (putUint tag v) ⌝ }
@@ -115,34 +120,22 @@ pub fn put_int(t: Table, s: State, tag: u64, v: i64, out: &mut [u8]) -> Written
     put_least(t, s, tag, 2, octets_least::int_least(v), out)
 }
 
-// Puts a string or a text field. Refusals, all at place 0: STATE, TABLE, TAG_OR_KIND, TEXT for a text field only, NO_ROOM.
+// Puts a string or a text field. Refusals, all at place 0: STATE, TABLE, TAG_OR_KIND, REPEATED, TEXT for a text field only, NO_ROOM.
 pub fn put_octets(t: Table, s: State, tag: u64, xs: &[u8], out: &mut [u8]) -> Written
     ensures { λ r. ⌜ r ≡ answer t s (now (out .entry)) (putOctets tag (now (xs .entry))) ⌝ }
     ensures { λ r. ⌜ now (out .exit) ≡ buffer t s (now (out .entry)) (putOctets tag (now (xs .entry))) ⌝ }
 {
     let k = writer_state::tag_kind(t, s, out.len(), tag, 3);
     if k.refusal != 0 {
-        return Written {
-            refusal: k.refusal,
-            place: 0,
-            state: s,
-        };
+        return writer_state::refused(k.refusal, s);
     }
+    let mut after = masked(s, k.mask);
     if !readable(k.kind, xs) {
-        return Written {
-            refusal: reading::TEXT,
-            place: 0,
-            state: s,
-        };
+        return writer_state::refused(reading::TEXT, s);
     }
     if !has_room(s.start, tag as u16, xs.len()) {
-        return Written {
-            refusal: reading::NO_ROOM,
-            place: 0,
-            state: s,
-        };
+        return writer_state::refused(reading::NO_ROOM, s);
     }
-    let mut after = s;
     after.start = store_plain(out, s.start, tag as u16, xs);
     Written {
         refusal: 0,

@@ -9,7 +9,7 @@ use Rattle.table.specs.declared.Table.{Table}
 use Rattle.message.specs.Shortest.{field}
 use Rattle.octets_store.specs.Store.{stored}
 use Rattle.octets_store.proofs.Stores.{drop-stored}
-use Rattle.writer_state.specs.Calls.{callResult, bufferAfter, back, put, putBuffer, putRefusal, closingPart, closeRefusal, closing, closeBuffer, outer}
+use Rattle.writer_state.specs.Calls.{callResult, bufferAfter, back, masked, put, putBuffer, putRefusal, closingPart, closeRefusal, closing, closeBuffer, outer}
 use Rattle.writer_state.specs.declared.State.{State}
 use Rattle.writer_state.proofs.Conditions.{put-met, close-room}
 use Rattle.writer_state.proofs.SoundStates.{sound-within}
@@ -21,16 +21,16 @@ before-others d start xs h k =
     let e : start - length xs + length xs ≡ start = omega arith in
     drop-stored d (start - length xs) xs (omega arith) ∙ rw e refl
 
-module _ (t : Table) (s : State) (tag : ℕ) (agrees reads : Bool) (xs d : List ℕ) (e : putRefusal t s (length d) agrees reads (length (field tag xs)) ≡ 0) where
+module _ (t : Table) (s : State) (tag : ℕ) (agrees reads : Bool) (xs d : List ℕ) (e : putRefusal t s tag (length d) agrees reads (length (field tag xs)) ≡ 0) where
   -- An accepted put moves the start down by the octets of its field.
   pub put-start : put t s tag agrees reads xs (length d) .state .start ≡ s .start - length (field tag xs)
-  unfolding put callResult back
+  unfolding put callResult masked back
   put-start = rw e refl
 
   pub put-adds : drop (s .start - length (field tag xs)) (putBuffer t s tag agrees reads xs d) ≡ field tag xs ++ drop (s .start) d
   unfolding putBuffer bufferAfter
   put-adds =
-      let m = put-met t s (length d) agrees reads (length (field tag xs)) e in
+      let m = put-met t s tag (length d) agrees reads (length (field tag xs)) e in
       let w = sound-within s (m .good) in
       let l = m .same in
       rw e (before-others d (s .start) (field tag xs) (m .room) (omega arith))

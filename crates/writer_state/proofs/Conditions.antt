@@ -2,15 +2,16 @@
 use Prim.Native.Nat.{ℕ, _≤_, _<_}
 use native.Mathlib.Omega.{arith}
 use mathlib.Core.Path.{_≡_, refl}
-use mathlib.Core.Bool.{Bool, true, false}
+use mathlib.Core.Bool.{Bool, true, false, not}
 use lib.ListN.{length}
 use lib.Dec.{leb, eqb}
-use borrow.Author.Tests.{leb-true, eqb-true}
+use borrow.Author.Tests.{leb-true, eqb-true, not-true}
 use Rattle.reading.specs.Reading.{messageLimit}
+use Rattle.table.specs.Schema.{isRevision}
 use Rattle.table.specs.Valid.{valid}
 use Rattle.table.specs.declared.Table.{Table}
 use Rattle.writer_state.specs.Sound.{sound}
-use Rattle.writer_state.specs.Calls.{orRefuse, startRefusal, putRefusal, openRefusal, closingPart, closeEarly, closeRefusal}
+use Rattle.writer_state.specs.Calls.{orRefuse, noted, startRefusal, putRefusal, openRefusal, closingPart, closeEarly, closeRefusal}
 use Rattle.writer_state.specs.declared.State.{State}
 
 -- If a chain of tests gives no refusal, its first test holds and the rest of the chain gives no refusal.
@@ -19,35 +20,40 @@ unfolding orRefuse
 passed true n next h e = (refl, e)
 passed false n next h e = absurd (omega arith)
 
-module _ (t : Table) (number len : ℕ) where
+module _ (t : Table) (revision number len : ℕ) where
   pub record StartMet : Type 0 where
     pub within-limit : len ≤ messageLimit
     pub table : valid t ≡ true
+    pub profile : isRevision revision ≡ true
     pub small : number ≤ 15
 
-  pub start-met : startRefusal t number len ≡ 0 → StartMet
+  pub start-met : startRefusal t revision number len ≡ 0 → StartMet
   unfolding startRefusal
   start-met e =
-      let n2 = orRefuse (leb number 15) 2 0 in
+      let n3 = orRefuse (leb number 15) 2 0 in
+      let n2 = orRefuse (isRevision revision) 2 n3 in
       let n1 = orRefuse (valid t) 2 n2 in
       let a = passed (leb len messageLimit) 1 n1 (omega arith) e in
       let b = passed (valid t) 2 n2 (omega arith) (a .1) in
-      let d = passed (leb number 15) 2 0 (omega arith) (b .1) in
-      record { within-limit = leb-true len messageLimit (a .0); table = b .0; small = leb-true number 15 (d .0) }
+      let d = passed (isRevision revision) 2 n3 (omega arith) (b .1) in
+      let f = passed (leb number 15) 2 0 (omega arith) (d .1) in
+      record { within-limit = leb-true len messageLimit (a .0); table = b .0; profile = d .0; small = leb-true number 15 (f .0) }
 
-module _ (t : Table) (s : State) (len : ℕ) (agrees reads : Bool) (size : ℕ) where
+module _ (t : Table) (s : State) (tag len : ℕ) (agrees reads : Bool) (size : ℕ) where
   pub record PutMet : Type 0 where
     pub same : len ≡ s .length
     pub good : sound s ≡ true
     pub agreed : agrees ≡ true
+    pub once : noted t s tag ≡ false
     pub read : reads ≡ true
     pub room : size ≤ s .start
 
-  pub put-met : putRefusal t s len agrees reads size ≡ 0 → PutMet
+  pub put-met : putRefusal t s tag len agrees reads size ≡ 0 → PutMet
   unfolding putRefusal
   put-met e =
-      let n5 = orRefuse (leb size (s .start)) 9 0 in
-      let n4 = orRefuse reads 7 n5 in
+      let n6 = orRefuse (leb size (s .start)) 9 0 in
+      let n5 = orRefuse reads 7 n6 in
+      let n4 = orRefuse (not (noted t s tag)) 20 n5 in
       let n3 = orRefuse agrees 8 n4 in
       let n2 = orRefuse (valid t) 2 n3 in
       let n1 = orRefuse (sound s) 10 n2 in
@@ -55,22 +61,37 @@ module _ (t : Table) (s : State) (len : ℕ) (agrees reads : Bool) (size : ℕ) 
       let b = passed (sound s) 10 n2 (omega arith) (a .1) in
       let d = passed (valid t) 2 n3 (omega arith) (b .1) in
       let f = passed agrees 8 n4 (omega arith) (d .1) in
-      let g = passed reads 7 n5 (omega arith) (f .1) in
+      let o = passed (not (noted t s tag)) 20 n5 (omega arith) (f .1) in
+      let g = passed reads 7 n6 (omega arith) (o .1) in
       let h = passed (leb size (s .start)) 9 0 (omega arith) (g .1) in
-      record { same = eqb-true len (s .length) (a .0); good = b .0; agreed = f .0; read = g .0; room = leb-true size (s .start) (h .0) }
+      record {
+        same = eqb-true len (s .length) (a .0);
+        good = b .0;
+        agreed = f .0;
+        once = not-true (noted t s tag) (o .0);
+        read = g .0;
+        room = leb-true size (s .start) (h .0);
+      }
 
-module _ (t : Table) (s : State) (agrees : Bool) where
-  pub open-met : openRefusal t s agrees ≡ 0 → (agrees ≡ true) × (s .opened ≤ 6)
+module _ (t : Table) (s : State) (tag : ℕ) (agrees : Bool) where
+  pub record OpenMet : Type 0 where
+    pub agreed : agrees ≡ true
+    pub once : noted t s tag ≡ false
+    pub shallow : s .opened ≤ 6
+
+  pub open-met : openRefusal t s tag agrees ≡ 0 → OpenMet
   unfolding openRefusal
   open-met e =
-      let n3 = orRefuse (leb (s .opened) 6) 5 0 in
+      let n4 = orRefuse (leb (s .opened) 6) 5 0 in
+      let n3 = orRefuse (not (noted t s tag)) 20 n4 in
       let n2 = orRefuse agrees 8 n3 in
       let n1 = orRefuse (valid t) 2 n2 in
       let b = passed (sound s) 10 n1 (omega arith) e in
       let d = passed (valid t) 2 n2 (omega arith) (b .1) in
       let f = passed agrees 8 n3 (omega arith) (d .1) in
-      let h = passed (leb (s .opened) 6) 5 0 (omega arith) (f .1) in
-      (f .0, leb-true (s .opened) 6 (h .0))
+      let o = passed (not (noted t s tag)) 20 n4 (omega arith) (f .1) in
+      let h = passed (leb (s .opened) 6) 5 0 (omega arith) (o .1) in
+      record { agreed = f .0; once = not-true (noted t s tag) (o .0); shallow = leb-true (s .opened) 6 (h .0) }
 
 -- A close: the refusals that come before that for want of room, which is `next`.
 module _ (t : Table) (s : State) (len next : ℕ) where

@@ -5,6 +5,7 @@ use mathlib.Core.Bool.{Bool, true, false}
 use mathlib.Core.List.{List}
 use lib.ListN.{length, take, drop, getD}
 use borrow.Author.Tests.{le-leb, lt-leb}
+use Rattle.table.specs.Schema.{isRevision}
 use Rattle.table.proofs.Lists.{rest-at, rest-end}
 use Rattle.writer_state.specs.Sound.{falling, small, sound}
 use Rattle.writer_state.specs.declared.State.{State}
@@ -58,11 +59,16 @@ module _ (s : State) where
       sound-many h = rw (le-leb (s .length) 65536 a, le-leb (s .start) (s .length) b, lt-leb (s .opened) 7 h) refl
 
       module _ (d : s .opened ≤ 7) where
-        pub sound-marks : false ≡ falling (s .start) (s .length) (take (s .opened) (s .marks)) → false ≡ sound s
+        pub sound-revision : false ≡ isRevision (s .revision) → false ≡ sound s
         unfolding sound
-        sound-marks e = rw (le-leb (s .length) 65536 a, le-leb (s .start) (s .length) b, le-leb (s .opened) 7 d, ← e) refl
+        sound-revision e = rw (le-leb (s .length) 65536 a, le-leb (s .start) (s .length) b, le-leb (s .opened) 7 d, ← e) refl
 
-        pub sound-numbers : {r : Bool} → true ≡ falling (s .start) (s .length) (take (s .opened) (s .marks))
-            → r ≡ small (take (s .opened + 1) (s .numbers)) → r ≡ sound s
-        unfolding sound
-        sound-numbers e q = q ∙ rw (le-leb (s .length) 65536 a, le-leb (s .start) (s .length) b, le-leb (s .opened) 7 d, ← e) refl
+        module _ (v : true ≡ isRevision (s .revision)) where
+          pub sound-marks : false ≡ falling (s .start) (s .length) (take (s .opened) (s .marks)) → false ≡ sound s
+          unfolding sound
+          sound-marks e = rw (le-leb (s .length) 65536 a, le-leb (s .start) (s .length) b, le-leb (s .opened) 7 d, ← v, ← e) refl
+
+          pub sound-numbers : {r : Bool} → true ≡ falling (s .start) (s .length) (take (s .opened) (s .marks))
+              → r ≡ small (take (s .opened + 1) (s .numbers)) → r ≡ sound s
+          unfolding sound
+          sound-numbers e q = q ∙ rw (le-leb (s .length) 65536 a, le-leb (s .start) (s .length) b, le-leb (s .opened) 7 d, ← v, ← e) refl

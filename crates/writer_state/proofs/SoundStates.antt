@@ -8,6 +8,7 @@ use lib.ListN.{length, take, getD}
 use lib.Seq.{getD-take, length-take-le}
 use lib.Dec.{leb}
 use borrow.Author.Tests.{leb-true}
+use Rattle.table.specs.Schema.{isRevision}
 use Rattle.octets.proofs.Bools.{and-left, and-right}
 use Rattle.writer_state.specs.Sound.{falling, small, sound}
 use Rattle.writer_state.specs.declared.State.{State}
@@ -31,24 +32,30 @@ module _ (s : State) (e : sound s ≡ true) where
   C = leb (s .opened) 7
 
   abbrev D : Bool
-  D = falling (s .start) (s .length) (take (s .opened) (s .marks))
+  D = isRevision (s .revision)
 
   abbrev E : Bool
-  E = small (take (s .opened + 1) (s .numbers))
+  E = falling (s .start) (s .length) (take (s .opened) (s .marks))
 
-  four : A && B && C && D ≡ true
+  abbrev F : Bool
+  F = small (take (s .opened + 1) (s .numbers))
+
+  five : A && B && C && D && E ≡ true
   unfolding sound
-  four = and-left (A && B && C && D) E e
+  five = and-left (A && B && C && D && E) F e
+
+  three : A && B && C ≡ true
+  three = and-left (A && B && C) D (and-left (A && B && C && D) E five)
 
   pub sound-within : s .start ≤ s .length
-  sound-within = leb-true (s .start) (s .length) (and-right A B (and-left (A && B) C (and-left (A && B && C) D four)))
+  sound-within = leb-true (s .start) (s .length) (and-right A B (and-left (A && B) C three))
 
   pub sound-few : s .opened ≤ 7
-  sound-few = leb-true (s .opened) 7 (and-right (A && B) C (and-left (A && B && C) D four))
+  sound-few = leb-true (s .opened) 7 (and-right (A && B) C three)
 
   -- The mark of the field that was opened last is not below the start.
   pub last-mark : (k : ℕ) → k < s .opened → s .opened ≤ length (s .marks) → s .start ≤ getD (s .marks) k 0
   last-mark k h l =
       let f = length-take-le (s .opened) (s .marks) l in
-      let g = fall-above (s .start) (s .length) (take (s .opened) (s .marks)) k (and-right (A && B && C) D four) (omega arith) in
+      let g = fall-above (s .start) (s .length) (take (s .opened) (s .marks)) k (and-right (A && B && C && D) E five) (omega arith) in
       rw (getD-take (s .opened) (s .marks) k 0 h) at g

@@ -1,25 +1,17 @@
 -- The meaning of tags in the innermost open message.
-use Prim.Native.Nat.{ℕ, _≤_, _<_}
+use Prim.Native.Nat.{ℕ, _<_}
 use native.Mathlib.Omega.{arith}
 use mathlib.Core.Path.{_≡_, refl, _∙_}
 use mathlib.Core.Bool.{Bool, true, false, false≢true}
-use lib.ListN.{take, getD}
+use lib.ListN.{take}
 use lib.Dec.{leb, eqb}
-use borrow.Author.Tests.{le-leb, lt-leb, leb-true, leb-false, eqb-true}
+use borrow.Author.Tests.{leb-true, leb-false, eqb-true}
 use Rattle.table.specs.Entry.{entries, kindNumber}
 use Rattle.table.specs.Schema.{schemaOf, schema}
 use Rattle.table.specs.declared.Table.{Table}
 use Rattle.table.proofs.Schemas.{find-large}
 use Rattle.writer_state.specs.Calls.{level, meant, ofOctets}
 use Rattle.writer_state.specs.declared.State.{State}
-
-pub level-in : (s : State) → s .opened < 8 → getD (s .numbers) (s .opened) 0 ≡ level s
-unfolding level
-level-in s h = rw (le-leb (s .opened) 7 (omega arith)) refl
-
-pub level-out : (s : State) → 8 ≤ s .opened → 0 ≡ level s
-unfolding level
-level-out s h = rw (lt-leb (s .opened) 7 (omega arith)) refl
 
 -- A tag that the table does not have, as one that is out of range, has no kind.
 pub absent : (t : Table) (s : State) (tag : ℕ) → 65535 < tag → kindNumber (meant t s tag) ≡ 0

@@ -15,10 +15,10 @@ pub data Call : Type 0 where
   openField : ℕ → Call
   closeField : Call
 
--- The answers of a writer. Start takes a table, a message number and the length of the lent buffer. A call takes a table, a state and a buffer;
--- `buffer` is the buffer after it. Finish takes a state.
+-- The answers of a writer. Start takes a table, a revision, a message number and the length of the lent buffer. A call takes a table, a state and
+-- a buffer; `buffer` is the buffer after it. Finish takes a state.
 pub record Writer : Type 0 where
-  pub start : Table → ℕ → ℕ → Written
+  pub start : Table → ℕ → ℕ → ℕ → Written
   pub answer : Table → State → List ℕ → Call → Written
   pub buffer : Table → State → List ℕ → Call → List ℕ
   pub finish : State → Finished

@@ -5,6 +5,7 @@ use mathlib.Core.List.{List, [], _∷_}
 use lib.ListN.{take}
 use lib.Dec.{leb}
 use Rattle.reading.specs.Reading.{messageLimit, lastNumber}
+use Rattle.table.specs.Schema.{isRevision}
 use Rattle.writer_state.specs.declared.State.{State}
 
 -- Whether marks lie between two places and none is above the one before it.
@@ -17,12 +18,13 @@ unfoldable pub small : List ℕ → Bool
 small [] = true
 small (n ∷ ns) = leb n lastNumber && small ns
 
--- With k fields open, k marks and k + 1 message numbers are in use. The others are not tested. With seven fields open the innermost message is
--- at the depth limit.
+-- With k fields open, k marks and k + 1 message numbers are in use. The others are not tested, and no mask is. With seven fields open the innermost
+-- message is at the depth limit.
 unfoldable pub sound : State → Bool
 sound s =
     leb (s .length) messageLimit
     && leb (s .start) (s .length)
     && leb (s .opened) 7
+    && isRevision (s .revision)
     && falling (s .start) (s .length) (take (s .opened) (s .marks))
     && small (take (s .opened + 1) (s .numbers))

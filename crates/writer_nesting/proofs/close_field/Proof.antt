@@ -16,11 +16,14 @@ use Rattle.writer_nesting.proofs.close_field.Tie as tie
 close-early-requires : tie.Need-close-early-requires
 close-early-requires c κs = search needs
 
+refused-requires : tie.Need-refused-requires
+refused-requires c κs = search needs
+
 returns : tie.Need-returns
 returns c =
-    let a = c .before .before .before .args in
-    let g = c .before .close-early in
-    let r = close-early (a .t) (a .t2) (now (a .out)) (g .result) (g .ensures) (c .if1 .taken) in
+    let a = c .before .before .before .before .args in
+    let g = c .before .before .close-early in
+    let r = close-early (a .t) (a .t2) (now (a .out)) (g .result) (g .ensures) (c .before .if1 .taken) (c .refused .ensures) in
     (r .answer, r .buffer)
 
 sub-k : tie.Need-sub-k
@@ -74,17 +77,20 @@ less-requires c κs = search needs
 control-size-requires : tie.Need-control-size-requires
 control-size-requires c κs = search needs
 
+refused-requires-2 : tie.Need-refused-requires-2
+refused-requires-2 c κs = search needs
+
 returns-2 : tie.Need-returns-2
 unfolding closingPart
 returns-2 c =
-    let a = c .before .before .before .before .before .before .before .before .args in
-    let g = c .before .before .before .before .before .before .close-early in
-    let m = close-met (a .t) (a .t2) (length (now (a .out))) 0 (sym (g .ensures) ∙ c .before .before .before .before .before .if1 .left) in
-    let l = c .before .before .less in
+    let a = c .before .before .before .before .before .before .before .before .before .args in
+    let g = c .before .before .before .before .before .before .before .close-early in
+    let m = close-met (a .t) (a .t2) (length (now (a .out))) 0 (sym (g .ensures) ∙ c .before .before .before .before .before .before .if1 .left) in
+    let l = c .before .before .before .less in
     let q : leastControl (getD (a .t2 .tags) (a .t2 .opened - 1) 0) (l .result) ≡ closingPart (a .t2) = rw (l .ensures) refl in
-    let z = c .before .control-size .ensures ∙ ap length q in
-    let h = c .if2 .taken in
-    let r = close-long (a .t) (a .t2) (now (a .out)) m (omega arith) in
+    let z = c .before .before .control-size .ensures ∙ ap length q in
+    let h = c .before .if2 .taken in
+    let r = close-long (a .t) (a .t2) (now (a .out)) m (omega arith) (c .refused2 .ensures) in
     (r .answer, r .buffer)
 
 sub-after : tie.Need-sub-after
@@ -114,6 +120,7 @@ close-field-spec =
     tie.close
     (tie.spec
     close-early-requires
+    refused-requires
     returns
     sub-k
     mul-tag
@@ -122,6 +129,7 @@ close-field-spec =
     element-copy-out-mark
     less-requires
     control-size-requires
+    refused-requires-2
     returns-2
     sub-after
     put-control-requires
