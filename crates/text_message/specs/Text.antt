@@ -63,13 +63,13 @@ shown t size = page (lines 1 t) (fields t) size
 unfoldable pub refusalText : ℕ → ℕ → List ℕ
 refusalText refusal place = ascii "refused " ++ decimal refusal ++ ascii " at " ++ decimal place ++ ascii "\n"
 
--- The text of a message by the result of reading it.
+-- The text of a message by the result of reading it under revision 2.
 unfoldable pub readText : Table → List ℕ → Reading Cut → List ℕ
-readText t message (accepted cut) = shown (tree (schema t) 0 cut) (length message)
+readText t message (accepted cut) = shown (tree (schema 2 t) 0 cut) (length message)
 readText t message (refused refusal place) = refusalText refusal place
 
--- The text of a message with number 0, or of the refusal of its check.
+-- The text of a message with number 0 under revision 2, or of the refusal of its check.
 unfoldable pub messageText : Table → List ℕ → List ℕ
 messageText t message =
-    let c = check t 0 message in
-    cond (eqb (c .refusal) 0) (readText t message (reading (schema t) 0 message)) (refusalText (c .refusal) (c .place))
+    let c = check t 2 0 message in
+    cond (eqb (c .refusal) 0) (readText t message (reading (schema 2 t) 0 message)) (refusalText (c .refusal) (c .place))

@@ -12,6 +12,9 @@ ghost use Rattle.text_message.specs.Text.{page as page-of, refusalText, 
 ghost use Rattle.message.specs.internal.Accepts.{Accepts};
 ghost use Rattle.text_message.specs.internal.OfTree.{linesOf};
 
+// The revision of the profile that messages are read under.
+const REVISION: u64 = 2;
+
 // Prints a message with number 0. Internal: the caller has checked the message and passes its count of fields.
 fn page(cells: &[u32; 128], fields: u64, s: &[u8], from: u64, out: &mut [u8]) -> u64
     requires { ⌜ Accepts (indexed (now cells)) depthLimit 0 (now s) ⌝ }
@@ -39,16 +42,16 @@ pub fn refusal(refusal: u64, place: u64, from: u64, out: &mut [u8]) -> u64
     text_window::put(out, from, d, b'\n')
 }
 
-// Prints a message with number 0 under a table, or the refusal of its check.
+// Prints a message with number 0 under a table and revision 2, or the refusal of its check.
 pub fn message(t: Table, s: &[u8], from: u64, out: &mut [u8]) -> u64
     ensures { λ r. ⌜ r ≡ length (messageText t (now (s .entry))) ⌝ }
     ensures { λ _. ⌜ now (out .exit) ≡ window (now (out .entry)) from (messageText t (now (s .entry))) ⌝ }
 {
-    let c = message_calls::check_loaded(t, 0, s).checked;
+    let c = message_calls::check_loaded(t, REVISION, 0, s).checked;
     if c.refusal != 0 {
         return refusal(c.refusal, c.place, from, out);
     }
     let mut cells = [0u32; 128];
-    table_index::index_table(&t.words, t.count, &mut cells);
+    table_index::index_table(&t.words, t.count, REVISION, &mut cells);
     page(&cells, c.fields, s, from, out)
 }

@@ -36,8 +36,8 @@ page-requires c κs =
     let k = c .before .before .before .before .before .before .before .before .before .check-loaded in
     let z = c .before .before .before .before .before .before .if1 .left in
     let x = c .before .before .index-table in
-    let e = table-schema (a .t1) (message-valid (a .t1) (now (a .s)) (k .result .checked) (k .ensures .0) z) (x .ensures .1) in
-    message-accepts (a .t1) (now (a .s)) (k .result .checked) (k .ensures .0) z (indexed (x .last .1 .1 .0)) e .1
+    let e = table-schema 2 (a .t1) (message-valid (a .t1) (now (a .s)) (k .result .checked) (k .ensures .0) z) (x .ensures .1) in
+    message-accepts (a .t1) (now (a .s)) (k .result .checked) (k .ensures .0) z (indexed (x .last .1 .1 .1 .0)) e .1
 
 same-length-2 : tie.Need-same-length-2
 same-length-2 c = search needs
@@ -48,8 +48,8 @@ returns-2 c =
     let k = c .before .before .before .before .before .before .before .before .before .before .before .before .check-loaded in
     let z = c .before .before .before .before .before .before .before .before .before .if1 .left in
     let x = c .before .before .before .before .before .index-table in
-    let e = table-schema (a .t1) (message-valid (a .t1) (now (a .s)) (k .result .checked) (k .ensures .0) z) (x .ensures .1) in
-    let sc = indexed (x .last .1 .1 .0) in
+    let e = table-schema 2 (a .t1) (message-valid (a .t1) (now (a .s)) (k .result .checked) (k .ensures .0) z) (x .ensures .1) in
+    let sc = indexed (x .last .1 .1 .1 .0) in
     let g = message-accepts (a .t1) (now (a .s)) (k .result .checked) (k .ensures .0) z sc e in
     let w = whole-printed (page (linesOf sc 8 0 (now (a .s))) (k .result .checked .fields) (length (now (a .s)))) (page-fits sc 0 (now (a .s)) (k .result .checked .fields) (g .0) (g .1)) (c .before .before .page .ensures) in
     same-window (now (a .out)) (a .from) (message-shown (a .t1) (now (a .s)) (k .result .checked) (k .ensures .0) z sc e) w
