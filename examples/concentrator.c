@@ -1,5 +1,5 @@
-/* Reads frames from standard input, checks each message under a field table, and writes its shortest form in a frame to standard
- * output.
+/* Reads frames from standard input, checks each message under a field table and revision 2 of the profile, and writes its shortest
+ * form in a frame to standard output.
  *
  *     concentrator TABLE-FILE [MESSAGE-NUMBER] < frames > shortened-frames
  *
@@ -18,7 +18,7 @@
 #include <stdlib.h>
 #include <string.h>
 
-enum { FRAME_MOST = 65545, MESSAGE_MOST = 65536, TABLE_MOST = 512 };
+enum { FRAME_MOST = 65545, MESSAGE_MOST = 65536, TABLE_MOST = 64 * 9, REVISION = 2 };
 
 struct stream {
     uint8_t octets[FRAME_MOST];
@@ -27,7 +27,7 @@ struct stream {
     uint64_t past; /* octets that were dropped from the buffer's front so far */
 };
 
-/* What the messages are read under: the octets of a field table, and a message number. */
+/* What the messages are read under, beside the revision: the octets of a field table, and a message number. */
 struct rules {
     const uint8_t *table;
     size_t length;
@@ -74,7 +74,8 @@ static int put_shortened(const uint8_t *message, size_t length, const struct rul
 {
     static uint8_t out[MESSAGE_MOST];
     uint64_t place, least;
-    uint64_t refusal = crudvim_shorten(rules->table, rules->length, rules->number, message, length, out, sizeof out, &place, &least);
+    uint64_t refusal = crudvim_shorten(rules->table, rules->length, REVISION, rules->number, message, length, out, sizeof out, &place,
+                                       &least);
     return refusal == CRUDVIM_ACCEPTED && put_frame(out, least, c);
 }
 
@@ -84,7 +85,8 @@ static int take_frame(const struct stream *in, uint64_t start, uint64_t end, con
     const uint8_t *message = in->octets + start;
     size_t length = end - start;
     uint64_t place, fields, depth, shortest;
-    uint64_t refusal = crudvim_check(rules->table, rules->length, rules->number, message, length, &place, &fields, &depth, &shortest);
+    uint64_t refusal = crudvim_check(rules->table, rules->length, REVISION, rules->number, message, length, &place, &fields, &depth,
+                                     &shortest);
     c->frames++;
     c->octets_in += end;
     if (refusal != CRUDVIM_ACCEPTED) {
@@ -149,7 +151,7 @@ static size_t read_table(const char *name, uint8_t *table)
 static void check_table(const struct rules *rules)
 {
     uint64_t place, fields, depth, shortest;
-    uint64_t refusal = crudvim_check(rules->table, rules->length, rules->number, NULL, 0, &place, &fields, &depth, &shortest);
+    uint64_t refusal = crudvim_check(rules->table, rules->length, REVISION, rules->number, NULL, 0, &place, &fields, &depth, &shortest);
     if (refusal != CRUDVIM_ACCEPTED) {
         fprintf(stderr, "table: refused %" PRIu64 " at %" PRIu64 " (%s)\n", refusal, place, crudvim_refusal_text(refusal));
         exit(2);

@@ -41,6 +41,7 @@ extern "C" {
 #define CRUDVIM_TYPE_SIZE_OR_HINT 16u
 #define CRUDVIM_NOT_IN_FRACTIONS 17u
 #define CRUDVIM_ABSENT 18u
+#define CRUDVIM_REPEATED 20u
 
 /* What a refusal number means, for people. */
 static inline const char *crudvim_refusal_text(uint64_t refusal)
@@ -48,7 +49,7 @@ static inline const char *crudvim_refusal_text(uint64_t refusal)
     switch (refusal) {
     case CRUDVIM_ACCEPTED: return "accepted";
     case CRUDVIM_TOO_LONG: return "longer than the limit";
-    case CRUDVIM_TABLE: return "bad field table or message number";
+    case CRUDVIM_TABLE: return "bad field table, revision or message number";
     case CRUDVIM_CUT: return "ends inside a control part, header, name, size or hint";
     case CRUDVIM_PAST_THE_END: return "contents go past the end of the message around them";
     case CRUDVIM_TOO_DEEP: return "nested more than 8 deep";
@@ -65,22 +66,31 @@ static inline const char *crudvim_refusal_text(uint64_t refusal)
     case CRUDVIM_TYPE_SIZE_OR_HINT: return "bad type, size or hint";
     case CRUDVIM_NOT_IN_FRACTIONS: return "real not readable in fractions";
     case CRUDVIM_ABSENT: return "no such occurrence";
+    case CRUDVIM_REPEATED: return "repeat of a single field";
     default: return "unknown refusal number";
     }
 }
 
-/* Checks a message under a field table and a message number. *fields is the count of its fields at all depths, *depth the depth of
- * its deepest message (1 where nothing is nested). *shortest is 1 where the message is its own shortest form already, so that
+/* A field table is a run of at most 64 records. A record is 01, a length on two octets, and an entry: message number, tag (two
+ * octets), kind and inner message number. The length is 5, and the field may stand in a message many times; or it is 6, and a mark
+ * follows the entry, 0 for many and 1 for single. Records of both lengths may stand in one table.
+ *
+ * The revision of the profile stands before the message number in each call. Under revision 2 a message has a field that is marked
+ * single at most once: a later one is refused with 20 at its first octet, whatever the form of its tag, and before its contents are
+ * looked at. Nested messages count on their own. Under revision 1 the marks have no effect. */
+
+/* Checks a message under a field table, a revision and a message number. *fields is the count of its fields at all depths, *depth the
+ * depth of its deepest message (1 where nothing is nested). *shortest is 1 where the message is its own shortest form already, so that
  * crudvim_shorten would give back the same octets, and 0 where it could be shortened or is refused. Refusals, in this order: 1 at 0
- * for a message over 65536 octets; 2 at the faulty record of the table; 2 at 0 for a number over 15; then the first fault of the
- * message. */
-uint64_t crudvim_check(const uint8_t *table, size_t table_len, uint64_t number, const uint8_t *message, size_t message_len,
-                       uint64_t *place, uint64_t *fields, uint64_t *depth, uint64_t *shortest);
+ * for a message over 65536 octets; 2 at the faulty record of the table; 2 at 0 for a revision other than 1 and 2, and for a number
+ * over 15; then the first fault of the message. */
+uint64_t crudvim_check(const uint8_t *table, size_t table_len, uint64_t revision, uint64_t number, const uint8_t *message,
+                       size_t message_len, uint64_t *place, uint64_t *fields, uint64_t *depth, uint64_t *shortest);
 
 /* Writes the shortest message that reads the same at the front of out, sets *length to its length, and leaves the rest of out.
  * Refusals: the check's, then 9 at 0. A buffer of message_len octets is always enough. */
-uint64_t crudvim_shorten(const uint8_t *table, size_t table_len, uint64_t number, const uint8_t *message, size_t message_len,
-                         uint8_t *out, size_t out_len, uint64_t *place, uint64_t *length);
+uint64_t crudvim_shorten(const uint8_t *table, size_t table_len, uint64_t revision, uint64_t number, const uint8_t *message,
+                         size_t message_len, uint8_t *out, size_t out_len, uint64_t *place, uint64_t *length);
 
 /* Reads the frame at the front of a buffer. The message stands from *start to *end, and what follows the frame starts at *end.
  * Octets beyond the frame are allowed. Refusals, all at 0: 1 for a buffer over 65545 octets, 3, 1 for an announced size over 65536,
@@ -95,14 +105,14 @@ uint64_t crudvim_frame_write(const uint8_t *message, size_t message_len, uint8_t
 /* Finds the k-th, from 0, of the outermost fields with a tag, after the whole message is checked. *kind is 0 raw, 1 uint, 2 int,
  * 3 string, 4 text (UTF-8 as in RFC 3629), 5 message; *value is the number of a uint and *signed_value that of an int, each 0 for
  * any other kind; the contents, whatever the kind, stand at *start and have *length octets. Refusals: the check's, then 18 at 0. */
-uint64_t crudvim_lookup(const uint8_t *table, size_t table_len, uint64_t number, const uint8_t *message, size_t message_len,
-                        uint64_t tag, uint64_t k, uint64_t *place, uint64_t *kind, uint64_t *value, int64_t *signed_value,
-                        uint64_t *start, uint64_t *length);
+uint64_t crudvim_lookup(const uint8_t *table, size_t table_len, uint64_t revision, uint64_t number, const uint8_t *message,
+                        size_t message_len, uint64_t tag, uint64_t k, uint64_t *place, uint64_t *kind, uint64_t *value,
+                        int64_t *signed_value, uint64_t *start, uint64_t *length);
 
 /* The same for the last of the outermost fields with a tag. */
-uint64_t crudvim_lookup_last(const uint8_t *table, size_t table_len, uint64_t number, const uint8_t *message, size_t message_len,
-                             uint64_t tag, uint64_t *place, uint64_t *kind, uint64_t *value, int64_t *signed_value,
-                             uint64_t *start, uint64_t *length);
+uint64_t crudvim_lookup_last(const uint8_t *table, size_t table_len, uint64_t revision, uint64_t number, const uint8_t *message,
+                             size_t message_len, uint64_t tag, uint64_t *place, uint64_t *kind, uint64_t *value,
+                             int64_t *signed_value, uint64_t *start, uint64_t *length);
 
 /* Checks a TibMsg. *fields is the count of its fields; *depth is 1. Refusals: 1, 3, 13, 14, then the first fault of a field. */
 uint64_t crudvim_tibmsg_check(const uint8_t *message, size_t message_len, uint64_t *place, uint64_t *fields, uint64_t *depth);

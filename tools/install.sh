@@ -13,7 +13,7 @@ cat > "$prefix/lib/pkgconfig/crudvim.pc" <<END
 prefix=$prefix
 Name: crudvim
 Description: hproto, TibMsg and TibrvMsg messages: check, shorten, frame, read
-Version: 2.0.0
+Version: 3.0.0
 Cflags: -I\${prefix}/include
 Libs: -L\${prefix}/lib -lcrudvim
 END

@@ -1,8 +1,8 @@
 #!/usr/bin/env bash
 # Builds the C example with every warning an error, installs the library into a scratch folder and builds against that, and runs the
-# example on two stored streams, one with damaged frames and one with messages in short and in longer forms, and on short messages without
-# the shortener; README's program, calls with null pointers under valgrind, and the measurement of the stack; and looks at what the archive
-# needs. It needs target/staticlib/libcrudvim.a, which `rt staticlib crudvim` makes.
+# example on two stored streams, one with damaged frames and one with messages in short and in longer forms, on the largest table, and on
+# short messages without the shortener; README's program, calls with null pointers under valgrind, and the measurement of the stack; and looks
+# at what the archive needs. It needs target/staticlib/libcrudvim.a, which `rt staticlib crudvim` makes.
 set -eu
 cd "$(dirname "$0")/../.."
 here=tests/concentrator
@@ -30,6 +30,18 @@ try_stream() {
 python3 $here/unhex.py < $here/table.hex > "$work/table"
 try_stream stream expected
 try_stream forms forms-expected
+
+# The largest table, 64 records of nine octets, and one record more.
+records() {
+    python3 -c "import sys; sys.stdout.buffer.write(b''.join(bytes([1, 0, 6, 0, 0, tag, 1, 0, 1]) for tag in range($1)))"
+}
+records 64 > "$work/full"
+"$work/concentrator" "$work/full" < /dev/null 2> /dev/null
+records 65 > "$work/full"
+status=0
+"$work/concentrator" "$work/full" < /dev/null 2> "$work/report" || status=$?
+[ "$status" = 2 ]
+grep -q 'refused 2 at 576' "$work/report"
 
 # A short message does not reach the shortener. With a stand-in that ends the program, the short messages of the last stream pass as they
 # are, and the stream with longer forms ends at the stand-in.

@@ -15,20 +15,21 @@ static uint8_t nest[65536], least[65536], shorter[65536], tib[65536];
 static uint64_t a, b, c, d, e, f, g, h, i, j;
 static int64_t s;
 
-/* Tag 1 of message 0 is message 0, tag 2 an int, tag 3 text, tag 16 a uint. A table with a tag from 16 on takes the most stack. */
-static const uint8_t table[] = {1, 0, 5, 0, 0, 1, 5, 0, 1, 0, 5, 0, 0, 2, 2, 0, 1, 0, 5, 0, 0, 3, 4, 0, 1, 0, 5, 0, 0, 16, 1, 0};
+/* Tag 1 of message 0 is message 0, tag 2 an int, tag 3 text, tag 16 a uint, all of them single. A table with a tag from 16 on takes the
+ * most stack. */
+static const uint8_t table[] = {1, 0, 6, 0, 0, 1, 5, 0, 1, 1, 0, 6, 0, 0, 2, 2, 0, 1, 1, 0, 6, 0, 0, 3, 4, 0, 1, 1, 0, 6, 0, 0, 16, 1, 0, 1};
 static size_t nest_length, tib_length;
 static uint64_t least_length;
 
-static void *check(void *x) { crudvim_check(table, sizeof table, 0, nest, nest_length, &a, &b, &c, &d); return x; }
-static void *check_least(void *x) { crudvim_check(table, sizeof table, 0, least, least_length, &a, &b, &c, &d); return x; }
-static void *shorten(void *x) { crudvim_shorten(table, sizeof table, 0, nest, nest_length, shorter, nest_length / 2, &a, &b); return x; }
-static void *shorten_all(void *x) { crudvim_shorten(table, sizeof table, 0, nest, nest_length, shorter, nest_length, &a, &b); return x; }
-static void *shorten_least(void *x) { crudvim_shorten(table, sizeof table, 0, least, least_length, shorter, least_length, &a, &b); return x; }
+static void *check(void *x) { crudvim_check(table, sizeof table, 2, 0, nest, nest_length, &a, &b, &c, &d); return x; }
+static void *check_least(void *x) { crudvim_check(table, sizeof table, 2, 0, least, least_length, &a, &b, &c, &d); return x; }
+static void *shorten(void *x) { crudvim_shorten(table, sizeof table, 2, 0, nest, nest_length, shorter, nest_length / 2, &a, &b); return x; }
+static void *shorten_all(void *x) { crudvim_shorten(table, sizeof table, 2, 0, nest, nest_length, shorter, nest_length, &a, &b); return x; }
+static void *shorten_least(void *x) { crudvim_shorten(table, sizeof table, 2, 0, least, least_length, shorter, least_length, &a, &b); return x; }
 static void *frame_read(void *x) { crudvim_frame_read((const uint8_t *)"\xff\0\0\0\0\0\0\0\0", 9, &a, &b, &c); return x; }
 static void *frame_write(void *x) { crudvim_frame_write(nest, nest_length, shorter, sizeof shorter, &a, &b); return x; }
-static void *lookup(void *x) { crudvim_lookup(table, sizeof table, 0, nest, nest_length, 1, 0, &a, &b, &c, &s, &d, &e); return x; }
-static void *lookup_last(void *x) { crudvim_lookup_last(table, sizeof table, 0, nest, nest_length, 1, &a, &b, &c, &s, &d, &e); return x; }
+static void *lookup(void *x) { crudvim_lookup(table, sizeof table, 2, 0, nest, nest_length, 1, 0, &a, &b, &c, &s, &d, &e); return x; }
+static void *lookup_last(void *x) { crudvim_lookup_last(table, sizeof table, 2, 0, nest, nest_length, 1, &a, &b, &c, &s, &d, &e); return x; }
 static void *tibrv_check(void *x) { crudvim_tibrv_check(tib, tib_length, &a, &b, &c); return x; }
 static void *tibrv_field(void *x) { crudvim_tibrv_field(tib, tib_length, 0, &a, &b, &c, &d, &e, &f); return x; }
 static const uint8_t msg[] = {0xce, 0x13, 0xaa, 0x1f, 1, 0, 0, 0, 13, 0, 0x47, 8, 0x40, 10, 0, 0, 0, 0, 0, 0, 6, 1};
@@ -93,10 +94,10 @@ static void fill_nest(void)
  * the shortener copies the one and writes the other. */
 static int fill_least(void)
 {
-    uint64_t refusal = crudvim_shorten(table, sizeof table, 0, nest, nest_length, least, sizeof least, &a, &least_length);
-    if (refusal != 0 || crudvim_check(table, sizeof table, 0, nest, nest_length, &a, &b, &c, &d) != 0 || c != 8 || d != 0)
+    uint64_t refusal = crudvim_shorten(table, sizeof table, 2, 0, nest, nest_length, least, sizeof least, &a, &least_length);
+    if (refusal != 0 || crudvim_check(table, sizeof table, 2, 0, nest, nest_length, &a, &b, &c, &d) != 0 || c != 8 || d != 0)
         return 0;
-    return crudvim_check(table, sizeof table, 0, least, least_length, &a, &b, &c, &d) == 0 && c == 8 && d == 1;
+    return crudvim_check(table, sizeof table, 2, 0, least, least_length, &a, &b, &c, &d) == 0 && c == 8 && d == 1;
 }
 
 /* Eight levels of TibrvMsg: a header and one field of type 1. */

@@ -14,6 +14,7 @@ ghost use Rattle.crudvim.specs.Fields.{flag as flag-of, flagged, parts, 
 #[no_mangle]
 pub extern "C" fn crudvim_check(
     table: &[u8],
+    revision: u64,
     number: u64,
     message: &[u8],
     place: &mut u64,
@@ -21,10 +22,10 @@ pub extern "C" fn crudvim_check(
     depth: &mut u64,
     shortest: &mut u64,
 ) -> u64
-    ensures { λ r. ⌜ checkOctets (now (table .entry)) number (now (message .entry)) ≡ record { refusal = r; place = now (place .exit); fields = now (fields .exit); depth = now (depth .exit) } ⌝ }
-    ensures { λ _. ⌜ now (shortest .exit) ≡ flag-of (shortOctets (now (table .entry)) number (now (message .entry))) ⌝ }
+    ensures { λ r. ⌜ checkOctets (now (table .entry)) revision number (now (message .entry)) ≡ record { refusal = r; place = now (place .exit); fields = now (fields .exit); depth = now (depth .exit) } ⌝ }
+    ensures { λ _. ⌜ now (shortest .exit) ≡ flag-of (shortOctets (now (table .entry)) revision number (now (message .entry))) ⌝ }
 {
-    let c = message_calls::check(table, number, message);
+    let c = message_calls::check(table, revision, number, message);
     let checked = c.checked;
     *place = checked.place;
     *fields = checked.fields;
@@ -37,16 +38,17 @@ pub extern "C" fn crudvim_check(
 #[no_mangle]
 pub extern "C" fn crudvim_shorten(
     table: &[u8],
+    revision: u64,
     number: u64,
     message: &[u8],
     out: &mut [u8],
     place: &mut u64,
     len: &mut u64,
 ) -> u64
-    ensures { λ r. ⌜ shortenOctets (now (table .entry)) number (now (message .entry)) (now (out .entry)) ≡ record { refusal = r; place = now (place .exit); length = now (len .exit) } ⌝ }
-    ensures { λ _. ⌜ now (out .exit) ≡ shortenBuffer (now (table .entry)) number (now (message .entry)) (now (out .entry)) ⌝ }
+    ensures { λ r. ⌜ shortenOctets (now (table .entry)) revision number (now (message .entry)) (now (out .entry)) ≡ record { refusal = r; place = now (place .exit); length = now (len .exit) } ⌝ }
+    ensures { λ _. ⌜ now (out .exit) ≡ shortenBuffer (now (table .entry)) revision number (now (message .entry)) (now (out .entry)) ⌝ }
 {
-    let shortened = message_calls::shorten(table, number, message, out);
+    let shortened = message_calls::shorten(table, revision, number, message, out);
     *place = shortened.place;
     *len = shortened.length;
     shortened.refusal
@@ -90,6 +92,7 @@ pub extern "C" fn crudvim_frame_write(
 #[no_mangle]
 pub extern "C" fn crudvim_lookup(
     table: &[u8],
+    revision: u64,
     number: u64,
     message: &[u8],
     tag: u64,
@@ -101,9 +104,9 @@ pub extern "C" fn crudvim_lookup(
     start: &mut u64,
     len: &mut u64,
 ) -> u64
-    ensures { λ r. ⌜ lookupOctets (now (table .entry)) number (now (message .entry)) tag k ≡ record { refusal = r; place = now (place .exit); kind = now (kind .exit); value = now (value .exit); signed = now («signed_value» .exit); start = now (start .exit); length = now (len .exit) } ⌝ }
+    ensures { λ r. ⌜ lookupOctets (now (table .entry)) revision number (now (message .entry)) tag k ≡ record { refusal = r; place = now (place .exit); kind = now (kind .exit); value = now (value .exit); signed = now («signed_value» .exit); start = now (start .exit); length = now (len .exit) } ⌝ }
 {
-    let found = message_calls::lookup(table, number, message, tag, k);
+    let found = message_calls::lookup(table, revision, number, message, tag, k);
     *place = found.place;
     *kind = found.kind;
     *value = found.value;
@@ -118,6 +121,7 @@ pub extern "C" fn crudvim_lookup(
 #[no_mangle]
 pub extern "C" fn crudvim_lookup_last(
     table: &[u8],
+    revision: u64,
     number: u64,
     message: &[u8],
     tag: u64,
@@ -128,9 +132,9 @@ pub extern "C" fn crudvim_lookup_last(
     start: &mut u64,
     len: &mut u64,
 ) -> u64
-    ensures { λ r. ⌜ lookupLastOctets (now (table .entry)) number (now (message .entry)) tag ≡ record { refusal = r; place = now (place .exit); kind = now (kind .exit); value = now (value .exit); signed = now («signed_value» .exit); start = now (start .exit); length = now (len .exit) } ⌝ }
+    ensures { λ r. ⌜ lookupLastOctets (now (table .entry)) revision number (now (message .entry)) tag ≡ record { refusal = r; place = now (place .exit); kind = now (kind .exit); value = now (value .exit); signed = now («signed_value» .exit); start = now (start .exit); length = now (len .exit) } ⌝ }
 {
-    let last = message_calls::lookup_last(table, number, message, tag);
+    let last = message_calls::lookup_last(table, revision, number, message, tag);
     *place = last.place;
     *kind = last.kind;
     *value = last.value;
