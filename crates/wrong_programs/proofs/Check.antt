@@ -127,15 +127,15 @@ accepts-all = accepts refusal always past-the-end tt (eqb-false 4 0 refl)
 
 -- It takes 16 as a message number.
 abbrev empty-under-16 : CheckCall → Type 0
-empty-under-16 x = (x .value .table ≡ []) × (x .value .number ≡ 16) × (message x ≡ [])
+empty-under-16 x = (x .value .table ≡ []) × (x .value .revision ≡ 2) × (x .value .number ≡ 16) × (message x ≡ [])
 
 pub accepts-number-16 : RuledOut (Accepts refusal empty-under-16) check
 unfolding number-16
-accepts-number-16 = accepts refusal empty-under-16 number-16 (refl, refl, refl) (eqb-false 2 0 refl)
+accepts-number-16 = accepts refusal empty-under-16 number-16 (refl, refl, refl, refl) (eqb-false 2 0 refl)
 
 -- The count of fields of what it accepts, or the depth, is invented: it is the same each time, or is made from the length of the message.
-abbrev all-but-the-octets : CheckCall → List ℕ × ℕ × ℕ
-all-but-the-octets x = (x .value .table, x .value .number, size x)
+abbrev all-but-the-octets : CheckCall → List ℕ × ℕ × ℕ × ℕ
+all-but-the-octets x = (x .value .table, x .value .revision, x .value .number, size x)
 
 pub depth-by-length : RuledOut (SeesOnly all-but-the-octets depth accepts-it) check
 unfolding nested of-tag-2
@@ -155,16 +155,16 @@ unfolding nested raw
 depth-by-fields = follows fields depth accepts-it nested raw refl refl refl (eqb-false 2 1 refl)
 
 -- It takes the table to be the same each time, such as one with no entries.
-abbrev all-but-the-table : CheckCall → ℕ × List ℕ
-all-but-the-table x = (x .value .number, message x)
+abbrev all-but-the-table : CheckCall → ℕ × ℕ × List ℕ
+all-but-the-table x = (x .value .revision, x .value .number, message x)
 
 pub table-ignored : RuledOut (SeesOnly all-but-the-table depth accepts-it) check
 unfolding nested raw
 table-ignored = sees-only all-but-the-table depth accepts-it nested raw refl refl refl (eqb-false 2 1 refl)
 
 -- It checks each message as one of the same number.
-abbrev all-but-the-number : CheckCall → List ℕ × List ℕ
-all-but-the-number x = (x .value .table, message x)
+abbrev all-but-the-number : CheckCall → List ℕ × ℕ × List ℕ
+all-but-the-number x = (x .value .table, x .value .revision, message x)
 
 pub number-ignored : RuledOut (SeesOnly all-but-the-number depth accepts-it) check
 unfolding nested under-another-number
@@ -231,11 +231,11 @@ pub short-though-rejected : RuledOut (AcceptsSome refusal-of (rejectedBy check r
 unfolding check short
 short-though-rejected = accepts-some refusal-of (rejectedBy check refusal)
     (λ x ne e. eqb-false 1 0 refl
-    (sym (ap refusal-of (short-already .refused-not-short (x .value .table) (x .value .number) (message x) ne)) ∙ e))
+    (sym (ap refusal-of (short-already .refused-not-short (x .value .table) (x .value .revision) (x .value .number) (message x) ne)) ∙ e))
 
 -- Its answer is made from the length of the message, or from the counts of fields and depth, and not from the octets.
-abbrev length-and-counts : CheckCall → List ℕ × ℕ × ℕ × ℕ × ℕ
-length-and-counts x = (x .value .table, x .value .number, size x, fields (check x), depth (check x))
+abbrev length-and-counts : CheckCall → List ℕ × ℕ × ℕ × ℕ × ℕ × ℕ
+length-and-counts x = (x .value .table, x .value .revision, x .value .number, size x, fields (check x), depth (check x))
 
 pub short-by-length-and-counts : RuledOut (SeesOnly length-and-counts refusal-of accepts-it) short
 unfolding hproto zero five

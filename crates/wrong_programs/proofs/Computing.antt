@@ -2,15 +2,19 @@
 -- readers of hproto messages, of the backward writer, or of the Tib readers and tib_real.
 use Rattle.octets.specs.Number as octets
 use Rattle.octets.specs.Signed as signs
+use Rattle.octets.specs.Utf8.{grammar}
+use Rattle.octets.specs.Text as texts
 use Rattle.octets.specs.Control as controls
 use Rattle.octets.specs.Short.{same}
 use Rattle.reading.specs.Reading.{onAccepted, inOrder}
 use Rattle.reading.specs.Checks as answers
 use Rattle.table.specs.Entry as entries
+use Rattle.table.specs.Mask as masks
 use Rattle.table.specs.Schema as schemas
 use Rattle.table.specs.Load as loads
 use Rattle.table.specs.Valid as valids
-use Rattle.table.specs.Repeat as repeats
+use Rattle.table.specs.Repeat.{distinct}
+use Rattle.message.specs.Single.{among, repeats}
 use Rattle.message.specs.Cut as cuts
 use Rattle.message.specs.Tree as trees
 use Rattle.message.specs.Items as items
@@ -61,30 +65,33 @@ use Rattle.wrong_programs.specs.Reals as reals
 
 unfoldable pub hproto : Type 0
 unfolding kinds.always kinds.below kinds.array kinds.octets kinds.word kinds.words kinds.table load.load check.fits check.check check.short
-    lookup.fits lookup.lookup lookup.lookupLast shorten.fits shorten.shorten frameRead.frameRead frameWrite.fits frameWrite.frameWrite show.fits show.show
-    valid.valid loads.load loads.loadFrom loads.accepted loads.refused loads.tableOf loads.wordsBefore loads.faulty
-    loads.wellFormed loads.recordAt loads.wordAt loads.inRange loads.seen loads.pair schemas.schema schemas.schemaOf entries.entry entries.entries
-    entries.find entries.meaning entries.innerOf entries.kindNumber valids.valid valids.allInRange valids.allZero repeats.distinct octets.bigEndian
-    octets.octetsOf octets.width octets.widthWithin octets.leastUint signs.integer signs.withSign signs.lowest controls.control controls.controlOf
-    controls.following controls.coded controls.leastControl controls.leastCode controls.firstFit same onAccepted inOrder readings.reading
-    readings.messageFrom readings.fieldsFrom readings.afterStep readings.step readings.stepFrom readings.stepByKind cuts.joined trees.tree
-    readings.tagOf readings.tagAt trees.value trees.depth trees.fields shortests.shortest shortests.field shortests.leastContents answers.counts
-    answers.refusal checks.check checks.checkUnder checks.treeCounts lookups.outermost items.itemTag items.withTag lookups.lastOr lookups.chosen
-    items.itemKind items.kindOf items.uintOf items.intOf lookups.refusal lookups.found lookups.foundIn lookups.answer lookups.lookup lookups.lookupLast
-    shortestOfReading shortens.refusal shortens.shortestUnder shortens.shortestByTable shortens.roomy shortens.shortenResult shortens.resultBuffer shortens.answer
-    shortens.buffer shorts.short withTable checkOctets shortOctets lookupOctets lookupLastOctets shortenOctets shortenBuffer stored frames.announced
-    frames.prefixed frames.frontRead frames.frameRead frames.messagePart frames.shortestPrefix frames.framed frames.frameWritten frames.frameStored ascii
-    digits.glyph digits.decimalWithin digits.decimal digits.fourDigits prints.kindName prints.valueText prints.lineStart prints.line prints.lines
-    prints.page prints.shown prints.refusalText prints.readText prints.messageText window shows.secondText shows.tableText shows.firstText shows.output
+    lookup.fits lookup.lookup lookup.lookupLast shorten.fits shorten.shorten frameRead.frameRead frameWrite.fits frameWrite.frameWrite show.fits
+    show.show valid.valid loads.load loads.loadFrom loads.accepted loads.refused loads.tableOf loads.wordsBefore loads.faulty loads.wellFormed
+    loads.announced loads.recordSize loads.placeAt loads.recordAt loads.wordOf loads.wordAt loads.inRange loads.seen loads.pair schemas.isRevision
+    schemas.schema schemas.schemaOf entries.entry entries.entries entries.markedSingle entries.find entries.meaning entries.innerOf entries.kindNumber
+    valids.valid valids.allInRange valids.allZero distinct octets.bigEndian octets.octetsOf octets.width octets.widthWithin octets.leastUint
+    signs.integer signs.withSign signs.lowest controls.control controls.controlOf controls.following controls.coded controls.leastControl
+    controls.leastCode controls.firstFit same onAccepted inOrder readings.reading readings.messageFrom readings.fieldsFrom readings.afterStep
+    readings.step readings.stepFrom readings.stepByKind readings.tooDeep among repeats texts.text texts.textAfter texts.after texts.within grammar
+    cuts.joined trees.tree readings.tagOf readings.tagAt trees.value trees.depth trees.fields shortests.shortest shortests.field
+    shortests.leastContents answers.counts answers.refusal checks.check checks.checkUnder checks.treeCounts lookups.outermost items.itemTag
+    items.withTag lookups.lastOr lookups.chosen items.itemKind items.kindOf items.uintOf items.intOf lookups.refusal lookups.found lookups.foundIn
+    lookups.answer lookups.lookup lookups.lookupLast shortestOfReading shortens.refusal shortens.shortestUnder shortens.shortestByTable shortens.roomy
+    shortens.shortenResult shortens.resultBuffer shortens.answer shortens.buffer shorts.short withTable checkOctets shortOctets lookupOctets
+    lookupLastOctets shortenOctets shortenBuffer stored frames.announced frames.prefixed frames.frontRead frames.frameRead frames.messagePart
+    frames.shortestPrefix frames.framed frames.frameWritten frames.frameStored ascii digits.glyph digits.decimalWithin digits.decimal
+    digits.fourDigits prints.kindName prints.valueText prints.lineStart prints.line prints.lines prints.page prints.shown prints.refusalText
+    prints.readText prints.messageText window shows.secondText shows.tableText shows.firstText shows.output
 hproto = Unit {0}
 
 unfoldable pub writer : Type 0
 unfolding hproto writing.stateFits writing.startFits writing.intFits writing.Value writing.valueFits writing.putFits writing.openFits
     writing.closeFits writing.start writing.callOf writing.put writing.openField writing.closeField writing.finish writing.soundState writes.answer
-    writes.buffer calls.orRefuse calls.callResult calls.bufferAfter calls.level calls.meant calls.back calls.startRefusal calls.begun calls.started
-    calls.putRefusal calls.put calls.putBuffer calls.ofOctets calls.readable calls.openRefusal calls.deeper calls.opening calls.closingPart
-    calls.closeEarly calls.closeRefusal calls.outer calls.closing calls.closeBuffer calls.finishRefusal calls.finished sounds.falling sounds.small
-    sounds.sound signs.leastInt signs.signedWidth signs.signedBits
+    writes.buffer calls.orRefuse calls.callResult calls.bufferAfter calls.level calls.meant calls.single calls.mask calls.noted calls.maskWith
+    calls.back calls.masked masks.order masks.hasBit masks.withBit calls.startRefusal calls.begun calls.started calls.putRefusal calls.put
+    calls.putBuffer calls.ofOctets calls.readable calls.openRefusal calls.deeper calls.opening calls.closingPart calls.closeEarly calls.closeRefusal
+    calls.outer calls.closing calls.closeBuffer calls.finishRefusal calls.finished sounds.falling sounds.small sounds.sound signs.leastInt
+    signs.signedWidth signs.signedBits
 writer = Unit {0}
 
 unfoldable pub tib : Type 0

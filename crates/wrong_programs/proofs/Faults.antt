@@ -1,13 +1,15 @@
--- What rules out programs that accept a table value or a state with a fault: an entry that accepts only valid tables, or only sound states.
+-- What rules out programs that accept a table value, a revision or a state with a fault: an entry that accepts only valid tables, only revisions, or
+-- only sound states.
 use Prim.Native.Nat.{ℕ, zero, suc, _+_, _≤_, _<_}
 use native.Mathlib.Omega.{arith}
 use mathlib.Core.Path.{_≡_, refl}
-use mathlib.Core.Bool.{Bool, true, false, _&&_}
+use mathlib.Core.Bool.{Bool, true, false, _&&_, _||_}
 use mathlib.Core.List.{List, [], _∷_}
 use lib.ListN.{length, take, getD}
 use lib.Seq.{getD-take}
 use lib.Dec.{leb, eqb}
-use borrow.Author.Tests.{leb-true, eqb-true}
+use borrow.Author.Tests.{leb-true, eqb-true, eqb-false}
+use Rattle.table.specs.Schema.{isRevision}
 use Rattle.table.specs.Valid.{valid}
 use Rattle.table.specs.declared.Table.{Table}
 use Rattle.octets.proofs.Bools.{and-left, and-right}
@@ -16,14 +18,10 @@ use Rattle.writer_state.specs.Sound.{falling, small, sound}
 use Rattle.writer_state.specs.declared.State.{State}
 use Rattle.writer_state.proofs.SoundStates.{sound-within, sound-few, last-mark}
 use Rattle.wrong_programs.specs.Kinds.{refusal-of}
-use Rattle.wrong_programs.specs.Faults.{BadTableRuledOut, BadStateRuledOut}
+use Rattle.wrong_programs.specs.Faults.{NoRevision, BadTableRuledOut, BadRevisionRuledOut, BadStateRuledOut}
 use Rattle.wrong_programs.proofs.RulingOut.{accepts-some}
 
 -- What a caller gives passes a chain of tests that it is in range. A test that fails makes the chain fail, so each of them holds.
-pub and-false : (a : Bool) → a && false ≡ false
-and-false true = refl
-and-false false = refl
-
 pub equal : (m n : ℕ) → (eqb m n ≡ false → ⊥) → m ≡ n
 equal m n h = go (eqb m n) refl
   where
@@ -35,6 +33,28 @@ equal m n h = go (eqb m n) refl
 pub holds : (b : Bool) → refusal-of b ≡ 0 → b ≡ true
 holds true e = refl
 holds false e = absurd (omega arith)
+
+-- ---- revisions
+
+-- No number passes the test of revisions but these.
+no-revision : (revision : ℕ) → isRevision revision ≡ true → NoRevision revision → ⊥
+unfolding isRevision NoRevision
+no-revision revision e w = go (eqb revision 1) refl e
+  where
+    go : (b : Bool) → eqb revision 1 ≡ b → b || eqb revision 2 ≡ true → ⊥
+    go true f e = w .0 (eqb-true revision 1 f)
+    go false f e = w .1 (eqb-true revision 2 e)
+
+-- Such numbers are 0, 3 and 257.
+pub no-revisions : NoRevision 0 × NoRevision 3 × NoRevision 257
+unfolding NoRevision
+no-revisions = ((eqb-false 0 1 refl, eqb-false 0 2 refl), (eqb-false 3 1 refl, eqb-false 3 2 refl), (eqb-false 257 1 refl, eqb-false 257 2 refl))
+
+-- An entry that accepts only revisions.
+module _ {A B : Type 0} {right : A → B} (refusal : B → ℕ) (revision : A → ℕ)
+    (only-known : (x : A) → refusal (right x) ≡ 0 → isRevision (revision x) ≡ true) where
+  pub bad-revision : BadRevisionRuledOut right refusal revision
+  bad-revision = accepts-some refusal _ (λ x w e. no-revision (revision x) (only-known x e) w)
 
 -- ---- states
 
@@ -72,23 +92,35 @@ module _ (s : State) (e : sound s ≡ true) where
   abbrev lengths : Bool
   lengths = leb (s .length) 65536 && leb (s .start) (s .length)
 
+  abbrev known : Bool
+  known = isRevision (s .revision)
+
   abbrev falls : Bool
   falls = falling (s .start) (s .length) (take (s .opened) (s .marks))
 
   abbrev smalls : Bool
   smalls = small (take (s .opened + 1) (s .numbers))
 
-  sound-marks : lengths && leb (s .opened) 7 && falls ≡ true
+  abbrev before-marks : Bool
+  before-marks = lengths && leb (s .opened) 7 && known
+
+  sound-marks : before-marks && falls ≡ true
   unfolding sound
-  sound-marks = and-left (lengths && leb (s .opened) 7 && falls) smalls e
+  sound-marks = and-left (before-marks && falls) smalls e
+
+  sound-before-marks : before-marks ≡ true
+  sound-before-marks = and-left before-marks falls sound-marks
 
   sound-short : s .length ≤ 65536
   sound-short =
-      let both = and-left lengths (leb (s .opened) 7) (and-left (lengths && leb (s .opened) 7) falls sound-marks) in
+      let both = and-left lengths (leb (s .opened) 7) (and-left (lengths && leb (s .opened) 7) known sound-before-marks) in
       leb-true (s .length) 65536 (and-left (leb (s .length) 65536) (leb (s .start) (s .length)) both)
 
   sound-falls : falls ≡ true
-  sound-falls = and-right (lengths && leb (s .opened) 7) falls sound-marks
+  sound-falls = and-right before-marks falls sound-marks
+
+  sound-known : known ≡ true
+  sound-known = and-right (lengths && leb (s .opened) 7) known sound-before-marks
 
   mark-within : (i : ℕ) → i < s .opened → getD (s .marks) i 0 ≤ s .length
   mark-within i h = rw getD-take at (fall-below (s .start) (s .length) (take (s .opened) (s .marks)) i sound-falls)
@@ -103,7 +135,7 @@ module _ (s : State) (e : sound s ≡ true) where
   unfolding sound
   number-small i h =
       let k : i < s .opened + 1 = omega arith in
-      let f = all-small (take (s .opened + 1) (s .numbers)) i (and-right (lengths && leb (s .opened) 7 && falls) smalls e) in
+      let f = all-small (take (s .opened + 1) (s .numbers)) i (and-right (before-marks && falls) smalls e) in
       rw (getD-take (s .opened + 1) (s .numbers) i 0 k) at f
 
 -- An entry that accepts only sound states.
@@ -115,6 +147,7 @@ module _ {A B : Type 0} {right : A → B} (refusal : B → ℕ) (state : A → S
         accepts-long-buffer = accepts-some refusal _ (λ x w e. let h = sound-short (state x) (only-sound x e) in omega arith);
         accepts-start-beyond-length = accepts-some refusal _ (λ x w e. let h = sound-within (state x) (only-sound x e) in omega arith);
         accepts-eight-open = accepts-some refusal _ (λ x w e. let h = sound-few (state x) (only-sound x e) in omega arith);
+        accepts-other-revision = bad-revision refusal (λ x. state x .revision) (λ x e. sound-known (state x) (only-sound x e));
         accepts-mark-below-start =
             accepts-some refusal _ (λ x w e.
             let few = sound-few (state x) (only-sound x e) in

@@ -6,12 +6,14 @@ pub mod Computing
 pub mod Witnesses
 pub mod Load
 pub mod Check
+pub mod Singles
 pub mod Lookup
 pub mod Shorten
 pub mod FrameRead
 pub mod FrameWrite
 pub mod Show
 pub mod Valid
+pub mod BehindTheCheck
 pub mod TableValues
 pub mod TibMessages
 pub mod TibCheck
@@ -21,5 +23,6 @@ pub mod Fractions
 pub mod WriterStates
 pub mod Puts
 pub mod Nesting
+pub mod Notes
 pub mod StartFinish
 pub mod WriterFaults

@@ -1,20 +1,23 @@
 -- Wrong programs in the place of crudvim_lookup and crudvim_lookup_last.
 use Prim.Native.Nat.{ℕ}
-use mathlib.Core.Path.{refl}
+use mathlib.Core.Path.{_≡_, refl}
+use mathlib.Core.Bool.{true}
 use mathlib.Core.List.{List, [], _∷_}
 use lib.ListN.{length}
 use lib.IntN.{ℤ, pos}
 use lib.Dec.{T, ltb}
 use borrow.Author.Tests.{eqb-false}
+use Rattle.table.specs.Schema.{isRevision}
 use Rattle.message_calls.specs.Lookup as lookups
 use Rattle.message_calls.specs.declared.Found.{Found}
-use Rattle.message_calls.specs.Calls.{lookupOctets}
-use Rattle.wrong_programs.specs.Kinds.{RuledOut, Rejects, Accepts, Invents, SeesOnly, always, due}
+use Rattle.message_calls.specs.Calls.{checkOctets, lookupOctets, lookupLastOctets}
+use Rattle.wrong_programs.specs.Kinds.{RuledOut, Rejects, Accepts, AcceptsSome, Invents, SeesOnly, always, due}
 use Rattle.wrong_programs.specs.Check.{CheckInput}
 use Rattle.wrong_programs.specs.Lookup.{LookupInput, LookupCall, lookup, lookupLast}
-use Rattle.wrong_programs.proofs.RulingOut.{Sample, given, rejects, accepts, invents, sees-only, pos-differ}
+use Rattle.wrong_programs.proofs.RulingOut.{Sample, given, rejects, accepts, accepts-some, invents, sees-only, pos-differ}
+use Rattle.wrong_programs.proofs.BehindTheCheck.{lookup-octets-checked, last-octets-checked}
 use Rattle.wrong_programs.proofs.Computing.{hproto}
-use Rattle.wrong_programs.proofs.Witnesses.{uints, ints, asked}
+use Rattle.wrong_programs.proofs.Witnesses.{uints, ints, only-marked, asked-under, asked}
 
 -- What is found of a field whose contents are one octet.
 abbrev found : ℕ → ℕ → ℤ → ℕ → Found
@@ -106,6 +109,26 @@ last-past-the-end : Sample lookupLast
 unfolding hproto
 last-past-the-end = given (looked (asked [] 0 (0x11 ∷ [])) 1 0) (lookups.refusal 4 0) tt refl
 
+-- Two fields with the tag 1, which is single, under both revisions.
+abbrev in-two : ℕ → LookupInput
+in-two revision = looked (asked-under revision (only-marked 1 1) 0 (0x11 ∷ 0x2a ∷ 0x11 ∷ 0x07 ∷ [])) 1 0
+
+repeated : Sample lookup
+unfolding hproto
+repeated = given (in-two 2) (lookups.refusal 20 2) tt refl
+
+under-1 : Sample lookup
+unfolding hproto
+under-1 = given (in-two 1) (found 1 42 (pos 0) 1) tt refl
+
+last-repeated : Sample lookupLast
+unfolding hproto
+last-repeated = given (in-two 2) (lookups.refusal 20 2) tt refl
+
+last-under-1 : Sample lookupLast
+unfolding hproto
+last-under-1 = given (in-two 1) (found 1 7 (pos 0) 3) tt refl
+
 abbrev refusal : Found → ℕ
 refusal f = f .refusal
 
@@ -164,6 +187,43 @@ pub last-absent-accepted : RuledOut (Accepts refusal (due lookupLast refusal 18)
 unfolding last-of-tag-3
 last-absent-accepted = accepts refusal (due lookupLast refusal 18) last-of-tag-3 refl (eqb-false 18 0 refl)
 
+-- It accepts a message in which nothing but a repeat of a single field is wrong.
+abbrev only-repeats : LookupCall → Type 0
+only-repeats x =
+    let c = x .value .within in
+    due lookup refusal 20 x × (lookupOctets (c .table) 1 (c .number) (c .message) (x .value .tag) (x .value .k) .refusal ≡ 0)
+
+pub accepts-repeats : RuledOut (Accepts refusal only-repeats) lookup
+unfolding hproto repeated
+accepts-repeats = accepts refusal only-repeats repeated (refl, refl) (eqb-false 20 0 refl)
+
+abbrev last-only-repeats : LookupCall → Type 0
+last-only-repeats x =
+    let c = x .value .within in
+    due lookupLast refusal 20 x × (lookupLastOctets (c .table) 1 (c .number) (c .message) (x .value .tag) .refusal ≡ 0)
+
+pub last-accepts-repeats : RuledOut (Accepts refusal last-only-repeats) lookupLast
+unfolding hproto last-repeated
+last-accepts-repeats = accepts refusal last-only-repeats last-repeated (refl, refl) (eqb-false 20 0 refl)
+
+-- It accepts what the check rejects, such as a repeat or another revision. One such call is enough.
+abbrev check-rejects-it : LookupCall → Type 0
+check-rejects-it x = let c = x .value .within in checkOctets (c .table) (c .revision) (c .number) (c .message) .refusal ≡ 0 → ⊥
+
+pub accepts-rejected : RuledOut (AcceptsSome refusal check-rejects-it) lookup
+unfolding lookup
+accepts-rejected = accepts-some refusal check-rejects-it
+    (λ x ne e.
+    let c = x .value .within in
+    ne (lookup-octets-checked (c .table) (c .revision) (c .number) (c .message) (x .value .tag) (x .value .k) e))
+
+pub last-accepts-rejected : RuledOut (AcceptsSome refusal check-rejects-it) lookupLast
+unfolding lookupLast
+last-accepts-rejected = accepts-some refusal check-rejects-it
+    (λ x ne e.
+    let c = x .value .within in
+    ne (last-octets-checked (c .table) (c .revision) (c .number) (c .message) (x .value .tag) e))
+
 -- It gives the same field for each k.
 abbrev all-but-k : LookupCall → CheckInput × ℕ
 all-but-k x = (x .value .within, x .value .tag)
@@ -174,7 +234,9 @@ k-ignored = sees-only all-but-k start accepts-it first second refl refl refl (eq
 
 -- It gives the first field for the last one.
 abbrev start-of-the-first : LookupCall → ℕ
-start-of-the-first x = lookupOctets (x .value .within .table) (x .value .within .number) (x .value .within .message) (x .value .tag) 0 .start
+start-of-the-first x =
+    let c = x .value .within in
+    lookupOctets (c .table) (c .revision) (c .number) (c .message) (x .value .tag) 0 .start
 
 pub first-for-last : RuledOut (Invents start start-of-the-first last-accepts-it) lookupLast
 unfolding last
@@ -193,8 +255,8 @@ unfolding last last-of-tag-2
 last-tag-ignored = sees-only all-but-the-tag start last-accepts-it last last-of-tag-2 refl refl refl (eqb-false 3 5 refl)
 
 -- It gives a kind that does not depend on the table, or on the message number.
-abbrev all-but-the-table : LookupCall → ℕ × List ℕ × ℕ × ℕ
-all-but-the-table x = (x .value .within .number, x .value .within .message, x .value .tag, x .value .k)
+abbrev all-but-the-table : LookupCall → ℕ × ℕ × List ℕ × ℕ × ℕ
+all-but-the-table x = (x .value .within .revision, x .value .within .number, x .value .within .message, x .value .tag, x .value .k)
 
 pub table-ignored : RuledOut (SeesOnly all-but-the-table kind accepts-it) lookup
 unfolding first first-int
@@ -204,8 +266,8 @@ pub last-table-ignored : RuledOut (SeesOnly all-but-the-table kind last-accepts-
 unfolding last last-int
 last-table-ignored = sees-only all-but-the-table kind last-accepts-it last last-int refl refl refl (eqb-false 1 2 refl)
 
-abbrev all-but-the-number : LookupCall → List ℕ × List ℕ × ℕ × ℕ
-all-but-the-number x = (x .value .within .table, x .value .within .message, x .value .tag, x .value .k)
+abbrev all-but-the-number : LookupCall → List ℕ × ℕ × List ℕ × ℕ × ℕ
+all-but-the-number x = (x .value .within .table, x .value .within .revision, x .value .within .message, x .value .tag, x .value .k)
 
 pub number-ignored : RuledOut (SeesOnly all-but-the-number kind accepts-it) lookup
 unfolding first under-number-1
@@ -215,9 +277,26 @@ pub last-number-ignored : RuledOut (SeesOnly all-but-the-number kind last-accept
 unfolding last last-under-number-1
 last-number-ignored = sees-only all-but-the-number kind last-accepts-it last last-under-number-1 refl refl refl (eqb-false 1 0 refl)
 
+-- It does not look at the revision.
+abbrev has-revision : LookupCall → Type 0
+has-revision x = isRevision (x .value .within .revision) ≡ true
+
+abbrev all-but-the-revision : LookupCall → List ℕ × ℕ × List ℕ × ℕ × ℕ
+all-but-the-revision x = (x .value .within .table, x .value .within .number, x .value .within .message, x .value .tag, x .value .k)
+
+pub revision-ignored : RuledOut (SeesOnly all-but-the-revision refusal has-revision) lookup
+unfolding hproto repeated under-1
+revision-ignored = sees-only all-but-the-revision refusal has-revision repeated under-1 refl refl refl (eqb-false 20 0 refl)
+
+pub last-revision-ignored : RuledOut (SeesOnly all-but-the-revision refusal has-revision) lookupLast
+unfolding hproto last-repeated last-under-1
+last-revision-ignored = sees-only all-but-the-revision refusal has-revision last-repeated last-under-1 refl refl refl (eqb-false 20 0 refl)
+
 -- It gives the same value or the same place each time, or one made from the length of the message.
-abbrev all-but-the-octets : LookupCall → List ℕ × ℕ × ℕ × ℕ × ℕ
-all-but-the-octets x = (x .value .within .table, x .value .within .number, length (x .value .within .message), x .value .tag, x .value .k)
+abbrev all-but-the-octets : LookupCall → List ℕ × ℕ × ℕ × ℕ × ℕ × ℕ
+all-but-the-octets x =
+    let c = x .value .within in
+    (c .table, c .revision, c .number, length (c .message), x .value .tag, x .value .k)
 
 pub number-by-length : RuledOut (SeesOnly all-but-the-octets uint-value accepts-it) lookup
 unfolding first behind-tag-2

@@ -162,20 +162,20 @@ unfolding close-1
 close-stays-open = invents (λ (r : Outcome). r .answer .state .opened) opened-before-close always close-1 tt (eqb-false 0 1 refl)
 
 -- It stores the same for each tag.
-abbrev all-but-the-tags : CloseCall → Table × List ℕ × List ℕ × List ℕ
+abbrev all-but-the-tags : CloseCall → Table × List ℕ × List ℕ × List ℕ × List ℕ
 all-but-the-tags x =
     let s = x .value .state in
-    (x .value .table, s .length ∷ s .start ∷ s .opened ∷ s .numbers, s .marks, x .value .buffer)
+    (x .value .table, s .length ∷ s .start ∷ s .opened ∷ s .revision ∷ s .numbers, s .masks, s .marks, x .value .buffer)
 
 pub close-tag-ignored : RuledOut (SeesOnly all-but-the-tags buffer-after accepts-it) closeField
 unfolding close-1 close-2
 close-tag-ignored = sees-only all-but-the-tags buffer-after accepts-it close-1 close-2 refl refl refl (differ-at 5 refl)
 
 -- It gives each field the same length, or one made from the tag, and ignores what was stored since the open.
-abbrev all-but-the-octets : CloseCall → Table × List ℕ × List ℕ × List ℕ
+abbrev all-but-the-octets : CloseCall → Table × List ℕ × List ℕ × List ℕ × List ℕ
 all-but-the-octets x =
     let s = x .value .state in
-    (x .value .table, s .length ∷ s .opened ∷ s .numbers, take (s .opened) (s .marks), take (s .opened) (s .tags))
+    (x .value .table, s .length ∷ s .opened ∷ s .revision ∷ s .numbers, s .masks, take (s .opened) (s .marks), take (s .opened) (s .tags))
 
 abbrev control-octet : Outcome → ℕ
 control-octet r = getD (r .buffer) (r .answer .state .start) 0

@@ -20,27 +20,27 @@ module _ (value : (p : Put) → PutInput p) (answer : Outcome)
     (of-u : put uint (record { value = value uint; in-range = u }) ≡ answer)
     (of-i : put int (record { value = value int; in-range = i }) ≡ answer)
     (of-o : put octets (record { value = value octets; in-range = o }) ≡ answer) where
-  in-range : (p : Put) → T (putFits p (value p))
+  pub in-range : (p : Put) → T (putFits p (value p))
   in-range uint = u
   in-range int = i
   in-range octets = o
 
-  fixed : (p : Put) → put p (record { value = value p; in-range = in-range p }) ≡ answer
+  pub fixed : (p : Put) → put p (record { value = value p; in-range = in-range p }) ≡ answer
   unfolding in-range
   fixed uint = of-u
   fixed int = of-i
   fixed octets = of-o
 
-  abbrev each : (p : Put) → Sample (put p)
+  abbrev pub each : (p : Put) → Sample (put p)
   each p = given (value p) answer (in-range p) (fixed p)
 
 -- The kind of the fields that a put is for, and two values for it: one octet 5, and none.
-kind : Put → ℕ
+unfoldable pub kind : Put → ℕ
 kind uint = 1
 kind int = 2
 kind octets = 3
 
-five : (p : Put) → Value p
+unfoldable pub five : (p : Put) → Value p
 unfolding Value
 five uint = 5
 five int = pos 5

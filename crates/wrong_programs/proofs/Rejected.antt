@@ -7,7 +7,6 @@ use lib.ListN.{length}
 use lib.Dec.{ltb, eqb}
 use Rattle.reading.specs.Reading.{messageLimit}
 use Rattle.table.specs.Load.{load}
-use Rattle.table.specs.declared.Loaded.{Loaded}
 use Rattle.message_calls.specs.Shorten as shortens
 use Rattle.message_calls.specs.declared.Shortened.{Shortened}
 use Rattle.message_calls.proofs.ShortenAnswers.{refused-leaves}
@@ -25,15 +24,17 @@ use Rattle.wrong_programs.specs.Writer as writer
 use Rattle.wrong_programs.proofs.RulingOut.{changes}
 
 -- The shortener, with a table as its octets.
-shorten-leaves : (table : List ℕ) (n : ℕ) (s out : List ℕ) → (shortenOctets table n s out .refusal ≡ 0 → ⊥) → shortenBuffer table n s out ≡ out
+shorten-leaves : (table : List ℕ) (revision n : ℕ) (s out : List ℕ) → (shortenOctets table revision n s out .refusal ≡ 0 → ⊥)
+    → shortenBuffer table revision n s out ≡ out
 unfolding shortenOctets shortenBuffer withTable shortens.refusal
-shorten-leaves table n s out ne = go (ltb messageLimit (length s)) (eqb (load table .refusal) 0) ne
+shorten-leaves table revision n s out ne = go (ltb messageLimit (length s)) (eqb (load table .refusal) 0) ne
   where
     go : (a b : Bool)
-        → (cond a (shortens.refusal 1 0) (cond b (shortens.answer (load table .table) n s out) (shortens.refusal (load table .refusal) (load table .place))) .refusal ≡ 0 → ⊥)
-        → cond a out (cond b (shortens.buffer (load table .table) n s out) out) ≡ out
+        → (cond a (shortens.refusal 1 0)
+        (cond b (shortens.answer (load table .table) revision n s out) (shortens.refusal (load table .refusal) (load table .place))) .refusal ≡ 0 → ⊥)
+        → cond a out (cond b (shortens.buffer (load table .table) revision n s out) out) ≡ out
     go true b k = refl
-    go false true k = refused-leaves (load table .table) n s out k
+    go false true k = refused-leaves (load table .table) revision n s out k
     go false false k = refl
 
 pub shorten-stores : RuledOut (Changes (λ (a : Shortened × List ℕ). a .1) (λ (x : shortener.ShortenCall). x .value .out)
@@ -41,7 +42,9 @@ pub shorten-stores : RuledOut (Changes (λ (a : Shortened × List ℕ). a .1) (�
 unfolding shortener.shorten
 shorten-stores = changes (λ (a : Shortened × List ℕ). a .1) (λ (x : shortener.ShortenCall). x .value .out)
     (rejectedBy shortener.shorten (λ (a : Shortened × List ℕ). a .0 .refusal))
-    (λ x ne. shorten-leaves (x .value .within .table) (x .value .within .number) (x .value .within .message) (x .value .out) ne)
+    (λ x ne.
+    let c = x .value .within in
+    shorten-leaves (c .table) (c .revision) (c .number) (c .message) (x .value .out) ne)
 
 -- The frame writer.
 pub frame-write-stores : RuledOut (Changes (λ (a : FrameWritten × List ℕ). a .1) (λ (x : framer.FrameWriteCall). x .value .out)

@@ -10,7 +10,7 @@ use Rattle.wrong_programs.specs.Kinds.{RuledOut, Invents, SeesOnly, alwa
 use Rattle.wrong_programs.specs.Show.{ShowInput, ShowCall, show}
 use Rattle.wrong_programs.proofs.RulingOut.{Sample, given, invents, sees-only}
 use Rattle.wrong_programs.proofs.Computing.{hproto}
-use Rattle.wrong_programs.proofs.Witnesses.{uints}
+use Rattle.wrong_programs.proofs.Witnesses.{uints, only-marked}
 
 abbrev Answer : Type 0
 Answer = ℕ × List ℕ
@@ -71,6 +71,14 @@ letter-u = given (shown (uint 0x07) 28) (53, 0x75 ∷ []) tt refl
 fourteen : Sample show
 unfolding hproto
 fourteen = given (shown (0x00 ∷ 0x01 ∷ 0xc3 ∷ 0x00 ∷ []) 8) (16, 0x31 ∷ []) tt refl
+
+-- A message with a single field twice: "refused 20 at 1".
+abbrev twice : List ℕ
+twice = (0x09 ∷ []) ++ only-marked 1 1 ++ (0x02 ∷ 0x10 ∷ 0x10 ∷ [])
+
+twenty : Sample show
+unfolding hproto
+twenty = given (shown twice 0) (16, 0x72 ∷ []) tt refl
 
 abbrev text-length : Answer → ℕ
 text-length a = a .0
@@ -154,3 +162,8 @@ message-and-more x = (c b : ℕ) × (x .value ≡ shown (0x00 ∷ 0x01 ∷ c ∷
 pub fourteen-after-the-message : RuledOut (Invents octet (λ (x : ShowCall). 0x34) message-and-more) show
 unfolding fourteen
 fourteen-after-the-message = invents octet (λ (x : ShowCall). 0x34) message-and-more fourteen (0xc3, 0x00, refl, tt) (eqb-false 0x31 0x34 refl)
+
+-- It reads under revision 1, and so prints a message that has a single field twice.
+pub reads-under-1 : RuledOut (Invents octet (λ (x : ShowCall). 0x64) (λ (x : ShowCall). x .value ≡ shown twice 0)) show
+unfolding twenty
+reads-under-1 = invents octet (λ (x : ShowCall). 0x64) (λ (x : ShowCall). x .value ≡ shown twice 0) twenty refl (eqb-false 0x72 0x64 refl)

@@ -1,6 +1,6 @@
 -- Wrong programs in the place of start and finish, and of writer_state::sound.
 use Prim.Native.Nat.{ℕ}
-use mathlib.Core.Path.{refl}
+use mathlib.Core.Path.{_≡_, refl}
 use mathlib.Core.Bool.{true}
 use mathlib.Core.List.{List, [], _∷_}
 use lib.ListN.{getD}
@@ -19,8 +19,11 @@ use Rattle.wrong_programs.proofs.WriterStates.{table, unused, state, st
 
 -- ---- start
 
+abbrev asked-under : ℕ → ℕ → List ℕ → StartInput
+asked-under revision number buffer = record { table = table 1; revision = revision; number = number; buffer = buffer }
+
 abbrev asked : ℕ → List ℕ → StartInput
-asked number buffer = record { table = table 1; number = number; buffer = buffer }
+asked number buffer = asked-under 2 number buffer
 
 number-0 : Sample start
 unfolding writer
@@ -28,15 +31,19 @@ number-0 = given (asked 0 unused) (accepted (state-at 6)) tt refl
 
 number-1 : Sample start
 unfolding writer
-number-1 = given (asked 1 unused) (accepted (begun 6 1)) tt refl
+number-1 = given (asked 1 unused) (accepted (begun 6 2 1)) tt refl
 
 number-16 : Sample start
 unfolding writer
-number-16 = given (asked 16 unused) (refused 2 (begun 0 0)) tt refl
+number-16 = given (asked 16 unused) (refused 2 (begun 0 0 0)) tt refl
+
+under-1 : Sample start
+unfolding writer
+under-1 = given (asked-under 1 0 unused) (accepted (begun 6 1 0)) tt refl
 
 no-buffer : Sample start
 unfolding writer
-no-buffer = given (asked 0 []) (accepted (begun 0 0)) tt refl
+no-buffer = given (asked 0 []) (accepted (begun 0 2 0)) tt refl
 
 abbrev start-refusal : Written → ℕ
 start-refusal r = r .refusal
@@ -57,14 +64,22 @@ pub start-rejects-numbers : RuledOut (Rejects start-refusal not-number-0) start
 unfolding number-1
 start-rejects-numbers = rejects start-refusal not-number-0 number-1 tt refl
 
+-- It rejects every call under revision 1.
+abbrev calls-under-1 : StartCall → Type 0
+calls-under-1 x = x .value .revision ≡ 1
+
+pub start-rejects-revision-1 : RuledOut (Rejects start-refusal calls-under-1) start
+unfolding under-1
+start-rejects-revision-1 = rejects start-refusal calls-under-1 under-1 refl refl
+
 -- It accepts every call.
 pub start-accepts-all : RuledOut (Accepts start-refusal always) start
 unfolding number-16
 start-accepts-all = accepts start-refusal always number-16 tt (eqb-false 2 0 refl)
 
 -- It gives each outermost message the same number.
-abbrev all-but-the-number : StartCall → Table × List ℕ
-all-but-the-number x = (x .value .table, x .value .buffer)
+abbrev all-but-the-number : StartCall → Table × ℕ × List ℕ
+all-but-the-number x = (x .value .table, x .value .revision, x .value .buffer)
 
 abbrev number-noted : Written → ℕ
 number-noted r = getD (r .state .numbers) 0 0
@@ -73,9 +88,19 @@ pub start-number-ignored : RuledOut (SeesOnly all-but-the-number number-noted st
 unfolding number-0 number-1
 start-number-ignored = sees-only all-but-the-number number-noted start-accepts-it number-0 number-1 refl refl refl (eqb-false 0 1 refl)
 
+-- It keeps the same revision for each message.
+abbrev all-but-the-revision : StartCall → Table × ℕ × List ℕ
+all-but-the-revision x = (x .value .table, x .value .number, x .value .buffer)
+
+pub start-revision-ignored : RuledOut (SeesOnly all-but-the-revision (λ (r : Written). r .state .revision) start-accepts-it) start
+unfolding number-0 under-1
+start-revision-ignored =
+    sees-only all-but-the-revision (λ (r : Written). r .state .revision) start-accepts-it number-0 under-1 refl refl refl
+    (eqb-false 2 1 refl)
+
 -- It starts at the same place in each buffer.
-abbrev all-but-the-buffer : StartCall → Table × ℕ
-all-but-the-buffer x = (x .value .table, x .value .number)
+abbrev all-but-the-buffer : StartCall → Table × ℕ × ℕ
+all-but-the-buffer x = (x .value .table, x .value .revision, x .value .number)
 
 pub start-buffer-ignored : RuledOut (SeesOnly all-but-the-buffer (λ (r : Written). r .state .start) start-accepts-it) start
 unfolding number-0 no-buffer

@@ -1,11 +1,12 @@
 -- Wrong programs in the place of table_index::valid.
 use Prim.Native.Nat.{ℕ}
-use mathlib.Core.Path.{refl}
+use mathlib.Core.Path.{_≡_, refl}
 use mathlib.Core.Bool.{true, false}
 use mathlib.Core.List.{List, _∷_}
-use lib.ListN.{take, replicate}
+use lib.ListN.{take, getD, replicate}
 use lib.Dec.{T, ltb}
 use borrow.Author.Tests.{eqb-false}
+use Rattle.table.specs.Entry.{entry}
 use Rattle.table.specs.declared.Table.{Table}
 use Rattle.wrong_programs.specs.Kinds.{RuledOut, Rejects, Accepts, SeesOnly, always, refusal-of}
 use Rattle.wrong_programs.specs.Valid.{ValidCall, valid}
@@ -22,12 +23,16 @@ empty = given (table 0 0) true tt refl
 
 one-uint : Sample valid
 unfolding hproto
-one-uint = given (table 1 0x10100) true tt refl
+one-uint = given (table 1 0x1010000) true tt refl
+
+one-single : Sample valid
+unfolding hproto
+one-single = given (table 1 0x1010001) true tt refl
 
 -- The unused word is not 0, or the used one has no kind.
 unused-set : Sample valid
 unfolding hproto
-unused-set = given (table 0 0x10100) false tt refl
+unused-set = given (table 0 0x1010000) false tt refl
 
 no-kind : Sample valid
 unfolding hproto
@@ -45,6 +50,14 @@ has-entries x = T (ltb 0 (x .value .count))
 pub rejects-entries : RuledOut (Rejects refusal-of has-entries) valid
 unfolding one-uint
 rejects-entries = rejects refusal-of has-entries one-uint tt refl
+
+-- It rejects a table whose first entry is single.
+abbrev has-single : ValidCall → Type 0
+has-single x = entry (getD (x .value .words) 0 0) .mark ≡ 1
+
+pub rejects-single : RuledOut (Rejects refusal-of has-single) valid
+unfolding hproto one-single
+rejects-single = rejects refusal-of has-single one-single refl refl
 
 -- It accepts every call.
 pub accepts-all : RuledOut (Accepts refusal-of always) valid

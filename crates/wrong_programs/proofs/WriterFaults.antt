@@ -1,8 +1,9 @@
--- Programs in the place of the calls of the writer that leave out a test: of the table value, of the state, or of the buffer's length.
+-- Programs in the place of the calls of the writer that leave out a test: of the table value, of the revision, of the state, or of the buffer's
+-- length.
 use Prim.Native.Nat.{ℕ, _<_}
 use native.Mathlib.Omega.{arith}
 use mathlib.Core.Path.{_≡_}
-use mathlib.Core.Bool.{true}
+use mathlib.Core.Bool.{true, and-false}
 use lib.ListN.{length}
 use lib.Dec.{eqb}
 use borrow.Author.Tests.{eqb-true}
@@ -20,9 +21,9 @@ use Rattle.wrong_programs.specs.Kinds as kinds
 use Rattle.wrong_programs.specs.Kinds.{RuledOut, AcceptsSome, refusal-of}
 use Rattle.wrong_programs.specs.Writer as writing
 use Rattle.wrong_programs.specs.Writer.{StartCall, start, Put, uint, int, octets, PutCall, Outcome, put, OpenCall, openField, CloseCall, closeField, StateCall, finish, soundState}
-use Rattle.wrong_programs.specs.Faults.{BadTableRuledOut, BadStateRuledOut}
+use Rattle.wrong_programs.specs.Faults.{BadTableRuledOut, BadRevisionRuledOut, BadStateRuledOut}
 use Rattle.wrong_programs.proofs.RulingOut.{accepts-some}
-use Rattle.wrong_programs.proofs.Faults.{and-false, equal, holds, bad-table, bad-state}
+use Rattle.wrong_programs.proofs.Faults.{equal, holds, bad-table, bad-revision, bad-state}
 
 -- The tests that put, open and close share, with what comes after them.
 state-and-table : (t : Table) (s : State) (next : ℕ) → orRefuse (sound s) 10 (orRefuse (valid t) 2 next) ≡ 0 → (sound s ≡ true) × (valid t ≡ true)
@@ -159,9 +160,9 @@ sound-accepts-bad-state =
 -- ---- start
 
 module _ (x : StartCall) where
-  start-passed : refusal (start x) ≡ 0 → StartMet (x .value .table) (x .value .number) (length (x .value .buffer))
+  start-passed : refusal (start x) ≡ 0 → StartMet (x .value .table) (x .value .revision) (x .value .number) (length (x .value .buffer))
   unfolding start calls.started calls.callResult
-  start-passed e = start-met (x .value .table) (x .value .number) (length (x .value .buffer)) e
+  start-passed e = start-met (x .value .table) (x .value .revision) (x .value .number) (length (x .value .buffer)) e
 
 pub start-accepts-bad-table : BadTableRuledOut start refusal (λ (x : StartCall). x .value .table)
 unfolding writing.startFits kinds.table kinds.array
@@ -169,6 +170,9 @@ start-accepts-bad-table =
     bad-table refusal (λ (x : StartCall). x .value .table)
     (λ x. equal (length (x .value .table .words)) 64 (λ e. simp (e, and-false) at (x .in-range)))
     (λ x e. start-passed x e .table)
+
+pub start-accepts-other-revision : BadRevisionRuledOut start refusal (λ (x : StartCall). x .value .revision)
+start-accepts-other-revision = bad-revision refusal (λ (x : StartCall). x .value .revision) (λ x e. start-passed x e .profile)
 
 -- It accepts a buffer over 65,536 octets, or a number over 15.
 pub start-accepts-long-buffer : RuledOut (AcceptsSome refusal (λ (x : StartCall). 65536 < length (x .value .buffer))) start

@@ -12,6 +12,10 @@ use Rattle.wrong_programs.specs.Writer.{Outcome}
 abbrev pub table : ℕ → Table
 table kind = load (1 ∷ 0 ∷ 5 ∷ 0 ∷ 0 ∷ 1 ∷ kind ∷ 0 ∷ 1 ∷ 0 ∷ 5 ∷ 0 ∷ 0 ∷ 2 ∷ kind ∷ 0 ∷ []) .table
 
+-- Both are marked single.
+abbrev pub singles : ℕ → Table
+singles kind = load (1 ∷ 0 ∷ 6 ∷ 0 ∷ 0 ∷ 1 ∷ kind ∷ 0 ∷ 1 ∷ 1 ∷ 0 ∷ 6 ∷ 0 ∷ 0 ∷ 2 ∷ kind ∷ 0 ∷ 1 ∷ []) .table
+
 abbrev pub unused : List ℕ
 unused = replicate 6 0xaa
 
@@ -19,17 +23,24 @@ unused = replicate 6 0xaa
 abbrev pub ending : List ℕ → List ℕ
 ending s = replicate (6 - length s) 0xaa ++ s
 
--- A state by where the octets stored so far start, how many fields are open, and the marks and tags of the fields that were opened.
-abbrev pub state : ℕ → ℕ → List ℕ → List ℕ → State
-state start opened marks tags =
+-- A state by its revision and the masks of the outer levels, where the octets stored so far start, how many fields are open, and the marks and
+-- tags of the fields that were opened.
+abbrev pub noting : ℕ → List ℕ → ℕ → ℕ → List ℕ → List ℕ → State
+noting revision masks start opened marks tags =
     record {
       length = 6;
       start = start;
       opened = opened;
+      revision = revision;
       numbers = replicate 8 0;
+      masks = masks ++ replicate (8 - length masks) 0;
       marks = marks ++ replicate (7 - length marks) 0;
       tags = tags ++ replicate (7 - length tags) 0;
     }
+
+-- Under revision 2 with nothing noted.
+abbrev pub state : ℕ → ℕ → List ℕ → List ℕ → State
+state start opened marks tags = noting 2 [] start opened marks tags
 
 -- No field was opened. `start` gives the state at 6, as proofs/StartFinish.antt shows.
 abbrev pub state-at : ℕ → State

@@ -7,7 +7,7 @@ use Rattle.wrong_programs.specs.Kinds.{Given, word}
 use Rattle.wrong_programs.specs.Check as checks
 use Rattle.wrong_programs.specs.Check.{CheckInput}
 
--- A table, a number and a message, as for the check, and the tag and the k to look up.
+-- A table, a revision, a number and a message, as for the check, and the tag and the k to look up.
 pub record LookupInput : Type 0 where
   pub within : CheckInput
   pub tag : ℕ
@@ -21,8 +21,12 @@ LookupCall = Given fits
 
 -- The contract of crudvim_lookup.
 unfoldable pub lookup : LookupCall → Found
-lookup x = lookupOctets (x .value .within .table) (x .value .within .number) (x .value .within .message) (x .value .tag) (x .value .k)
+lookup x =
+    let c = x .value .within in
+    lookupOctets (c .table) (c .revision) (c .number) (c .message) (x .value .tag) (x .value .k)
 
 -- The contract of crudvim_lookup_last, which does not use k.
 unfoldable pub lookupLast : LookupCall → Found
-lookupLast x = lookupLastOctets (x .value .within .table) (x .value .within .number) (x .value .within .message) (x .value .tag)
+lookupLast x =
+    let c = x .value .within in
+    lookupLastOctets (c .table) (c .revision) (c .number) (c .message) (x .value .tag)

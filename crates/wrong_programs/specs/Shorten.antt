@@ -8,7 +8,7 @@ use Rattle.wrong_programs.specs.Kinds.{Given, octets}
 use Rattle.wrong_programs.specs.Check as checks
 use Rattle.wrong_programs.specs.Check.{CheckInput}
 
--- A table, a number and a message, as for the check, and the second buffer before the call.
+-- A table, a revision, a number and a message, as for the check, and the second buffer before the call.
 pub record ShortenInput : Type 0 where
   pub within : CheckInput
   pub out : List ℕ
@@ -22,7 +22,6 @@ ShortenCall = Given fits
 -- The contract of crudvim_shorten: its answer, and the second buffer afterwards.
 unfoldable pub shorten : ShortenCall → Shortened × List ℕ
 shorten x =
-    let t = x .value .within .table in
-    let n = x .value .within .number in
-    let s = x .value .within .message in
-    (shortenOctets t n s (x .value .out), shortenBuffer t n s (x .value .out))
+    let c = x .value .within in
+    let out = x .value .out in
+    (shortenOctets (c .table) (c .revision) (c .number) (c .message) out, shortenBuffer (c .table) (c .revision) (c .number) (c .message) out)

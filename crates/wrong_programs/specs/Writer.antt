@@ -19,24 +19,25 @@ use Rattle.wrong_programs.specs.Kinds.{Given, word, array}
 
 unfoldable pub stateFits : State → Bool
 stateFits s =
-    word (s .length) && word (s .start) && word (s .opened) && array 8 0x10000000000000000 (s .numbers) && array 7 0x10000000000000000 (s .marks)
-    && array 7 0x10000 (s .tags)
+    word (s .length) && word (s .start) && word (s .opened) && word (s .revision) && array 8 0x10000000000000000 (s .numbers)
+    && array 8 0x10000000000000000 (s .masks) && array 7 0x10000000000000000 (s .marks) && array 7 0x10000 (s .tags)
 
 -- ---- start
 
 pub record StartInput : Type 0 where
   pub table : Table
+  pub revision : ℕ
   pub number : ℕ
   pub buffer : List ℕ
 
 unfoldable pub startFits : StartInput → Bool
-startFits x = kinds.table (x .table) && word (x .number) && kinds.octets (x .buffer)
+startFits x = kinds.table (x .table) && word (x .revision) && word (x .number) && kinds.octets (x .buffer)
 
 abbrev pub StartCall : Type 0
 StartCall = Given startFits
 
 unfoldable pub start : StartCall → Written
-start x = started (x .value .table) (x .value .number) (length (x .value .buffer))
+start x = started (x .value .table) (x .value .revision) (x .value .number) (length (x .value .buffer))
 
 -- ---- put_uint, put_int and put_octets
 
