@@ -1,14 +1,14 @@
 // Runs the worked examples of the documents, and cases that are easy to get wrong, through the public functions. Each line of standard
 // input is a sample; program_lines describes its form. The first word says what to do, and only its first letter counts:
 //
-//     message NUMBER TABLE OCTETS          check a message and shorten it
-//     shorten ROOM TABLE OCTETS            shorten a message of number 0 into a buffer of ROOM octets, all of them aa
-//     find TAG WHICH NUMBER TABLE OCTETS   look a tag up; WHICH is counted from 0, or is the word last
-//     table OCTETS                         load a table
-//     read OCTETS                          read a frame
-//     write ROOM OCTETS                    write a frame into a buffer of ROOM octets, all of them aa, and read it
+//     message REVISION NUMBER TABLE OCTETS          check a message and shorten it
+//     shorten ROOM TABLE OCTETS                     shorten a message of number 0 into a buffer of ROOM octets, all of them aa
+//     find TAG WHICH REVISION NUMBER TABLE OCTETS   look a tag up; WHICH is counted from 0, or is the word last
+//     table OCTETS                                  load a table
+//     read OCTETS                                   read a frame
+//     write ROOM OCTETS                             write a frame into a buffer of ROOM octets, all of them aa, and read it
 //
-// A line that starts with # is ignored. Samples that no line can express run after the last line.
+// A line that starts with # is ignored. Samples that no line can express run after the last line. Where no revision is named it is 2.
 mod frames;
 mod lookups;
 mod messages;
@@ -46,7 +46,7 @@ fn samples(s: &[u8]) {
 }
 
 fn main() {
-    let mut input = [0u8; 32768];
+    let mut input = [0u8; 65536];
     let n = io::read_full(0, &mut input);
     samples(&input[..n]);
     tables::values();

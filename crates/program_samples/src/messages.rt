@@ -31,26 +31,27 @@ fn shortened(s: Shortened, out: &[u8; 65546]) {
     }
 }
 
-fn both(t: Table, number: u64, m: &[u8]) {
+fn both(t: Table, revision: u64, number: u64, m: &[u8]) {
     let mut out = [0xaau8; 65546];
     print::given(m);
-    checked(message_calls::check_loaded(t, number, m));
+    checked(message_calls::check_loaded(t, revision, number, m));
     program_lines::text(b", ");
-    let s = message_calls::shorten_loaded(t, number, m, &mut out);
+    let s = message_calls::shorten_loaded(t, revision, number, m, &mut out);
     shortened(s, &out);
 }
 
 pub fn message(line: &[u8]) {
-    let number = program_lines::number_in(program_lines::word(line, 1));
-    let t = tables::loaded(program_lines::word(line, 2));
+    let revision = program_lines::number_in(program_lines::word(line, 1));
+    let number = program_lines::number_in(program_lines::word(line, 2));
+    let t = tables::loaded(program_lines::word(line, 3));
     let mut space = [0u8; 65546];
-    let n = program_lines::octets_in(program_lines::word(line, 3), &mut space);
-    both(t, number, program_lines::front(&space, n));
+    let n = program_lines::octets_in(program_lines::word(line, 4), &mut space);
+    both(t, revision, number, program_lines::front(&space, n));
 }
 
 fn into(t: Table, m: &[u8], out: &mut [u8]) {
     print::given(m);
-    let s = message_calls::shorten_loaded(t, 0, m, out);
+    let s = message_calls::shorten_loaded(t, 2, 0, m, out);
     print::written(s.refusal, s.place, s.length, out);
 }
 

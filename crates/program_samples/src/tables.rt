@@ -31,22 +31,27 @@ pub fn table(line: &[u8]) {
     }
 }
 
-// Checks an empty message with a table value.
+// Checks an empty message with a table value, under revision 2.
 fn value(label: &[u8], count: usize, words: [u64; 64]) {
     program_lines::text(label);
     program_lines::text(b": ");
-    messages::checked(message_calls::check_loaded(Table { count, words }, 0, b""));
+    messages::checked(message_calls::check_loaded(Table { count, words }, 2, 0, b""));
     program_lines::text(b"\n");
 }
 
-// Tries table values that did not come from the loader. The loader could have returned the last of them.
+// Tries table values that did not come from the loader. The loader could have returned the last two of them.
 pub fn values() {
     let mut words = [0u64; 64];
     value(b"slot of kind 0", 1, words);
     value(b"count 65", 65, words);
     words[63] = 1;
     value(b"unused slot not 0", 0, words);
+    let mut other = [0u64; 64];
+    other[0] = 0xc010002;
+    value(b"slot with the mark 2", 1, other);
     let mut good = [0u64; 64];
-    good[0] = 0xc0100;
+    good[0] = 0xc010000;
     value(b"value as the loader gives it", 1, good);
+    good[0] = 0xc010001;
+    value(b"the same with the mark 1", 1, good);
 }

@@ -5,9 +5,9 @@ use message_calls::Found;
 use table::Table;
 
 // Prints whether the shortener returns the same octets, and a remark if the check said otherwise.
-fn shortest(t: Table, number: u64, m: &[u8], said: bool) {
+fn shortest(t: Table, revision: u64, number: u64, m: &[u8], said: bool) {
     let mut out = [0u8; 65536];
-    let s = message_calls::shorten_loaded(t, number, m, &mut out);
+    let s = message_calls::shorten_loaded(t, revision, number, m, &mut out);
     if s.refusal != 0 {
         program_lines::refusal(s.refusal, s.place);
         return;
@@ -19,10 +19,10 @@ fn shortest(t: Table, number: u64, m: &[u8], said: bool) {
     }
 }
 
-pub fn message(t: Table, number: u64, m: &[u8]) {
+pub fn message(t: Table, revision: u64, number: u64, m: &[u8]) {
     print::octets(m);
     program_lines::text(b", ");
-    let answer = message_calls::check_loaded(t, number, m);
+    let answer = message_calls::check_loaded(t, revision, number, m);
     let c = answer.checked;
     if c.refusal != 0 {
         program_lines::refusal(c.refusal, c.place);
@@ -30,7 +30,7 @@ pub fn message(t: Table, number: u64, m: &[u8]) {
     }
     program_lines::counts(c.fields, c.depth);
     program_lines::text(b", ");
-    shortest(t, number, m, answer.shortest);
+    shortest(t, revision, number, m, answer.shortest);
 }
 
 // Prints the kind and the value of a field: the number of a uint or an int, the octets of the others.

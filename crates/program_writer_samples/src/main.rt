@@ -1,16 +1,16 @@
 // Runs the writer on the script of standard input and reads back what it wrote. A line is a call, and its result is printed after it.
 // program_lines describes how numbers and octets are written; an int may have a minus. A capital letter sets something, and the letters from
 // w on read what is written.
-//   T OCTETS          load a field table           C COUNT           give the table another count
-//   B LENGTH          lend so much of the buffer   s NUMBER          start
-//   u TAG NUMBER      put a uint                   i TAG NUMBER      put an int
-//   o TAG OCTETS      put octets                   p TAG             open a message field
-//   c                 close it                     f                 finish
-//   w                 read the whole message       x TAG K           look up the k-th field
-//   y TAG             look up the last             z TAG K NUMBER    look it up and read the message that it holds
-//   L S O NUMBER      change the state's length, start or count of open fields
-//   N M LEVEL NUMBER  change the message number or the mark of a level
-//   #                 a heading
+//   T OCTETS            load a field table           C COUNT             give the table another count
+//   B LENGTH            lend so much of the buffer   s REVISION NUMBER   start
+//   u TAG NUMBER        put a uint                   i TAG NUMBER        put an int
+//   o TAG OCTETS        put octets                   p TAG               open a message field
+//   c                   close it                     f                   finish
+//   w                   read the whole message       x TAG K             look up the k-th field
+//   y TAG               look up the last             z TAG K NUMBER      look it up and read the message that it holds
+//   L S O R NUMBER      change the state's length, start, count of open fields or revision
+//   N K M LEVEL NUMBER  change the message number, the mask or the mark of a level
+//   #                   a heading
 mod back;
 mod compare;
 mod input;

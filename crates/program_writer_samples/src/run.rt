@@ -8,12 +8,13 @@ use table::Table;
 use writer_state::State;
 use writer_state::Written;
 
-// What the lines so far have set: the table, the state, how much of the buffer is lent, and the message to read, with its number and its
-// span in the buffer.
+// What the lines so far have set: the table, the state, how much of the buffer is lent, and the message to read, with its revision, its number
+// and its span in the buffer.
 pub struct Run {
     pub table: Table,
     pub state: State,
     pub lent: usize,
+    pub revision: u64,
     pub number: u64,
     pub from: usize,
     pub to: usize,
@@ -27,6 +28,7 @@ pub fn fresh() -> Run {
         },
         state: state::nothing(),
         lent: 0,
+        revision: 0,
         number: 0,
         from: 0,
         to: 0,
@@ -101,7 +103,7 @@ fn calls(what: u8, line: &[u8], r: Run, before: &[u8], buffer: &mut [u8]) -> Run
 // Runs a start. A refused start returns a state of zeros.
 fn starts(line: &[u8], r: Run, buffer: &[u8]) -> Run {
     let out = compare::part(buffer, 0, r.lent);
-    let w = writer_state::start(r.table, input::number(line, 1), out);
+    let w = writer_state::start(r.table, input::number(line, 1), input::number(line, 2), out);
     let after = w.state;
     if w.refusal != 0 {
         program_lines::refusal(w.refusal, w.place);
@@ -128,6 +130,7 @@ fn finishes(r: Run) -> Run {
     as_given(given, after);
     let mut next = r;
     next.state = after;
+    next.revision = after.revision;
     next.number = after.numbers[0];
     next.from = f.start;
     next.to = r.lent;
@@ -183,18 +186,18 @@ fn reads(what: u8, line: &[u8], r: Run, buffer: &[u8]) -> Run {
     let m = compare::part(buffer, r.from, r.to);
     let tag = input::number(line, 1);
     if what == b'w' {
-        back::message(r.table, r.number, m);
+        back::message(r.table, r.revision, r.number, m);
         return r;
     }
     if what == b'y' {
         back::field(
-            message_calls::lookup_last_loaded(r.table, r.number, m, tag),
+            message_calls::lookup_last_loaded(r.table, r.revision, r.number, m, tag),
             m,
         );
         return r;
     }
     let k = input::number(line, 2);
-    let f = message_calls::lookup_loaded(r.table, r.number, m, tag, k);
+    let f = message_calls::lookup_loaded(r.table, r.revision, r.number, m, tag, k);
     back::field(f, m);
     if what == b'x' {
         return r;

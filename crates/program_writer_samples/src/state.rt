@@ -8,7 +8,9 @@ pub fn nothing() -> State {
         length: 0,
         start: 0,
         opened: 0,
+        revision: 0,
         numbers: [0u64; 8],
+        masks: [0u64; 8],
         marks: [0usize; 7],
         tags: [0u16; 7],
     }
@@ -18,12 +20,15 @@ pub fn nothing() -> State {
 fn same_levels(a: State, b: State) -> bool {
     let mut i: usize = 0;
     while i < 7 {
-        if a.numbers[i] != b.numbers[i] || a.marks[i] != b.marks[i] || a.tags[i] != b.tags[i] {
+        if a.numbers[i] != b.numbers[i] || a.masks[i] != b.masks[i] {
+            return false;
+        }
+        if a.marks[i] != b.marks[i] || a.tags[i] != b.tags[i] {
             return false;
         }
         i += 1;
     }
-    a.numbers[7] == b.numbers[7]
+    a.numbers[7] == b.numbers[7] && a.masks[7] == b.masks[7]
 }
 
 pub fn same(a: State, b: State) -> bool {
@@ -33,16 +38,16 @@ pub fn same(a: State, b: State) -> bool {
     if a.start != b.start {
         return false;
     }
-    if a.opened != b.opened {
+    if a.opened != b.opened || a.revision != b.revision {
         return false;
     }
     same_levels(a, b)
 }
 
-// Returns a state with another message number, or another mark, at a level.
+// Returns a state with another message number, another mask or another mark at a level.
 fn at_level(what: u8, k: u64, v: u64, s: State) -> State {
     let mut next = s;
-    if 6 < k {
+    if 7 < k {
         return s;
     }
     let i = k as usize;
@@ -50,7 +55,13 @@ fn at_level(what: u8, k: u64, v: u64, s: State) -> State {
         next.numbers[i] = v;
         return next;
     }
-    next.marks[i] = v as usize;
+    if what == b'K' {
+        next.masks[i] = v;
+        return next;
+    }
+    if i < 7 {
+        next.marks[i] = v as usize;
+    }
     next
 }
 
@@ -68,6 +79,10 @@ pub fn changed(what: u8, line: &[u8], s: State) -> State {
     }
     if what == b'O' {
         next.opened = v as usize;
+        return next;
+    }
+    if what == b'R' {
+        next.revision = v;
         return next;
     }
     at_level(what, v, input::number(line, 2), s)

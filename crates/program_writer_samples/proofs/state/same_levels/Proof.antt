@@ -37,6 +37,9 @@ mul-if2-2 c = search needs
 element-copy-out-if2-2 : tie.Need-element-copy-out-if2-2 Inv-loop μ-loop
 element-copy-out-if2-2 c = search needs
 
+returns : tie.Need-returns Inv-loop μ-loop
+returns c = search needs
+
 mul-if3 : tie.Need-mul-if3 Inv-loop μ-loop
 mul-if3 c = search needs
 
@@ -49,8 +52,20 @@ mul-if3-2 c = search needs
 element-copy-out-if3-2 : tie.Need-element-copy-out-if3-2 Inv-loop μ-loop
 element-copy-out-if3-2 c = search needs
 
-returns : tie.Need-returns Inv-loop μ-loop
-returns c = search needs
+mul-if4 : tie.Need-mul-if4 Inv-loop μ-loop
+mul-if4 c = search needs
+
+element-copy-out-if4 : tie.Need-element-copy-out-if4 Inv-loop μ-loop
+element-copy-out-if4 c = search needs
+
+mul-if4-2 : tie.Need-mul-if4-2 Inv-loop μ-loop
+mul-if4-2 c = search needs
+
+element-copy-out-if4-2 : tie.Need-element-copy-out-if4-2 Inv-loop μ-loop
+element-copy-out-if4-2 c = search needs
+
+returns-2 : tie.Need-returns-2 Inv-loop μ-loop
+returns-2 c = search needs
 
 add-i : tie.Need-add-i Inv-loop μ-loop
 add-i c = search needs
@@ -61,14 +76,23 @@ loop-less c = search needs
 loop-again : tie.Need-loop-again Inv-loop μ-loop
 loop-again c = search needs
 
+element-copy-out-if5 : tie.Need-element-copy-out-if5 Inv-loop μ-loop
+element-copy-out-if5 c = search needs
+
+element-copy-out-if5-2 : tie.Need-element-copy-out-if5-2 Inv-loop μ-loop
+element-copy-out-if5-2 c = search needs
+
 element-copy-out-result : tie.Need-element-copy-out-result Inv-loop μ-loop
 element-copy-out-result c = search needs
 
 element-copy-out-result-2 : tie.Need-element-copy-out-result-2 Inv-loop μ-loop
 element-copy-out-result-2 c = search needs
 
-returns-2 : tie.Need-returns-2 Inv-loop μ-loop
-returns-2 c = search needs
+returns-3 : tie.Need-returns-3 Inv-loop μ-loop
+returns-3 c = search needs
+
+returns-4 : tie.Need-returns-4 Inv-loop μ-loop
+returns-4 c = search needs
 
 pub same-levels-spec : {M : Type 1} → statement M
 same-levels-spec =
@@ -85,14 +109,22 @@ same-levels-spec =
     element-copy-out-if2
     mul-if2-2
     element-copy-out-if2-2
+    returns
     mul-if3
     element-copy-out-if3
     mul-if3-2
     element-copy-out-if3-2
-    returns
+    mul-if4
+    element-copy-out-if4
+    mul-if4-2
+    element-copy-out-if4-2
+    returns-2
     add-i
     loop-less
     loop-again
+    element-copy-out-if5
+    element-copy-out-if5-2
     element-copy-out-result
     element-copy-out-result-2
-    returns-2)
+    returns-3
+    returns-4)
