@@ -1,15 +1,16 @@
 /* Calls one entry of the library on one input and looks at what must hold of every answer.
  *
- * An input is: entry (1 octet), number (2), first word (2), second word (2), table length (2), table, and the rest is the message.
- * All are big-endian. The entries are numbered as in the enum below. The words are the tag and k of lookup, k of a Tib field, hinted
- * and the hint of fractions (whose real is the first eight octets of the message); for the entries that write, the second word is
- * the room: from ff00 on the message's length and so many octets more. An input that is too short is filled up with zeros.
+ * An input is: entry (1 octet), revision (2), number (2), first word (2), second word (2), table length (2), table, and the rest is the
+ * message. All are big-endian. The entries are numbered as in the enum below. The words are the tag and k of lookup, k of a Tib field,
+ * hinted and the hint of fractions (whose real is the first eight octets of the message); for the entries that write, the second word is
+ * the room: from ff00 on the message's length and so many octets more. An input that is too short is filled up with zeros. The table's
+ * records are as long as its octets say.
  *
  * Each call is made three times: with buffers of just their size from malloc, for AddressSanitizer; with buffers that end just
  * before a page that cannot be touched; and with buffers that start just after one. The pages find a stray access in an archive
  * that was built without AddressSanitizer, too.
  *
- * The check's answers are also compared with those of bench/plain.c, a separate implementation.
+ * The check's answers are also compared with those of bench/plain.c, a separate implementation, and with those under the other revision.
  *
  * Built with -fsanitize=fuzzer it is driven by libFuzzer. Built with -DSTANDALONE it runs the files that it is given, or its
  * standard input.
@@ -49,7 +50,7 @@ enum placement { EXACT, BEFORE_A_PAGE, AFTER_A_PAGE, PLACEMENTS };
 
 struct input {
     enum entry entry;
-    uint64_t number, first, second;
+    uint64_t revision, number, first, second;
     const uint8_t *table, *message;
     size_t table_len, message_len, room;
 };
@@ -67,12 +68,13 @@ struct answer {
     } while (0)
 
 /* What libFuzzer takes as newly reached, since the archive itself may be built without its counters. */
+#define REFUSALS (CRUDVIM_REPEATED + 1)
 #define PLACES 64
 #define SIZES 65
 #if defined(__linux__) && !defined(STANDALONE)
 __attribute__((section("__libfuzzer_extra_counters")))
 #endif
-static volatile uint8_t reached[ENTRIES * 19 * PLACES + ENTRIES * MOST_RESULTS * SIZES];
+static volatile uint8_t reached[ENTRIES * REFUSALS * PLACES + ENTRIES * MOST_RESULTS * SIZES];
 
 static unsigned bits_in(uint64_t number)
 {
@@ -82,10 +84,10 @@ static unsigned bits_in(uint64_t number)
 static void note(const struct input *in, const struct answer *answer)
 {
     size_t place = answer->place < PLACES ? answer->place : PLACES - 1;
-    reached[(in->entry * 19 + answer->refusal) * PLACES + place] = 1;
+    reached[(in->entry * REFUSALS + answer->refusal) * PLACES + place] = 1;
     for (unsigned i = 0; i < result_counts[in->entry]; i++) {
         size_t kind = (in->entry * MOST_RESULTS + i) * SIZES + bits_in(answer->results[i]);
-        reached[ENTRIES * 19 * PLACES + kind] = 1;
+        reached[ENTRIES * REFUSALS * PLACES + kind] = 1;
     }
 }
 
@@ -158,14 +160,14 @@ static int same(const uint8_t *one, const uint8_t *other, size_t length)
 static uint64_t call(const struct input *in, const uint8_t *t, const uint8_t *m, uint8_t *out, uint64_t *p, uint64_t *r)
 {
     size_t tl = in->table_len, ml = in->message_len;
-    uint64_t bits = 0;
+    uint64_t rev = in->revision, n = in->number, bits = 0;
     switch (in->entry) {
-    case CHECK: return crudvim_check(t, tl, in->number, m, ml, p, r, r + 1, r + 2);
-    case SHORTEN: return crudvim_shorten(t, tl, in->number, m, ml, out, in->room, p, r);
+    case CHECK: return crudvim_check(t, tl, rev, n, m, ml, p, r, r + 1, r + 2);
+    case SHORTEN: return crudvim_shorten(t, tl, rev, n, m, ml, out, in->room, p, r);
     case LOOKUP:
-        return crudvim_lookup(t, tl, in->number, m, ml, in->first, in->second, p, r, r + 1, (int64_t *)(r + 2), r + 3, r + 4);
+        return crudvim_lookup(t, tl, rev, n, m, ml, in->first, in->second, p, r, r + 1, (int64_t *)(r + 2), r + 3, r + 4);
     case LOOKUP_LAST:
-        return crudvim_lookup_last(t, tl, in->number, m, ml, in->first, p, r, r + 1, (int64_t *)(r + 2), r + 3, r + 4);
+        return crudvim_lookup_last(t, tl, rev, n, m, ml, in->first, p, r, r + 1, (int64_t *)(r + 2), r + 3, r + 4);
     case FRAME_READ: return crudvim_frame_read(m, ml, p, r, r + 1);
     case FRAME_WRITE: return crudvim_frame_write(m, ml, out, in->room, p, r);
     case TIBMSG_CHECK: return crudvim_tibmsg_check(m, ml, p, r, r + 1);
@@ -186,7 +188,7 @@ static uint64_t call(const struct input *in, const uint8_t *t, const uint8_t *m,
 static void check_answer(const struct input *in, const struct answer *answer, const uint8_t *out)
 {
     unsigned count = result_counts[in->entry];
-    HOLDS(answer->refusal <= CRUDVIM_ABSENT);
+    HOLDS(answer->refusal <= CRUDVIM_REPEATED);
     for (unsigned i = count; i < MOST_RESULTS; i++)
         HOLDS(answer->results[i] == GARBAGE);
     if (answer->refusal == CRUDVIM_ACCEPTED) {
@@ -197,6 +199,7 @@ static void check_answer(const struct input *in, const struct answer *answer, co
     for (unsigned i = 0; i < count; i++)
         HOLDS(answer->results[i] == 0);
     HOLDS(answer->place <= in->message_len || answer->refusal == CRUDVIM_TABLE);
+    HOLDS(answer->refusal != CRUDVIM_REPEATED || in->revision == 2);
 }
 
 /* Makes the call with buffers placed so, and puts what was written into `written` (of in->room octets). */
@@ -239,10 +242,27 @@ static int same_answer(const struct answer *one, const struct answer *other, uns
 static void compare_with_plain(const struct input *in, const struct answer *answer)
 {
     uint64_t place, fields, depth, shortest;
-    uint64_t refusal = plain_check(in->table, in->table_len, in->number, in->message, in->message_len, &place, &fields, &depth, &shortest);
+    uint64_t refusal = plain_check(in->table, in->table_len, in->revision, in->number, in->message, in->message_len, &place, &fields,
+                                   &depth, &shortest);
     HOLDS(answer->refusal == refusal && answer->place == place);
     HOLDS(answer->results[0] == fields && answer->results[1] == depth);
     HOLDS(answer->results[2] == shortest);
+}
+
+/* Under revision 1 the marks have no effect: the check gives the same answer, or one that refuses no earlier place where revision 2
+ * refuses a repeat. */
+static void compare_revisions(const struct input *in, const struct answer *answer)
+{
+    struct input other = *in;
+    if (in->revision != 2)
+        return;
+    other.revision = 1;
+    struct answer one = ask(&other, NULL);
+    compare_with_plain(&other, &one);
+    if (answer->refusal == CRUDVIM_REPEATED)
+        HOLDS(one.refusal == CRUDVIM_ACCEPTED || one.place >= answer->place);
+    else
+        HOLDS(same_answer(&one, answer, 3));
 }
 
 /* What holds of the accepted calls of each entry. */
@@ -458,6 +478,7 @@ static struct input take_apart(const uint8_t *octets, size_t length)
     struct rest rest = {octets, length};
     struct input in = {0};
     in.entry = (enum entry)(take_octet(&rest) % ENTRIES);
+    in.revision = widened(take_word(&rest));
     in.number = widened(take_word(&rest));
     uint64_t first = take_word(&rest), second = take_word(&rest);
     in.first = in.entry == LOOKUP || in.entry == LOOKUP_LAST ? first : widened(first);
@@ -488,8 +509,10 @@ int LLVMFuzzerTestOneInput(const uint8_t *octets, size_t length)
         HOLDS(same(written, again, in.room));
     }
     note(&in, &answer);
-    if (in.entry == CHECK)
+    if (in.entry == CHECK) {
         compare_with_plain(&in, &answer);
+        compare_revisions(&in, &answer);
+    }
     if (answer.refusal == CRUDVIM_ACCEPTED)
         after(&in, &answer, written);
     free(written);

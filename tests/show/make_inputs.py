@@ -85,6 +85,28 @@ case('10ffff', TEXT + '05 c4 f4 8f bf bf', HEADING + '1 000c text f48fbfbf\nfiel
 case('inner_text_first',
      '18 01 00 05 00 00 01 05 00 01 00 05 00 00 02 01 00 01 00 05 00 00 03 04 00 04 12 31 ff 29', 'refused 7 at 1')
 
+# Records of length 6 have a mark: 0 many, 1 single. A single field comes once in a message, whatever the form of its tag. The repeat is
+# found before its contents are looked at, and after a length that goes past the end. Nested messages count on their own.
+SINGLE = '09 01 00 06 00 00 0c 01 00 01 '
+SINGLES = '1a 01 00 05 00 00 01 05 00 01 00 06 00 00 0c 01 00 01 01 00 06 00 00 02 05 00 01 '
+case('mark_many', '09 01 00 06 00 00 0c 01 00 00 03 c0 e0 0c',
+     HEADING + '1 000c uint 0\n1 000c uint 0\nfields 2 octets 3')
+case('mark_single', SINGLE + '03 c1 05 30', HEADING + '1 000c uint 5\n1 0003 raw -\nfields 2 octets 3')
+case('repeat', SINGLE + '03 c0 e0 0c', 'refused 20 at 1')
+case('repeat_of_nine_octets', SINGLE + '0b c0 c9 00 00 00 00 00 00 00 00 00', 'refused 20 at 1')
+case('repeat_past_the_end', SINGLE + '02 c0 c1', 'refused 4 at 1')
+case('past_the_end_before_repeat', SINGLE + '03 c0 33 c0', 'refused 4 at 1')
+case('repeat_in_each_message', SINGLES + '05 11 c0 11 c0 c0',
+     HEADING + '1 0001 message 1\n2 000c uint 0\n1 0001 message 1\n2 000c uint 0\n1 000c uint 0\nfields 5 octets 5')
+case('repeat_inside', SINGLES + '04 c0 12 c0 c0', 'refused 20 at 3')
+case('repeat_of_a_message', SINGLES + '03 20 21 f1', 'refused 20 at 1')
+case('repeat_eight_deep', SINGLES + '09 18 17 16 15 14 13 12 c0 c0', 'refused 20 at 8')
+case('ninth_level_before_repeat', SINGLES + '0a 19 18 17 16 15 14 13 c0 10 c0', 'refused 5 at 8')
+case('mark_2', '09 01 00 06 00 00 0c 01 00 02 01 c0', 'refused 2 at 0')
+case('mark_2_second', '11 01 00 05 00 00 01 05 00 01 00 06 00 00 0c 01 00 02 01 c0', 'refused 2 at 8')
+case('mark_missing', '08 01 00 06 00 00 0c 01 00 01 c0', 'refused 2 at 0')
+case('mark_in_the_inner_number', '08 01 00 05 00 00 0c 01 81 01 c0', 'refused 2 at 0')
+
 case('eight_levels', LEVELS + '07 16 15 14 13 12 11 10',
      HEADING + '1 0001 message 1\n2 0001 message 1\n3 0001 message 1\n4 0001 message 1\n5 0001 message 1\n6 0001 message 1\n'
      '7 0001 message 0\nfields 7 octets 7')

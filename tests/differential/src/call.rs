@@ -12,6 +12,7 @@ pub type Octets = Rc<[u8]>;
 #[derive(Clone, Debug)]
 pub struct Hproto {
     pub table: Octets,
+    pub revision: u64,
     pub number: u64,
     pub message: Octets,
 }
@@ -105,7 +106,8 @@ impl Call {
                 Ok(Vec::new())
             }
             Call::Shorten { on, room } => {
-                shorten::shorten(&on.table, on.number, &on.message, *room).map(|octets| put_in_front(&mut out, &octets))
+                let shortened = shorten::shorten(&on.table, on.revision, on.number, &on.message, *room);
+                shortened.map(|octets| put_in_front(&mut out, &octets))
             }
             Call::FrameWrite { message, room } => frame::write(message, *room).map(|octets| put_in_front(&mut out, &octets)),
             _ => self.results(),
@@ -119,9 +121,9 @@ impl Call {
     /// The results of the entries that are lent no buffer.
     fn results(&self) -> Result<Vec<u64>, Refusal> {
         match self {
-            Call::Check(on) => message::check(&on.table, on.number, &on.message).map(checked),
-            Call::Lookup { on, tag, k } => lookup::kth(&on.table, on.number, &on.message, *tag, *k).map(found),
-            Call::LookupLast { on, tag } => lookup::last(&on.table, on.number, &on.message, *tag).map(found),
+            Call::Check(on) => message::check(&on.table, on.revision, on.number, &on.message).map(checked),
+            Call::Lookup { on, tag, k } => lookup::kth(&on.table, on.revision, on.number, &on.message, *tag, *k).map(found),
+            Call::LookupLast { on, tag } => lookup::last(&on.table, on.revision, on.number, &on.message, *tag).map(found),
             Call::FrameRead { buffer } => frame::read(buffer).map(|(start, end)| vec![start as u64, end as u64]),
             Call::TibmsgCheck { message } => tibmsg::check(message).map(pair),
             Call::TibmsgField { message, k } => tibmsg::kth(message, *k).map(tibmsg_field),
@@ -149,10 +151,10 @@ impl Call {
 
     fn numbers(&self) -> Vec<(&'static str, u64)> {
         match self {
-            Call::Check(on) => vec![("number", on.number)],
-            Call::Shorten { on, room } => vec![("number", on.number), ("out_len", *room as u64)],
-            Call::Lookup { on, tag, k } => vec![("number", on.number), ("tag", *tag), ("k", *k)],
-            Call::LookupLast { on, tag } => vec![("number", on.number), ("tag", *tag)],
+            Call::Check(on) => vec![("revision", on.revision), ("number", on.number)],
+            Call::Shorten { on, room } => vec![("revision", on.revision), ("number", on.number), ("out_len", *room as u64)],
+            Call::Lookup { on, tag, k } => vec![("revision", on.revision), ("number", on.number), ("tag", *tag), ("k", *k)],
+            Call::LookupLast { on, tag } => vec![("revision", on.revision), ("number", on.number), ("tag", *tag)],
             Call::FrameWrite { room, .. } => vec![("out_len", *room as u64)],
             Call::TibmsgField { k, .. } | Call::TibrvField { k, .. } => vec![("k", *k)],
             Call::Fractions { bits, hinted, hint } => {

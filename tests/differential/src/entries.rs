@@ -9,6 +9,7 @@ mod c {
         pub fn crudvim_check(
             table: *const u8,
             table_len: usize,
+            revision: u64,
             number: u64,
             message: *const u8,
             message_len: usize,
@@ -20,6 +21,7 @@ mod c {
         pub fn crudvim_shorten(
             table: *const u8,
             table_len: usize,
+            revision: u64,
             number: u64,
             message: *const u8,
             message_len: usize,
@@ -40,6 +42,7 @@ mod c {
         pub fn crudvim_lookup(
             table: *const u8,
             table_len: usize,
+            revision: u64,
             number: u64,
             message: *const u8,
             message_len: usize,
@@ -55,6 +58,7 @@ mod c {
         pub fn crudvim_lookup_last(
             table: *const u8,
             table_len: usize,
+            revision: u64,
             number: u64,
             message: *const u8,
             message_len: usize,
@@ -126,7 +130,7 @@ impl Lent {
     fn new(name: &'static str, contents: &[u8], rng: &mut Rng) -> Lent {
         let mut all = rng.octets(GUARD);
         all.extend(contents);
-        all.extend(rng.octets(GUARD));
+        all.extend(guard_behind(rng));
         let null = contents.is_empty() && rng.chance(50);
         let instead = null.then_some(std::ptr::null_mut());
         Lent { name, before: all.clone(), all, length: contents.len(), instead }
@@ -151,6 +155,16 @@ impl Lent {
         let place = (0..self.all.len()).find(|place| changed(place) && !allowed(place))?;
         let offset = place as i64 - GUARD as i64;
         Some(format!("  the call changed the octet at {offset} of {}\n", self.name))
+    }
+}
+
+/// The octets behind a buffer: arbitrary, or now and then all 0 or all 1, which a read past the end could take for part of a record or of a
+/// field.
+fn guard_behind(rng: &mut Rng) -> Vec<u8> {
+    match rng.below(8) {
+        0 => vec![0; GUARD],
+        1 => vec![1; GUARD],
+        _ => rng.octets(GUARD),
     }
 }
 
@@ -200,13 +214,14 @@ pub fn call(call: &Call, poison: &[u8], rng: &mut Rng) -> Result<Outcome, String
     Ok(Outcome { refusal, place: results.all[0], results: results.all[1..results.used].to_vec(), out: out.contents().to_vec() })
 }
 
-/// The check of a message of number 0 with no guard octets, for loops of many calls: refusal, place, fields, depth and shortest.
+/// The check of a message of number 0 under revision 2 with no guard octets, for loops of many calls: refusal, place, fields, depth and
+/// shortest.
 pub fn only_check(table: &[u8], message: &[u8]) -> [u64; 5] {
     let mut results = [u64::MAX; 4];
     let [place, fields, depth, shortest] = &mut results;
     // The pointers are to live, separate memory of the given lengths, as the header asks.
     let refusal = unsafe {
-        c::crudvim_check(table.as_ptr(), table.len(), 0, message.as_ptr(), message.len(), place, fields, depth, shortest)
+        c::crudvim_check(table.as_ptr(), table.len(), 2, 0, message.as_ptr(), message.len(), place, fields, depth, shortest)
     };
     [refusal, results[0], results[1], results[2], results[3]]
 }
@@ -255,6 +270,7 @@ fn check(on: &Hproto, table: &mut Lent, message: &mut Lent, results: &mut Result
         c::crudvim_check(
             table.pointer(),
             table.length,
+            on.revision,
             on.number,
             message.pointer(),
             message.length,
@@ -272,6 +288,7 @@ fn shorten(on: &Hproto, table: &mut Lent, message: &mut Lent, out: &mut Lent, re
         c::crudvim_shorten(
             table.pointer(),
             table.length,
+            on.revision,
             on.number,
             message.pointer(),
             message.length,
@@ -289,6 +306,7 @@ fn lookup(on: &Hproto, tag: u64, k: u64, table: &mut Lent, message: &mut Lent, r
         c::crudvim_lookup(
             table.pointer(),
             table.length,
+            on.revision,
             on.number,
             message.pointer(),
             message.length,
@@ -310,6 +328,7 @@ fn lookup_last(on: &Hproto, tag: u64, table: &mut Lent, message: &mut Lent, resu
         c::crudvim_lookup_last(
             table.pointer(),
             table.length,
+            on.revision,
             on.number,
             message.pointer(),
             message.length,

@@ -10,6 +10,7 @@ pub mod forms;
 pub mod frames;
 pub mod hproto;
 pub mod reals;
+pub mod repeats;
 pub mod samples;
 pub mod short_texts;
 pub mod shows;

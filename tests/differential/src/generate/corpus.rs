@@ -1,6 +1,6 @@
 //! Cases as files in the layout that the fuzz harness takes apart:
 //!
-//! entry (1 octet), number (2), first word (2), second word (2), table length (2), table, and the rest is the message.
+//! entry (1 octet), revision (2), number (2), first word (2), second word (2), table length (2), table, and the rest is the message.
 //!
 //! The words are the tag and k of lookup, k of a Tib field, hinted and the hint of fractions (the real is the message's first eight
 //! octets), and the second one is the room for written octets: from ff00 on the message's length and so many more.
@@ -9,8 +9,10 @@ use crate::call::{Call, Hproto};
 
 /// The octets of a call, or none if the layout cannot hold it.
 pub fn octets(call: &Call) -> Option<Vec<u8>> {
-    let (number, words, table, message) = parts(call)?;
+    let (on, words, message) = parts(call)?;
+    let (revision, number, table) = on.map_or((0, 0, &[][..]), |on| (on.revision, on.number, &on.table));
     let mut octets = vec![call.entry() as u8];
+    octets.extend(word(revision)?);
     octets.extend(word(number)?);
     octets.extend(word(words.0)?);
     octets.extend(word(words.1)?);
@@ -20,35 +22,20 @@ pub fn octets(call: &Call) -> Option<Vec<u8>> {
     Some(octets)
 }
 
-type Parts<'a> = (u64, (u64, u64), &'a [u8], Vec<u8>);
+/// What the call is on, if it takes a table; its words, and the octets that come last.
+type Parts<'a> = (Option<&'a Hproto>, (u64, u64), Vec<u8>);
 
 fn parts(call: &Call) -> Option<Parts<'_>> {
-    let hproto = |on: &'_ Hproto| (on.number, on.message.to_vec());
     Some(match call {
-        Call::Check(on) => {
-            let (number, message) = hproto(on);
-            (number, (0, 0), &on.table, message)
-        }
-        Call::Shorten { on, room } => {
-            let (number, message) = hproto(on);
-            (number, (0, room_word(*room, message.len())), &on.table, message)
-        }
-        Call::Lookup { on, tag, k } => {
-            let (number, message) = hproto(on);
-            (number, (*tag, *k), &on.table, message)
-        }
-        Call::LookupLast { on, tag } => {
-            let (number, message) = hproto(on);
-            (number, (*tag, 0), &on.table, message)
-        }
-        Call::FrameRead { buffer } => (0, (0, 0), &[], buffer.to_vec()),
-        Call::FrameWrite { message, room } => {
-            let room = room_word(*room, message.len());
-            (0, (0, room), &[], message.to_vec())
-        }
-        Call::TibmsgCheck { message } | Call::TibrvCheck { message } => (0, (0, 0), &[], message.to_vec()),
-        Call::TibmsgField { message, k } | Call::TibrvField { message, k } => (0, (*k, 0), &[], message.to_vec()),
-        Call::Fractions { bits, hinted, hint } => (0, (*hinted, *hint), &[], bits.to_be_bytes().to_vec()),
+        Call::Check(on) => (Some(on), (0, 0), on.message.to_vec()),
+        Call::Shorten { on, room } => (Some(on), (0, room_word(*room, on.message.len())), on.message.to_vec()),
+        Call::Lookup { on, tag, k } => (Some(on), (*tag, *k), on.message.to_vec()),
+        Call::LookupLast { on, tag } => (Some(on), (*tag, 0), on.message.to_vec()),
+        Call::FrameRead { buffer } => (None, (0, 0), buffer.to_vec()),
+        Call::FrameWrite { message, room } => (None, (0, room_word(*room, message.len())), message.to_vec()),
+        Call::TibmsgCheck { message } | Call::TibrvCheck { message } => (None, (0, 0), message.to_vec()),
+        Call::TibmsgField { message, k } | Call::TibrvField { message, k } => (None, (*k, 0), message.to_vec()),
+        Call::Fractions { bits, hinted, hint } => (None, (*hinted, *hint), bits.to_be_bytes().to_vec()),
         Call::Show { .. } => return None,
     })
 }

@@ -1,7 +1,7 @@
 //! Small inputs in full: every one of a family is a case of its own, whatever the seed.
 
 use super::samples::{entries, octets};
-use super::{forms, short_texts};
+use super::{forms, repeats, short_texts};
 use crate::call::{Call, Hproto};
 use std::sync::OnceLock;
 
@@ -11,8 +11,10 @@ const TEXTS: u64 = TEXT_LIMITS.pow(4);
 
 type Family = (u64, fn(u64) -> Vec<Call>);
 
-const FAMILIES: [Family; 14] = [
+const FAMILIES: [Family; 16] = [
     (1 + 256 + TWO_OCTETS, short_message),
+    (repeats::FORM_PAIRS, repeated),
+    (repeats::ORDERS, repeated_by_order),
     (TWO_OCTETS, signed_number),
     (forms::ALL_BUT_ONE, all_but_one),
     (forms::NUMBERS, number_at_limits),
@@ -21,7 +23,7 @@ const FAMILIES: [Family; 14] = [
     (TWO_OCTETS, tibmsg_type_and_size),
     (3 * TWO_OCTETS, tibmsg_hint),
     (TWO_OCTETS, tibrv_type_and_size),
-    (40 * 256, changed_table),
+    (43 * 256, changed_table),
     (13 * 256, changed_message),
     (12 * 256, changed_frame),
     (39 * 256, changed_tibmsg),
@@ -44,10 +46,12 @@ pub fn case(mut number: u64) -> Option<Vec<Call>> {
     None
 }
 
-/// A table with every kind at message 0.
+/// A table with every kind at message 0, some single, in records of both lengths.
 fn table() -> &'static [u8] {
     static TABLE: OnceLock<Vec<u8>> = OnceLock::new();
-    TABLE.get_or_init(|| entries("0 0 1 0, 0 1 2 0, 0 2 3 0, 0 3 4 0, 0 4 5 0, 0 5 5 1, 0 d 1 0, 0 e 2 0, 0 ff 4 0"))
+    TABLE.get_or_init(|| {
+        entries("0 0 1 0 1, 0 1 2 0, 0 2 3 0 0, 0 3 4 0, 0 4 5 0 1, 0 5 5 1 0, 0 d 1 0, 0 e 2 0 1, 0 ff 4 0 1, 1 0 1 0, 1 1 2 0 1")
+    })
 }
 
 fn check_and_shorten(message: &[u8]) -> Vec<Call> {
@@ -55,8 +59,12 @@ fn check_and_shorten(message: &[u8]) -> Vec<Call> {
 }
 
 fn check_and_shorten_under(table: &[u8], message: &[u8]) -> Vec<Call> {
-    let on = Hproto { table: table.into(), number: 0, message: message.into() };
-    vec![Call::Check(on.clone()), Call::Shorten { on, room: message.len() }]
+    check_and_shorten_on(Hproto { table: table.into(), revision: 2, number: 0, message: message.into() })
+}
+
+fn check_and_shorten_on(on: Hproto) -> Vec<Call> {
+    let room = on.message.len();
+    vec![Call::Check(on.clone()), Call::Shorten { on, room }]
 }
 
 /// All messages of up to two octets.
@@ -68,12 +76,24 @@ fn short_message(number: u64) -> Vec<Call> {
     }
 }
 
+/// Two fields of one tag in each form.
+fn repeated(number: u64) -> Vec<Call> {
+    let (table, revision, message) = repeats::form_pair(number);
+    check_and_shorten_on(Hproto { table: table.into(), revision, number: 0, message: message.into() })
+}
+
+/// The single fields of a full table.
+fn repeated_by_order(number: u64) -> Vec<Call> {
+    let (table, message) = repeats::order_case(number);
+    check_and_shorten_under(&table, &message)
+}
+
 /// All ints of two octets.
 fn signed_number(number: u64) -> Vec<Call> {
     let [first, second] = pair(number);
     let message = [0x12, first, second];
     let mut calls = check_and_shorten(&message);
-    let on = Hproto { table: table().into(), number: 0, message: message[..].into() };
+    let on = Hproto { table: table().into(), revision: 2, number: 0, message: message[..].into() };
     calls.push(Call::Lookup { on, tag: 1, k: 0 });
     calls
 }
@@ -157,7 +177,7 @@ fn tibrv_type_and_size(number: u64) -> Vec<Call> {
     vec![Call::TibrvCheck { message: message.clone() }, Call::TibrvField { message, k: 0 }]
 }
 
-const TABLE: &str = "0100050000010100 0100050000020200 0100050000230501 0100050100000400 0100050100010100";
+const TABLE: &str = "010006000001010001 0100050000020200 010006000023050100 0100050100000400 010006010001010001";
 const MESSAGE: &str = "11 2a 21 8b e6 23 02 4b 57 12 01 f4 30";
 const FRAME: &str = "ff 00 00 00 00 00 00 00 02 c1 42 07";
 const TIBMSG: &str =
@@ -173,13 +193,12 @@ fn changed(sample: &str, number: u64) -> crate::call::Octets {
 }
 
 fn changed_table(number: u64) -> Vec<Call> {
-    let on = Hproto { table: changed(TABLE, number), number: 0, message: octets(MESSAGE).into() };
+    let on = Hproto { table: changed(TABLE, number), revision: 2, number: 0, message: octets(MESSAGE).into() };
     vec![Call::Check(on.clone()), Call::Lookup { on, tag: 2, k: 0 }]
 }
 
 fn changed_message(number: u64) -> Vec<Call> {
-    let on = Hproto { table: octets(TABLE).into(), number: 0, message: changed(MESSAGE, number) };
-    vec![Call::Check(on.clone()), Call::Shorten { on, room: 13 }]
+    check_and_shorten_on(Hproto { table: octets(TABLE).into(), revision: 2, number: 0, message: changed(MESSAGE, number) })
 }
 
 fn changed_frame(number: u64) -> Vec<Call> {

@@ -134,7 +134,7 @@ pub fn all_but_one(number: u64) -> Vec<u8> {
 }
 
 /// Puts a message that stands `depth` deep into the messages around it, under a table in which tag 1 is message 0 again.
-fn around(mut octets: Vec<u8>, depth: usize) -> Vec<u8> {
+pub fn around(mut octets: Vec<u8>, depth: usize) -> Vec<u8> {
     for _ in 1..depth {
         octets = [shortest_control(1, octets.len()), octets].concat();
     }

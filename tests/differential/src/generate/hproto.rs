@@ -1,7 +1,7 @@
 //! Cases for the check, the shortener and lookup.
 
 use super::trees::{self, Maker, Style};
-use super::{damage, forms, tables, texts};
+use super::{damage, forms, repeats, tables, texts};
 use crate::call::{Call, Hproto};
 use crate::oracle::message::{self, Field, Value};
 use crate::oracle::shorten::shortest;
@@ -11,20 +11,21 @@ use crate::rng::Rng;
 
 pub fn random(rng: &mut Rng) -> Vec<Call> {
     let mut table = tables::good(rng);
+    let revision = rng.pick(&[1, 2, 2]);
     let number = if rng.chance(85) { 0 } else { rng.below(16) as u8 };
     let message = match rng.below(1_000) {
         0..=79 => {
             table = self_nested_table(rng);
             chain(rng)
         }
-        80..=82 => large(rng, &tables::loaded(&table), number),
+        80..=82 => large(rng, &tables::loaded(&table), revision, number),
         83..=85 => table.clone(),
         86..=125 => {
-            table = TEXT_TABLE.to_vec();
+            table = tables::of_message_0(rng, &TEXT_ENTRIES);
             long_text(rng)
         }
         126..=155 => {
-            let fields = good_tree(rng, &tables::loaded(&table), number);
+            let fields = good_tree(rng, &tables::loaded(&table), revision, number);
             forms::almost_short(rng, &fields)
         }
         156..=185 => {
@@ -32,7 +33,7 @@ pub fn random(rng: &mut Rng) -> Vec<Call> {
             let fields = forms::deep_tree(rng);
             forms::almost_short(rng, &fields)
         }
-        _ => some_message(rng, &tables::loaded(&table), number),
+        _ => some_message(rng, &tables::loaded(&table), revision, number),
     };
     if rng.chance(6) {
         table = tables::damaged(rng);
@@ -41,23 +42,36 @@ pub fn random(rng: &mut Rng) -> Vec<Call> {
         true => rng.pick(&[16, 17, 255, 256, 257, 271, 65_536, 1 << 32, 1 << 63, u64::MAX]),
         false => u64::from(number),
     };
-    calls(rng, &table, number, &message)
+    let revision = match rng.below(100) {
+        0..=3 => rng.pick(&BAD_REVISIONS),
+        4..=11 => 3 - revision,
+        _ => revision,
+    };
+    calls(rng, &table, revision, number, &message)
 }
 
-/// A message that fits the table, or a damaged one, or octets that were never one.
-pub fn some_message(rng: &mut Rng, table: &Table, number: u8) -> Vec<u8> {
+/// Numbers that are no revision, some of them with 1 or 2 in their low bits.
+pub const BAD_REVISIONS: [u64; 13] = [0, 3, 4, 5, 255, 256, 257, 258, 65_537, 65_538, (1 << 32) + 1, (1 << 32) + 2, u64::MAX];
+
+/// A message that fits the table and the revision, or a damaged one, or octets that were never one.
+pub fn some_message(rng: &mut Rng, table: &Table, revision: u64, number: u8) -> Vec<u8> {
     match rng.below(20) {
-        0..=9 => good_message(rng, table, number),
+        0..=8 => good_message(rng, table, revision, number),
+        9 => {
+            let fields = repeats::some_tree(rng, table, number);
+            let style = Style::random(rng);
+            trees::octets(rng, &fields, style)
+        }
         10..=14 => {
-            let mut octets = good_message(rng, table, number);
+            let mut octets = good_message(rng, table, revision, number);
             damage::some(rng, &mut octets);
             octets
         }
         15..=16 => {
-            let (one, other) = (good_message(rng, table, number), good_message(rng, table, number));
+            let (one, other) = (good_message(rng, table, revision, number), good_message(rng, table, revision, number));
             damage::splice(rng, &one, &other)
         }
-        17 => spoiled_tree(rng, table, number),
+        17 => spoiled_tree(rng, table, revision, number),
         18 => {
             let length = rng.below(24);
             let few = [0x00, 0x01, 0x02, 0x10, 0x11, 0x12, 0x21, 0x2c, 0x3d, 0x80, 0xc1, 0xe0, 0xe1, 0xf1];
@@ -70,20 +84,20 @@ pub fn some_message(rng: &mut Rng, table: &Table, number: u8) -> Vec<u8> {
     }
 }
 
-pub fn good_message(rng: &mut Rng, table: &Table, number: u8) -> Vec<u8> {
-    let fields = good_tree(rng, table, number);
+pub fn good_message(rng: &mut Rng, table: &Table, revision: u64, number: u8) -> Vec<u8> {
+    let fields = good_tree(rng, table, revision, number);
     let style = Style::random(rng);
     trees::octets(rng, &fields, style)
 }
 
-pub fn good_tree(rng: &mut Rng, table: &Table, number: u8) -> Vec<Field> {
+pub fn good_tree(rng: &mut Rng, table: &Table, revision: u64, number: u8) -> Vec<Field> {
     let budget = rng.pick(&[1, 3, 8, 20, 60]);
-    Maker { table, budget }.fields(rng, number, 1)
+    Maker { table, revision, budget }.fields(rng, number, 1)
 }
 
 /// A good tree in which one leaf has contents that its kind does not allow, in good nesting.
-fn spoiled_tree(rng: &mut Rng, table: &Table, number: u8) -> Vec<u8> {
-    let mut fields = good_tree(rng, table, number);
+fn spoiled_tree(rng: &mut Rng, table: &Table, revision: u64, number: u8) -> Vec<u8> {
+    let mut fields = good_tree(rng, table, revision, number);
     let depth = rng.below(4);
     spoil(rng, table, number, &mut fields, depth);
     let style = Style::random(rng);
@@ -102,27 +116,32 @@ fn spoil(rng: &mut Rng, table: &Table, number: u8, fields: &mut Vec<Field>, dept
     let Some(entry) = table.entries.iter().find(fits) else {
         return;
     };
-    let bad = match entry.kind {
+    let bad = bad_contents(rng, entry.kind);
+    let place = rng.below(fields.len() + 1);
+    fields.insert(place, trees::field(entry.tag, Value::Raw(bad)));
+}
+
+/// Contents that a kind does not allow, if it is not raw or a string.
+pub fn bad_contents(rng: &mut Rng, kind: Kind) -> Vec<u8> {
+    match kind {
         Kind::Text => texts::bad(rng),
         Kind::Message => rng.pick(&[&[0xf1u8][..], &[0xc3, 1], &[0xe0], &[0x1d, 0]]).to_vec(),
         _ => {
             let length = rng.pick(&[9, 9, 10, 11, 12, 14, 300]);
             rng.octets(length)
         }
-    };
-    let place = rng.below(fields.len() + 1);
-    fields.insert(place, trees::field(entry.tag, Value::Raw(bad)));
+    }
 }
 
 /// A table in which tag 1 of message 0 is message 0 again, and some leaves.
 fn self_nested_table(rng: &mut Rng) -> Vec<u8> {
-    let mut octets = vec![1, 0, 5, 0, 0, 1, 5, 0];
-    for (tag, kind) in [(2, 1), (3, 2), (4, 3), (5, 4)] {
+    let mut entries = vec![(1, 5)];
+    for entry in [(2, 1), (3, 2), (4, 3), (5, 4)] {
         if rng.chance(70) {
-            octets.extend([1, 0, 5, 0, 0, tag, kind, 0]);
+            entries.push(entry);
         }
     }
-    octets
+    tables::of_message_0(rng, &entries)
 }
 
 /// Messages inside each other around the limit of depth, under the table above.
@@ -163,9 +182,9 @@ fn leaf(rng: &mut Rng, style: Style) -> Vec<u8> {
 }
 
 /// Tag 1 of message 0 is message 0 again, and tag 5 is text.
-const TEXT_TABLE: [u8; 16] = [1, 0, 5, 0, 0, 1, 5, 0, 1, 0, 5, 0, 0, 5, 4, 0];
+const TEXT_ENTRIES: [(u8, u8); 2] = [(1, 5), (5, 4)];
 
-/// A long text, good or bad, with or without fields around it, under the table above. Some are nested.
+/// A long text, good or bad, with or without fields around it, under a table of the entries above. Some are nested.
 fn long_text(rng: &mut Rng) -> Vec<u8> {
     let style = Style::random(rng);
     let text = trees::field(5, Value::Text(texts::long(rng)));
@@ -182,7 +201,7 @@ fn long_text(rng: &mut Rng) -> Vec<u8> {
 }
 
 /// Messages around the limit of length.
-fn large(rng: &mut Rng, table: &Table, number: u8) -> Vec<u8> {
+fn large(rng: &mut Rng, table: &Table, revision: u64, number: u8) -> Vec<u8> {
     let total = match rng.below(10) {
         0..=4 => MESSAGE_LIMIT,
         5 => MESSAGE_LIMIT + 1,
@@ -195,7 +214,7 @@ fn large(rng: &mut Rng, table: &Table, number: u8) -> Vec<u8> {
     }
     let mut octets = Vec::new();
     while octets.len() + 10_000 < total && rng.chance(90) {
-        octets.extend(good_message(rng, table, number));
+        octets.extend(good_message(rng, table, revision, number));
     }
     fill_up(rng, &mut octets, total);
     octets
@@ -221,10 +240,10 @@ pub fn fill_up(rng: &mut Rng, octets: &mut Vec<u8>, total: usize) {
     octets.extend(rng.octets(length));
 }
 
-/// The calls on one table, number and message: many on an accepted message, each entry once on a refused one.
-pub fn calls(rng: &mut Rng, table: &[u8], number: u64, message: &[u8]) -> Vec<Call> {
-    let on = Hproto { table: table.into(), number, message: message.into() };
-    let read = message::read(table, number, message);
+/// The calls on one table, revision, number and message: many on an accepted message, each entry once on a refused one.
+pub fn calls(rng: &mut Rng, table: &[u8], revision: u64, number: u64, message: &[u8]) -> Vec<Call> {
+    let on = Hproto { table: table.into(), revision, number, message: message.into() };
+    let read = message::read(table, revision, number, message);
     let repeat = if read.is_ok() { 2 } else { 1 };
     let fields = read.unwrap_or_default();
     let least = shortest(&fields).len();

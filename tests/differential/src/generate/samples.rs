@@ -7,7 +7,7 @@ use crate::rng::Rng;
 use std::sync::OnceLock;
 
 pub enum Sample {
-    Hproto { table: Vec<u8>, number: u64, message: Vec<u8> },
+    Hproto { table: Vec<u8>, revision: u64, number: u64, message: Vec<u8> },
     FrameRead(Vec<u8>),
     FrameWrite(usize),
     Tibmsg(Vec<u8>),
@@ -19,7 +19,7 @@ pub enum Sample {
 impl Sample {
     pub fn calls(&self, rng: &mut Rng) -> Vec<Call> {
         match self {
-            Sample::Hproto { table, number, message } => hproto::calls(rng, table, *number, message),
+            Sample::Hproto { table, revision, number, message } => hproto::calls(rng, table, *revision, *number, message),
             Sample::FrameRead(buffer) => vec![frames::read(buffer)],
             Sample::FrameWrite(size) => write_calls(rng, *size),
             Sample::Tibmsg(message) => tib::tibmsg_calls(rng, message),
@@ -43,7 +43,11 @@ pub fn all() -> &'static [Sample] {
         for (table, message) in HPROTO {
             samples.push(message_sample(&entries(table), 0, &octets(message)));
         }
+        for (table, message) in SINGLES {
+            samples.extend([1, 2].map(|revision| revision_sample(&entries(table), revision, 0, &octets(message))));
+        }
         samples.extend(numbers_over_15());
+        samples.extend(other_revisions());
         samples.extend(several_faults());
         samples.extend(table_limits());
         samples.extend(message_limits());
@@ -65,24 +69,31 @@ pub fn octets(text: &str) -> Vec<u8> {
     digits.chunks(2).map(|pair| (pair[0] * 16 + pair[1]) as u8).collect()
 }
 
-/// Table octets from "message tag kind inner" entries, all hexadecimal, with commas between them.
+/// Table octets from "message tag kind inner" or "message tag kind inner mark" entries, all hexadecimal, with commas between them. Those
+/// with a mark have records of length 6.
 pub fn entries(text: &str) -> Vec<u8> {
     let mut table = Vec::new();
     for entry in text.split(',').filter(|entry| !entry.trim().is_empty()) {
         let parts: Vec<u16> =
             entry.split_whitespace().map(|part| u16::from_str_radix(part, 16).expect("a hexadecimal number")).collect();
-        let [message, tag, kind, inner] = parts[..] else {
-            panic!("four numbers in {entry}");
+        let [message, tag, kind, inner, ref mark @ ..] = parts[..] else {
+            panic!("at least four numbers in {entry}");
         };
-        table.extend([1, 0, 5, message as u8]);
+        assert!(mark.len() <= 1, "at most five numbers in {entry}");
+        table.extend([1, 0, 5 + mark.len() as u8, message as u8]);
         table.extend(tag.to_be_bytes());
         table.extend([kind as u8, inner as u8]);
+        table.extend(mark.iter().map(|mark| *mark as u8));
     }
     table
 }
 
 fn message_sample(table: &[u8], number: u64, message: &[u8]) -> Sample {
-    Sample::Hproto { table: table.to_vec(), number, message: message.to_vec() }
+    revision_sample(table, 2, number, message)
+}
+
+fn revision_sample(table: &[u8], revision: u64, number: u64, message: &[u8]) -> Sample {
+    Sample::Hproto { table: table.to_vec(), revision, number, message: message.to_vec() }
 }
 
 fn fraction_sample(sample: &(u64, u64, u64)) -> Sample {
@@ -161,6 +172,67 @@ const HPROTO: &[(&str, &str)] = &[
     ("0 0 3 0", "0b 00 01 02 03 04 05 06 07 08 09 0a"),
     ("0 0 3 0", "0c 0c 00 01 02 03 04 05 06 07 08 09 0a 0b"),
     ("0 0 3 0", "0c 0b 00 01 02 03 04 05 06 07 08 09 0a"),
+];
+
+const SINGLE: &str = "0 2 1 0 1";
+/// Tag 1 is message 0 again and may come often; tag 2 is a single uint, tag 3 a single text, tag 4 a uint.
+const SINGLES_INSIDE: &str = "0 1 5 0, 0 2 1 0 1, 0 3 4 0 1, 0 4 1 0 0";
+/// Tag 1 is message 0 again, single; tag 2 is a uint.
+const SINGLE_MESSAGE: &str = "0 1 5 0 1, 0 2 1 0";
+
+/// Tables with single fields, and messages of number 0; each is read under either revision.
+const SINGLES: &[(&str, &str)] = &[
+    (SINGLE, "20"),
+    (SINGLE, "20 20"),
+    (SINGLE, "20 e0 02"),
+    (SINGLE, "20 f0 00 02"),
+    (SINGLE, "e0 02 20"),
+    (SINGLE, "f0 00 02 e0 02"),
+    (SINGLE, "2c 00 2f 00 00 00 00 00 00 00 00"),
+    (SINGLE, "20 30 30 20"),
+    ("0 2 1 0 0", "20 20"),
+    ("0 2 1 0", "20 20"),
+    // Nine octets, cut and past the end, before the repeat and as the repeat.
+    (SINGLE, "20 29 00 00 00 00 00 00 00 00 00"),
+    (SINGLE, "29 00 00 00 00 00 00 00 00 00 20"),
+    (SINGLE, "20 21"),
+    (SINGLE, "20 2c"),
+    (SINGLE, "20 e1 02"),
+    (SINGLE, "20 e0"),
+    (SINGLE, "20 33 00 20"),
+    (SINGLE, "20 20 33"),
+    ("0 2 4 0 1", "20 21 ff"),
+    ("0 2 4 0 1", "21 ff 20"),
+    ("0 2 3 0 1", "22 00 ff 20"),
+    // The same tag in messages around and beside each other.
+    (SINGLES_INSIDE, "11 20 11 20 20"),
+    (SINGLES_INSIDE, "20 11 20 11 20"),
+    (SINGLES_INSIDE, "20 12 20 20"),
+    (SINGLES_INSIDE, "12 20 30 20 30"),
+    (SINGLES_INSIDE, "12 20 30 20 30 30"),
+    (SINGLES_INSIDE, "13 11 20 20 20"),
+    (SINGLES_INSIDE, "40 40 10 10 40"),
+    // A message that is single itself.
+    (SINGLE_MESSAGE, "10 10"),
+    (SINGLE_MESSAGE, "10 11 f1"),
+    (SINGLE_MESSAGE, "11 f1 10"),
+    (SINGLE_MESSAGE, "11 10 20 20"),
+    (SINGLE_MESSAGE, "12 10 10"),
+    (SINGLE_MESSAGE, "10 f1 00 01 10"),
+    // Eight deep a repeat of a leaf is 20; a message there is too deep before it can be a repeat.
+    (SINGLES_INSIDE, "18 17 16 15 14 13 12 20 20"),
+    (SINGLES_INSIDE, "19 18 17 16 15 14 13 20 e0 02"),
+    (SINGLES_INSIDE, "18 17 16 15 14 13 12 10 10"),
+    (SINGLES_INSIDE, "19 18 17 16 15 14 13 20 10 20"),
+    (SINGLE_MESSAGE, "18 17 16 15 14 13 12 10 10"),
+    (SINGLE_MESSAGE, "17 16 15 14 13 12 11 10 10"),
+    (SINGLE_MESSAGE, "16 15 14 13 12 11 10 10"),
+    // Two message numbers, of which one has the tag single.
+    ("0 1 5 1, 0 2 1 0, 1 2 1 0 1", "20 20 11 20"),
+    ("0 1 5 1, 0 2 1 0, 1 2 1 0 1", "20 20 12 20 20"),
+    ("0 1 5 1, 0 2 1 0 1, 1 2 1 0 0", "20 12 20 20"),
+    ("0 d 1 0 1, 0 e 1 0 1, 0 ff 3 0 1, 0 100 3 0 1, 0 ffff 3 0 1", "d0 e0 0e e0 ff f0 01 00 f0 ff ff d0"),
+    ("0 d 1 0 1, 0 e 1 0 1, 0 ff 3 0 1, 0 100 3 0 1, 0 ffff 3 0 1", "d0 e0 0e e0 ff f0 01 00 f0 ff ff f0 00 ff"),
 ];
 
 const FRAMES: &[&str] = &[
@@ -267,11 +339,32 @@ const SHOW: &[&str] = &[
     "08 0100050000010400 02 11 80",
     "fe 00 01 00 01",
     "08 01 00 05 00 00 0c 01 00 0a c9 00 00 00 00 00 00 00 00 00",
+    "09 010006000002010001 01 20",
+    "09 010006000002010001 03 20 e0 02",
+    "09 010006000002010000 03 20 e0 02",
+    "09 010006000002010002 03 20 e0 02",
+    "08 0100060000020100 01 20",
+    "08 0100050000020181 01 20",
+    "11 0100050000010500 010006000002010001 05 11 20 11 20 20",
 ];
 
 fn numbers_over_15() -> Vec<Sample> {
     let numbers = [15, 16, 255, 256, 1 << 32, u64::MAX];
     numbers.iter().map(|number| message_sample(&entries(UINT), *number, &[0xc0])).collect()
+}
+
+fn other_revisions() -> Vec<Sample> {
+    let sample = |revision: &u64| revision_sample(&entries(SINGLE), *revision, 0, &[0x20, 0x20]);
+    let mut samples: Vec<Sample> = hproto::BAD_REVISIONS.iter().map(sample).collect();
+    let bad_table = octets("01 00 05 00 00 01 01 00 ff");
+    let long = vec![0xf1; 65_537];
+    samples.push(revision_sample(&bad_table, 257, 0, &long));
+    samples.push(revision_sample(&bad_table, 257, 0, &[0xf1]));
+    samples.push(revision_sample(&[], 257, 0, &long));
+    samples.push(revision_sample(&[], 257, 0, &[0xf1]));
+    samples.push(revision_sample(&[], 257, 16, &[0xf1]));
+    samples.push(revision_sample(&[], 257, 0, &[]));
+    samples
 }
 
 /// A faulty table, a message that is too long, a number over 15 and a faulty field, each with and without the ones before it.
@@ -290,21 +383,56 @@ fn several_faults() -> Vec<Sample> {
     ]
 }
 
-/// Tables of 63, 64 and 65 records, with octets behind them, and a pair that comes again.
+/// Tables of 63, 64 and 65 records of length 5, of length 6 and of both in turn, with octets behind them; pairs that come again; marks
+/// and inner numbers that are none.
 fn table_limits() -> Vec<Sample> {
-    let records = |count: u8| -> Vec<u8> {
-        let record = |index: u8| [1, 0, 5, index % 16, 0, index / 16, 1, 0];
-        (0..count).flat_map(record).collect()
+    let record = |index: u8, marked: bool| {
+        [&[1, 0, 5 + u8::from(marked), index % 16, 0, index / 16, 1, 0][..], &[1][..usize::from(marked)]].concat()
     };
-    let mut full_and_one = records(64);
-    full_and_one.push(1);
-    let mut tables = vec![records(63), records(64), records(65), full_and_one];
-    tables.push(entries("0 1 1 0, 0 2 1 0, 0 2 1 0, 0 1 1 0"));
-    tables.push(octets("01 00 05 00 00"));
-    tables.push(records(255).repeat(50));
-    tables.push(octets("01"));
-    tables.iter().map(|table| message_sample(table, 0, &[0x01, 0x05])).collect()
+    let records =
+        |count: u8, marked: fn(u8) -> bool| -> Vec<u8> { (0..count).flat_map(|index| record(index, marked(index))).collect() };
+    let mut tables = Vec::new();
+    for marked in [|_| false, |_| true, |index| index % 2 == 0] {
+        tables.extend([63, 64, 65].map(|count| records(count, marked)));
+        tables.push([&records(64, marked)[..], &[1]].concat());
+        tables.push(records(255, marked).repeat(50));
+    }
+    tables.extend(TABLES.iter().map(|table| octets(table)));
+    tables.iter().map(|table| message_sample(table, 0, &[0x01, 0x05, 0x01, 0x05])).collect()
 }
+
+const TABLES: &[&str] = &[
+    "01",
+    "01 00 05 00 00",
+    // A B B A, and the same with records of both lengths.
+    "0100050000010100 0100050000020100 0100050000020100 0100050000010100",
+    "010006000001010001 0100050000020100 010006000002010000 0100050000010100",
+    // A record of length 6 that is cut, and one of length 5 with an octet behind it.
+    "01000600000101",
+    "0100060000010100",
+    "0100050000010100 01",
+    // Marks: good ones, and others.
+    "010006000001010000",
+    "010006000001010001",
+    "010006000001010002",
+    "010006000001010080",
+    "010006000001010081",
+    "0100060000010100ff",
+    "0100050000010100 010006000002010002 0100050000020100",
+    // Inner numbers with a bit more, with and without a mark.
+    "0100050000010101",
+    "0100050000010180",
+    "0100050000010181",
+    "0100050000010581",
+    "010006000001058101",
+    "010006000001010101",
+    "010006000001010100",
+    // Lengths.
+    "01000400000101",
+    "01000700000101000100",
+    "0101060000010100 01",
+    "0106000000010100 01",
+];
 
 /// Messages around the limits of length: many fields of no contents, one large field, and one inside another.
 fn message_limits() -> Vec<Sample> {

@@ -94,7 +94,7 @@ pub fn table() -> &'static [u8] {
 }
 
 pub fn check(message: &[u8]) -> Call {
-    Call::Check(Hproto { table: table().into(), number: 0, message: message.into() })
+    Call::Check(Hproto { table: table().into(), revision: 2, number: 0, message: message.into() })
 }
 
 /// The calls of a case, the first having the number 0, if there is one.

@@ -4,6 +4,9 @@ use super::{damage, frames, hproto, tables};
 use crate::call::Call;
 use crate::rng::Rng;
 
+/// The revision that the program reads under.
+const REVISION: u64 = 2;
+
 pub fn random(rng: &mut Rng) -> Vec<Call> {
     vec![Call::Show { input: input(rng).into() }]
 }
@@ -11,8 +14,8 @@ pub fn random(rng: &mut Rng) -> Vec<Call> {
 fn input(rng: &mut Rng) -> Vec<u8> {
     let good = tables::good(rng);
     let message = match rng.chance(60) {
-        true => hproto::good_message(rng, &tables::loaded(&good), 0),
-        false => hproto::some_message(rng, &tables::loaded(&good), 0),
+        true => hproto::good_message(rng, &tables::loaded(&good), REVISION, 0),
+        false => hproto::some_message(rng, &tables::loaded(&good), REVISION, 0),
     };
     let table = if rng.chance(10) { tables::damaged(rng) } else { good };
     let mut input = frames::framed(rng, &table);

@@ -12,6 +12,7 @@ const LENGTHS: [usize; 12] = [8, 9, 10, 11, 12, 13, 253, 254, 255, 256, 257, 300
 
 pub struct Maker<'a> {
     pub table: &'a Table,
+    pub revision: u64,
     /// How many more fields may be made.
     pub budget: usize,
 }
@@ -26,19 +27,30 @@ impl Maker<'_> {
         let mut fields = Vec::new();
         while fields.len() < wanted && self.budget > 0 {
             self.budget -= 1;
-            fields.push(self.field(rng, number, depth));
+            let tag = self.allowed_tag(rng, number, depth, &fields);
+            fields.push(self.field(rng, number, depth, tag));
         }
         fields
     }
 
-    fn field(&mut self, rng: &mut Rng, number: u8, depth: u64) -> Field {
+    /// The tag of one more field. One that would be refused is taken now and then only.
+    fn allowed_tag(&self, rng: &mut Rng, number: u8, depth: u64, before: &[Field]) -> u16 {
         let mut tag = self.tag(rng, number);
-        let (mut kind, mut inner) = self.table.meaning(number, tag);
-        // A message that would be too deep is made now and then only.
-        while kind == Kind::Message && depth >= DEPTH_LIMIT && !rng.chance(3) {
+        while self.refuses(number, depth, before, tag) && !rng.chance(3) {
             tag = rng.word() as u16;
-            (kind, inner) = self.table.meaning(number, tag);
         }
+        tag
+    }
+
+    /// Whether a field with this tag would be a message too deep, or a single one that came before.
+    fn refuses(&self, number: u8, depth: u64, before: &[Field], tag: u16) -> bool {
+        let too_deep = depth >= DEPTH_LIMIT && self.table.meaning(number, tag).0 == Kind::Message;
+        too_deep || self.table.is_single(self.revision, number, tag) && before.iter().any(|field| field.tag == tag)
+    }
+
+    /// A field with a tag that is good but for what was said above.
+    pub fn field(&mut self, rng: &mut Rng, number: u8, depth: u64, tag: u16) -> Field {
+        let (kind, inner) = self.table.meaning(number, tag);
         let value = match kind {
             Kind::Raw => Value::Raw(some_octets(rng)),
             Kind::Uint => Value::Uint(rng.number()),

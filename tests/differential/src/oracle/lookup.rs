@@ -13,15 +13,15 @@ pub struct Found {
     pub length: u64,
 }
 
-pub fn kth(table: &[u8], number: u64, message: &[u8], tag: u64, k: u64) -> Answer<Found> {
-    let fields = read(table, number, message)?;
+pub fn kth(table: &[u8], revision: u64, number: u64, message: &[u8], tag: u64, k: u64) -> Answer<Found> {
+    let fields = read(table, revision, number, message)?;
     let mut matching = fields.iter().filter(|field| u64::from(field.tag) == tag);
     let found = usize::try_from(k).ok().and_then(|k| matching.nth(k));
     answer(found)
 }
 
-pub fn last(table: &[u8], number: u64, message: &[u8], tag: u64) -> Answer<Found> {
-    let fields = read(table, number, message)?;
+pub fn last(table: &[u8], revision: u64, number: u64, message: &[u8], tag: u64) -> Answer<Found> {
+    let fields = read(table, revision, number, message)?;
     let found = fields.iter().rev().find(|field| u64::from(field.tag) == tag);
     answer(found)
 }

@@ -3,7 +3,8 @@
 use super::shorten::shortest;
 use super::table::{load, Kind, Table};
 use super::{
-    big_endian, refuse, Answer, CUT, DEPTH_LIMIT, MESSAGE_LIMIT, NUMBER_TOO_WIDE, PAST_THE_END, TABLE, TEXT, TOO_DEEP, TOO_LONG,
+    big_endian, refuse, Answer, CUT, DEPTH_LIMIT, MESSAGE_LIMIT, NUMBER_TOO_WIDE, PAST_THE_END, REPEATED, TABLE, TEXT, TOO_DEEP,
+    TOO_LONG,
 };
 
 #[derive(Clone, Debug, PartialEq, Eq)]
@@ -63,22 +64,23 @@ pub fn depth(fields: &[Field]) -> u64 {
     1 + fields.iter().map(below).max().unwrap_or(0)
 }
 
-/// What the entries with table octets do first: 1, then the table, then a number over 15, then the fields.
-pub fn read(table: &[u8], number: u64, message: &[u8]) -> Answer<Vec<Field>> {
+/// What the entries with table octets do first: 1, then the table, then another revision than 1 or 2 and a number over 15, then the
+/// fields.
+pub fn read(table: &[u8], revision: u64, number: u64, message: &[u8]) -> Answer<Vec<Field>> {
     if message.len() > MESSAGE_LIMIT {
         return refuse(TOO_LONG, 0);
     }
     let table = load(table)?;
-    if number > 15 {
+    if !(1..=2).contains(&revision) || number > 15 {
         return refuse(TABLE, 0);
     }
-    let reader = Reader { table: &table, octets: message };
+    let reader = Reader { table: &table, revision, octets: message };
     reader.fields(number as u8, 0, message.len(), 1)
 }
 
 /// The field count, the depth, and whether the message is its own shortest form, as the check answers them.
-pub fn check(table: &[u8], number: u64, message: &[u8]) -> Answer<(u64, u64, bool)> {
-    let fields = read(table, number, message)?;
+pub fn check(table: &[u8], revision: u64, number: u64, message: &[u8]) -> Answer<(u64, u64, bool)> {
+    let fields = read(table, revision, number, message)?;
     Ok((count(&fields), depth(&fields), shortest(&fields) == message))
 }
 
@@ -90,6 +92,7 @@ struct Control {
 
 struct Reader<'a> {
     table: &'a Table,
+    revision: u64,
     octets: &'a [u8],
 }
 
@@ -99,14 +102,15 @@ impl Reader<'_> {
         let mut fields = Vec::new();
         let mut place = start;
         while place < end {
-            let field = self.field(number, place, end, depth)?;
+            let field = self.field(number, place, end, depth, &fields)?;
             place = field.start + field.length;
             fields.push(field);
         }
         Ok(fields)
     }
 
-    fn field(&self, number: u8, place: usize, end: usize, depth: u64) -> Answer<Field> {
+    /// The field at `place`, where the message has the fields `before` in front of it.
+    fn field(&self, number: u8, place: usize, end: usize, depth: u64, before: &[Field]) -> Answer<Field> {
         let Some(control) = control_part(&self.octets[place..end]) else {
             return refuse(CUT, place);
         };
@@ -116,14 +120,21 @@ impl Reader<'_> {
         }
         let length = control.length as usize;
         let contents = &self.octets[start..start + length];
-        let value = match self.table.meaning(number, control.tag) {
-            (Kind::Raw, _) => Value::Raw(contents.to_vec()),
-            (Kind::Uint, _) => Value::Uint(read_uint(contents, place)?),
-            (Kind::Int, _) => Value::Int(read_int(contents, place)?),
-            (Kind::String, _) => Value::String(contents.to_vec()),
-            (Kind::Text, _) => Value::Text(read_text(contents, place)?),
-            (Kind::Message, _) if depth == DEPTH_LIMIT => return refuse(TOO_DEEP, place),
-            (Kind::Message, inner) => Value::Message(self.fields(inner, start, start + length, depth + 1)?),
+        let (kind, inner) = self.table.meaning(number, control.tag);
+        if kind == Kind::Message && depth == DEPTH_LIMIT {
+            return refuse(TOO_DEEP, place);
+        }
+        let single = self.table.is_single(self.revision, number, control.tag);
+        if single && before.iter().any(|field| field.tag == control.tag) {
+            return refuse(REPEATED, place);
+        }
+        let value = match kind {
+            Kind::Raw => Value::Raw(contents.to_vec()),
+            Kind::Uint => Value::Uint(read_uint(contents, place)?),
+            Kind::Int => Value::Int(read_int(contents, place)?),
+            Kind::String => Value::String(contents.to_vec()),
+            Kind::Text => Value::Text(read_text(contents, place)?),
+            Kind::Message => Value::Message(self.fields(inner, start, start + length, depth + 1)?),
         };
         Ok(Field { tag: control.tag, value, start, length })
     }

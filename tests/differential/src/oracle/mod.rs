@@ -32,6 +32,7 @@ pub const NAME: u64 = 15;
 pub const TYPE_SIZE_OR_HINT: u64 = 16;
 pub const NOT_IN_FRACTIONS: u64 = 17;
 pub const ABSENT: u64 = 18;
+pub const REPEATED: u64 = 20;
 
 /// A refusal: its number and the place of the fault.
 #[derive(Clone, Copy, Debug, PartialEq, Eq)]

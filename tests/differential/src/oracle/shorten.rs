@@ -4,8 +4,8 @@ use super::message::{read, Field, Value};
 use super::{refuse, Answer, NO_ROOM};
 
 /// The shortened message, if it fits into `room` octets.
-pub fn shorten(table: &[u8], number: u64, message: &[u8], room: usize) -> Answer<Vec<u8>> {
-    let octets = shortest(&read(table, number, message)?);
+pub fn shorten(table: &[u8], revision: u64, number: u64, message: &[u8], room: usize) -> Answer<Vec<u8>> {
+    let octets = shortest(&read(table, revision, number, message)?);
     if octets.len() > room {
         return refuse(NO_ROOM, 0);
     }

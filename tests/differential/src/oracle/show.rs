@@ -5,6 +5,8 @@ use super::{frame, refuse, table, Answer, MESSAGE_LIMIT, SIZE, TOO_LONG};
 use std::fmt::Write;
 
 const INPUT_LIMIT: usize = 65_536;
+/// The revision that the program reads under.
+const REVISION: u64 = 2;
 
 pub fn text(input: &[u8]) -> Vec<u8> {
     let text = match accepted(input) {
@@ -27,7 +29,7 @@ fn accepted(input: &[u8]) -> Answer<String> {
         return refuse(SIZE, 0);
     }
     let message = &rest[start..end];
-    let fields = read(table, 0, message)?;
+    let fields = read(table, REVISION, 0, message)?;
     let mut text = String::from("depth tag kind value\n");
     rows(&mut text, &fields, 1);
     line(&mut text, format_args!("fields {} octets {}", count(&fields), message.len()));

@@ -45,6 +45,8 @@ pub struct Entry {
     pub tag: u16,
     pub kind: Kind,
     pub inner: u8,
+    /// What its record marks; it has an effect under revision 2 only.
+    pub single: bool,
 }
 
 #[derive(Clone, Debug, Default, PartialEq, Eq)]
@@ -55,12 +57,16 @@ pub struct Table {
 impl Table {
     /// The kind of a tag at a message number, and the inner message number.
     pub fn meaning(&self, message: u8, tag: u16) -> (Kind, u8) {
-        for entry in &self.entries {
-            if entry.message == message && entry.tag == tag {
-                return (entry.kind, entry.inner);
-            }
-        }
-        (Kind::Raw, 0)
+        self.entry(message, tag).map_or((Kind::Raw, 0), |entry| (entry.kind, entry.inner))
+    }
+
+    /// Whether a message with this number may have a field with this tag once only.
+    pub fn is_single(&self, revision: u64, message: u8, tag: u16) -> bool {
+        revision == 2 && self.entry(message, tag).is_some_and(|entry| entry.single)
+    }
+
+    fn entry(&self, message: u8, tag: u16) -> Option<&Entry> {
+        self.entries.iter().find(|entry| entry.message == message && entry.tag == tag)
     }
 }
 
@@ -69,36 +75,52 @@ pub fn load(octets: &[u8]) -> Answer<Table> {
     let mut table = Table::default();
     let mut place = 0;
     while place < octets.len() {
-        match next_entry(&table, &octets[place..]) {
-            Some(entry) => table.entries.push(entry),
-            None => return refuse(TABLE, place),
-        }
-        place += 8;
+        let Some((entry, size)) = next_entry(&table, &octets[place..]) else {
+            return refuse(TABLE, place);
+        };
+        table.entries.push(entry);
+        place += size;
     }
     Ok(table)
 }
 
-/// The entry of the record at the front of `rest`, or none if that record is faulty.
-fn next_entry(table: &Table, rest: &[u8]) -> Option<Entry> {
+/// The entry of the record at the front of `rest` and how many octets the record has, or none if it is faulty.
+fn next_entry(table: &Table, rest: &[u8]) -> Option<(Entry, usize)> {
     if table.entries.len() == MOST_ENTRIES {
         return None;
     }
-    let entry = read_record(rest)?;
+    let (entry, size) = read_record(rest)?;
     let seen = |old: &Entry| old.message == entry.message && old.tag == entry.tag;
     if table.entries.iter().any(seen) {
         return None;
     }
-    Some(entry)
+    Some((entry, size))
 }
 
-fn read_record(rest: &[u8]) -> Option<Entry> {
-    if rest.len() < 8 || rest[0] != 1 || big_endian(&rest[1..3]) != 5 {
+/// A record is 01, a length on two octets, and so many octets: an entry, and for length 6 its mark.
+fn read_record(rest: &[u8]) -> Option<(Entry, usize)> {
+    let (front, rest) = rest.split_at_checked(3)?;
+    if front[0] != 1 {
         return None;
     }
-    let entry = Entry { message: rest[3], tag: big_endian(&rest[4..6]) as u16, kind: Kind::of_record(rest[6])?, inner: rest[7] };
+    let (octets, single) = match big_endian(&front[1..]) {
+        5 => (rest.get(..5)?, false),
+        6 => (rest.get(..6)?, is_single(rest[5])?),
+        _ => return None,
+    };
+    let (message, tag, inner) = (octets[0], big_endian(&octets[1..3]) as u16, octets[4]);
+    let entry = Entry { message, tag, kind: Kind::of_record(octets[3])?, inner, single };
     let most_inner = if entry.kind == Kind::Message { 15 } else { 0 };
     if entry.message > 15 || entry.inner > most_inner {
         return None;
     }
-    Some(entry)
+    Some((entry, 3 + octets.len()))
+}
+
+fn is_single(mark: u8) -> Option<bool> {
+    match mark {
+        0 => Some(false),
+        1 => Some(true),
+        _ => None,
+    }
 }

@@ -9,7 +9,7 @@ const NESTED: &str = "0 1 5 0";
 
 /// The field with a tag that lookup finds in a message of number 0.
 fn find(table: &str, message: &str, tag: u64, k: u64) -> Answer<Found> {
-    kth(&entries(table), 0, &octets(message), tag, k)
+    under_either(|revision| kth(&entries(table), revision, 0, &octets(message), tag, k))
 }
 
 fn uint(message: &str) -> u64 {
@@ -155,7 +155,7 @@ fn short_control_parts() {
         assert!(!is_short("", longer), "{longer}");
     }
     let with_zeros = |control: &str, length: usize| [octets(control), vec![0; length]].concat();
-    let short = |control: &str, length| message::check(&entries("0 1 4 0"), 0, &with_zeros(control, length)).unwrap().2;
+    let short = |control: &str, length| check_octets(&entries("0 1 4 0"), &with_zeros(control, length)).unwrap().2;
     for tag in ["0", "1"] {
         let control = |rest: &str| format!("{tag}{rest}");
         assert!(short(&control("b"), 11));
@@ -198,9 +198,8 @@ fn nested_lengths_follow_the_shortened_contents() {
     let long = "1c 0c 08 00 00 00 00 00 00 00 2a 02 00 07";
     assert_eq!(shorten(table, long), Ok(octets("14 01 2a 01 07")));
     assert_eq!(check(table, long), Ok((3, 2)));
-    let room = |room| shorten::shorten(&entries(table), 0, &octets(long), room);
-    assert_eq!(room(5), Ok(octets("14 01 2a 01 07")));
-    assert_eq!(room(4), at(9, 0));
+    assert_eq!(shorten_into(table, long, 5), Ok(octets("14 01 2a 01 07")));
+    assert_eq!(shorten_into(table, long, 4), at(9, 0));
 }
 
 #[test]
@@ -295,8 +294,8 @@ fn text_as_the_standard_library_has_it() {
 
 #[test]
 fn message_length() {
-    assert_eq!(message::check(&[], 0, &vec![0; 65_536]), Ok((65_536, 1, true)));
-    assert_eq!(message::check(&[], 0, &vec![0; 65_537]), at(1, 0));
+    assert_eq!(check_octets(&[], &vec![0; 65_536]), Ok((65_536, 1, true)));
+    assert_eq!(check_octets(&[], &vec![0; 65_537]), at(1, 0));
 }
 
 #[test]
@@ -341,7 +340,7 @@ fn lookup_of_repeated_tags() {
     assert_eq!(find(table, message, 4, 0), at(18, 0));
     assert_eq!(find(table, message, 65_537, 0), at(18, 0));
     assert_eq!(find(table, message, 1, u64::MAX), at(18, 0));
-    let last_of = |tag| last(&entries(table), 0, &octets(message), tag);
+    let last_of = |tag| under_either(|revision| last(&entries(table), revision, 0, &octets(message), tag));
     assert_eq!(last_of(2).unwrap().value, 0x66);
     assert_eq!(last_of(1).unwrap().start, 9);
     assert_eq!(last_of(4), at(18, 0));

@@ -6,6 +6,7 @@ use crate::generate::{self, forms, hproto, reals, short_texts, tables, texts, tr
 use crate::oracle::message::{count, depth, is_text, read, Field, Value};
 use crate::oracle::real::fractions;
 use crate::oracle::shorten::shortest;
+use crate::oracle::table::{load, Table};
 use crate::rng::Rng;
 use std::collections::HashMap;
 
@@ -14,18 +15,93 @@ fn a_tree_is_read_back_from_every_form() {
     for case in 0..4_000 {
         let mut rng = Rng::new(1, case);
         let table = tables::good(&mut rng);
-        let tree = hproto::good_tree(&mut rng, &tables::loaded(&table), 0);
-        if depth(&tree) > 8 {
+        let revision = 1 + case % 2;
+        let tree = hproto::good_tree(&mut rng, &tables::loaded(&table), revision, 0);
+        if depth(&tree) > 8 || revision == 2 && repeats(&tables::loaded(&table), 0, &tree) {
             continue;
         }
         let style = trees::Style::random(&mut rng);
         let octets = trees::octets(&mut rng, &tree, style);
-        assert_eq!(read(&table, 0, &octets).as_ref(), Ok(&tree), "case {case}");
+        assert_eq!(read(&table, revision, 0, &octets).as_ref(), Ok(&tree), "case {case}");
         let short = shortest(&tree);
-        assert_eq!(message::check(&table, 0, &octets), Ok((count(&tree), depth(&tree), octets == short)));
+        assert_eq!(message::check(&table, revision, 0, &octets), Ok((count(&tree), depth(&tree), octets == short)));
         assert!(short.len() <= octets.len());
-        assert_eq!(read(&table, 0, &short).as_ref(), Ok(&tree), "case {case}");
+        assert_eq!(read(&table, revision, 0, &short).as_ref(), Ok(&tree), "case {case}");
     }
+}
+
+/// Whether a message of the tree has a single tag twice, by the tags that are left when each has been taken once.
+fn repeats(table: &Table, number: u8, fields: &[Field]) -> bool {
+    let mut tags: Vec<u16> = fields.iter().map(|field| field.tag).filter(|tag| table.is_single(2, number, *tag)).collect();
+    let all = tags.len();
+    tags.sort_unstable();
+    tags.dedup();
+    let inside = |field: &Field| match &field.value {
+        Value::Message(inner) => repeats(table, table.meaning(number, field.tag).1, inner),
+        _ => false,
+    };
+    tags.len() < all || fields.iter().any(inside)
+}
+
+/// The place of the first repeat in reading order, from a tree as it was read under revision 1. A repeat is looked at before the fields
+/// in it.
+fn first_repeat(table: &Table, number: u8, fields: &[Field], start: usize) -> Option<usize> {
+    let mut place = start;
+    for (index, field) in fields.iter().enumerate() {
+        let before = fields[..index].iter().any(|other| other.tag == field.tag);
+        if before && table.is_single(2, number, field.tag) {
+            return Some(place);
+        }
+        if let Value::Message(inner) = &field.value {
+            let inside = first_repeat(table, table.meaning(number, field.tag).1, inner, field.start);
+            if inside.is_some() {
+                return inside;
+            }
+        }
+        place = field.start + field.length;
+    }
+    None
+}
+
+/// Under revision 2 a message is read as under revision 1, or refused with 20 at its first repeat. One that revision 1 refuses is refused
+/// in the same way, or with 20 at no later a place. Of each there are many, also nested ones.
+#[test]
+fn the_two_revisions() {
+    let mut seen = [0; 5];
+    let fixed = generate::fixed_cases();
+    for case in (0..fixed).step_by(7).chain(fixed..fixed + 60_000) {
+        for call in generate::case(8, case) {
+            let Call::Check(on) = call else {
+                continue;
+            };
+            let [one, two] = [1, 2].map(|revision| read(&on.table, revision, on.number, &on.message));
+            let Ok(table) = load(&on.table) else {
+                assert_eq!(one, two, "case {case}");
+                continue;
+            };
+            let kind = match one {
+                Ok(fields) => match first_repeat(&table, on.number as u8, &fields, 0) {
+                    None => {
+                        assert!(!repeats(&table, on.number as u8, &fields), "case {case}");
+                        assert_eq!(two, Ok(fields), "case {case}");
+                        0
+                    }
+                    Some(place) => {
+                        assert!(repeats(&table, on.number as u8, &fields), "case {case}");
+                        assert_eq!(two, at(20, place as u64), "case {case}");
+                        1 + usize::from(fields.iter().all(|field| field.start > place || field.start + field.length <= place))
+                    }
+                },
+                Err(_) if one == two => 3,
+                Err(fault) => {
+                    assert!(two.as_ref().is_err_and(|repeat| repeat.number == 20 && repeat.place <= fault.place), "case {case}");
+                    4
+                }
+            };
+            seen[kind] += 1;
+        }
+    }
+    assert!(seen.iter().all(|count| *count > 500), "{seen:?}");
 }
 
 /// A second opinion on whether a message is short: by the octets of each control part and of each number, without writing them.
@@ -76,10 +152,10 @@ fn short_by_two_ways() {
             let Call::Check(on) = call else {
                 continue;
             };
-            let Ok(fields) = read(&on.table, on.number, &on.message) else {
+            let Ok(fields) = read(&on.table, on.revision, on.number, &on.message) else {
                 continue;
             };
-            let short = message::check(&on.table, on.number, &on.message).unwrap().2;
+            let short = message::check(&on.table, on.revision, on.number, &on.message).unwrap().2;
             assert_eq!(short, nothing_longer(&on.message, 0, &fields), "case {case}");
             seen[usize::from(short)] += 1;
         }
@@ -95,7 +171,7 @@ fn short_but_for_one() {
         let tree = forms::tree(depth);
         let parts = forms::parts(depth);
         let short = |octets: &[u8]| {
-            let (fields, levels, short) = message::check(forms::table(), 0, octets).unwrap();
+            let (fields, levels, short) = check_octets(forms::table(), octets).unwrap();
             assert_eq!((fields, levels), (count(&tree), depth as u64));
             short
         };
@@ -120,7 +196,7 @@ fn nothing_is_shorter() {
     let mut layer = vec![vec![]];
     for _ in 0..=4 {
         for octets in &layer {
-            if let Ok(tree) = read(&table, 0, octets) {
+            if let Ok(tree) = read(&table, 2, 0, octets) {
                 let same = shortest_of.entry(shortest(&tree)).or_default();
                 same.push(octets.clone());
             }
@@ -129,7 +205,7 @@ fn nothing_is_shorter() {
         layer = layer.iter().flat_map(longer).collect();
     }
     for (short, all) in &shortest_of {
-        let trees: Vec<Vec<Field>> = all.iter().map(|octets| read(&table, 0, octets).unwrap()).collect();
+        let trees: Vec<Vec<Field>> = all.iter().map(|octets| read(&table, 2, 0, octets).unwrap()).collect();
         assert!(trees.iter().all(|tree| *tree == trees[0]));
         let no_longer = all.iter().filter(|octets| octets.len() <= short.len());
         assert!(no_longer.clone().all(|octets| octets == short), "{short:02x?} {all:02x?}");
@@ -160,7 +236,7 @@ fn short_texts_are_cases() {
                 [0, 0, fields, depth, short] => Ok((fields, depth, short == 1)),
                 [refusal, place, ..] => at(refusal, place),
             };
-            assert_eq!(message::check(short_texts::table(), 0, &message), expected, "{message:02x?}");
+            assert_eq!(check_octets(short_texts::table(), &message), expected, "{message:02x?}");
             let calls = generate::case(0, first + number);
             assert_eq!(calls[0].describe(), short_texts::check(&message).describe());
         }
