@@ -4,6 +4,7 @@
  *   bench --compare              only compare the answers
  *   bench --time                 compare the answers to the rows alone, and `shortest` only if both sides set it, then time
  *                                (compare.py)
+ *   bench --time-unmarked        the same without the rows whose table has a record of length 6
  *   bench --list                 the rows: name, call, octets, fields
  *   bench --count ROW SIDE [N]   call a row N times (100 if not said). ROW is as a-meter-table-6:check, SIDE is library or plain.
  *                                It is for counting instructions (counts.py), so it compares and times nothing
@@ -20,7 +21,17 @@
 #include "../include/crudvim.h"
 #include "plain.h"
 
-enum { LIMIT = 65536, TABLE_ROOM = 65 * 8, SAMPLES = 31, MAX_ROWS = 128, SLACK = 16, SMALL_FIELD_MOST = 6, UNSET = 77 };
+enum {
+    LIMIT = 65536,
+    TABLE_ROOM = 65 * 9,
+    REVISION = 2, /* of every row that does not say another */
+    SAMPLES = 31,
+    MAX_ROWS = 128,
+    SLACK = 16,
+    SMALL_FIELDS = 5,
+    SMALL_FIELD_MOST = 6,
+    UNSET = 77
+};
 
 enum call { CHECK, SHORTEN, TIBMSG, TIBRV };
 static const char *const call_names[] = {"check", "shorten", "tibmsg", "tibrv"};
@@ -29,6 +40,9 @@ enum kind { RAW, UINT, INT, STRING, TEXT, MESSAGE };
 
 /* The form of a row's message. The shortener copies a short one, and writes the shortest form of a longer one. */
 enum form { SHORT, LONGER };
+
+/* The records of a table's fields that are no message: of length 5, and so without a mark, or of length 6 and marked single. */
+enum leaves { MANY, SINGLE };
 
 struct octets {
     uint8_t *data;
@@ -39,6 +53,7 @@ struct row {
     char name[40];
     enum call call;
     struct octets table;
+    uint64_t revision;
     uint64_t number;
     struct octets message;
     size_t out_len;
@@ -48,8 +63,10 @@ struct row {
 
 struct side {
     const char *name;
-    uint64_t (*check)(const uint8_t *, size_t, uint64_t, const uint8_t *, size_t, uint64_t *, uint64_t *, uint64_t *, uint64_t *);
-    uint64_t (*shorten)(const uint8_t *, size_t, uint64_t, const uint8_t *, size_t, uint8_t *, size_t, uint64_t *, uint64_t *);
+    uint64_t (*check)(const uint8_t *, size_t, uint64_t, uint64_t, const uint8_t *, size_t, uint64_t *, uint64_t *, uint64_t *,
+                      uint64_t *);
+    uint64_t (*shorten)(const uint8_t *, size_t, uint64_t, uint64_t, const uint8_t *, size_t, uint8_t *, size_t, uint64_t *,
+                        uint64_t *);
     uint64_t (*tibmsg)(const uint8_t *, size_t, uint64_t *, uint64_t *, uint64_t *);
     uint64_t (*tibrv)(const uint8_t *, size_t, uint64_t *, uint64_t *, uint64_t *);
 };
@@ -160,7 +177,8 @@ static void put_control(struct octets *to, unsigned tag, uint64_t length, size_t
 static void put_field(struct octets *to, unsigned tag, const void *contents, size_t len)
 {
     put_control(to, tag, len, 0, 0);
-    put(to, contents, len);
+    if (len > 0)
+        put(to, contents, len);
 }
 
 /* A uint on at least so many octets. Where that is 0 it has its shortest form; else its length stands on an octet of its own. */
@@ -208,24 +226,41 @@ static void put_record(struct octets *to, unsigned number, unsigned tag, enum ki
     put_number(to, inner, 1);
 }
 
+static void put_marked_record(struct octets *to, unsigned number, unsigned tag, enum kind kind, unsigned inner, unsigned mark)
+{
+    size_t start = to->len;
+    put_record(to, number, tag, kind, inner);
+    to->data[start + 2] = 6;
+    put_number(to, mark, 1);
+}
+
+/* The record of a field that is no message. */
+static void put_leaf_record(struct octets *to, unsigned number, unsigned tag, enum kind kind, enum leaves leaves)
+{
+    if (leaves == SINGLE)
+        put_marked_record(to, number, tag, kind, 0, 1);
+    else
+        put_record(to, number, tag, kind, 0);
+}
+
 /* ---- tables ---- */
 
 /* The six entries of a meter reading: message `outer` has a serial number, a time, a unit and readings; message `outer + 1`, a
  * reading, has a register and a value. `higher` is added to every tag. */
-static void put_meter_records(struct octets *to, unsigned outer, unsigned higher)
+static void put_meter_records(struct octets *to, unsigned outer, unsigned higher, enum leaves leaves)
 {
-    put_record(to, outer, higher + 1, UINT, 0);
-    put_record(to, outer, higher + 2, UINT, 0);
-    put_record(to, outer, higher + 3, TEXT, 0);
+    put_leaf_record(to, outer, higher + 1, UINT, leaves);
+    put_leaf_record(to, outer, higher + 2, UINT, leaves);
+    put_leaf_record(to, outer, higher + 3, TEXT, leaves);
     put_record(to, outer, higher + 4, MESSAGE, outer + 1);
-    put_record(to, outer + 1, higher, UINT, 0);
-    put_record(to, outer + 1, higher + 1, INT, 0);
+    put_leaf_record(to, outer + 1, higher, UINT, leaves);
+    put_leaf_record(to, outer + 1, higher + 1, INT, leaves);
 }
 
-static struct octets meter_table(unsigned higher)
+static struct octets meter_table(unsigned higher, enum leaves leaves)
 {
     struct octets table = room(TABLE_ROOM);
-    put_meter_records(&table, 0, higher);
+    put_meter_records(&table, 0, higher, leaves);
     return table;
 }
 
@@ -241,27 +276,32 @@ static void shuffle_records(uint8_t *records, size_t count)
 }
 
 /* 58 entries that the reading does not use, in rising order, then its six, as messages 14 and 15. */
-static struct octets full_table(int shuffled)
+static struct octets full_table(enum leaves leaves)
 {
     struct octets table = room(TABLE_ROOM);
     for (unsigned i = 0; i < 58; i++)
-        put_record(&table, i / 6, i % 6, (enum kind)(UINT + i % 4), 0);
-    put_meter_records(&table, 14, 0);
-    if (shuffled) {
-        shuffle_records(table.data, 58);
-        shuffle_records(table.data + 8 * 58, 6);
-    }
+        put_leaf_record(&table, i / 6, i % 6, (enum kind)(UINT + i % 4), leaves);
+    put_meter_records(&table, 14, 0, leaves);
+    return table;
+}
+
+/* The same with those 58 in another order, and the six as well. */
+static struct octets shuffled_table(void)
+{
+    struct octets table = full_table(MANY);
+    shuffle_records(table.data, 58);
+    shuffle_records(table.data + 8 * 58, 6);
     return table;
 }
 
 /* The kinds one by one for the larger rows: tag 1 to 4 uint, int, string, text; tag 5 a message with the same entries. */
-static struct octets kinds_table(void)
+static struct octets kinds_table(enum leaves leaves)
 {
     struct octets table = room(TABLE_ROOM);
-    put_record(&table, 0, 1, UINT, 0);
-    put_record(&table, 0, 2, INT, 0);
-    put_record(&table, 0, 3, STRING, 0);
-    put_record(&table, 0, 4, TEXT, 0);
+    put_leaf_record(&table, 0, 1, UINT, leaves);
+    put_leaf_record(&table, 0, 2, INT, leaves);
+    put_leaf_record(&table, 0, 3, STRING, leaves);
+    put_leaf_record(&table, 0, 4, TEXT, leaves);
     put_record(&table, 0, 5, MESSAGE, 0);
     return table;
 }
@@ -289,18 +329,24 @@ static struct octets meter_message(int wide, unsigned higher)
     return message;
 }
 
-/* A field of at most SMALL_FIELD_MOST octets, in its shortest form. */
-static void put_small_field(struct octets *to)
+/* One of the SMALL_FIELDS fields under kinds_table, the last of them raw: at most SMALL_FIELD_MOST octets in its shortest form. A number
+ * is the value. */
+static void put_field_of(struct octets *to, size_t which, uint64_t value)
 {
     static const char letters[] = "meter reading of the day";
-    uint64_t value = random_up_to_bits(24);
-    switch (random_below(5)) {
+    switch (which) {
     case 0: put_uint(to, 1, value); break;
     case 1: put_int(to, 2, (int)random_below(2), value); break;
     case 2: put_field(to, 3, letters, random_below(6)); break;
     case 3: put_field(to, 4, letters, random_below(6)); break;
     default: put_field(to, 9, letters, random_below(3)); break;
     }
+}
+
+static void put_small_field(struct octets *to)
+{
+    uint64_t value = random_up_to_bits(24);
+    put_field_of(to, random_below(SMALL_FIELDS), value);
 }
 
 /* Small fields of every kind but message, of just so many octets, each in its shortest form. */
@@ -313,13 +359,37 @@ static void put_small_fields(struct octets *to, size_t len)
         put_number(to, 0x10, 1);
 }
 
-/* A message of such fields. The last one is a uint on one octet: 1, which needs the octet, or 0, which does not. */
+/* A uint on one octet: 1, which needs the octet, or 0, which does not. */
+static void put_form(struct octets *to, enum form form)
+{
+    put_control(to, 1, 1, 0, 0);
+    put_number(to, form == SHORT ? 1 : 0, 1);
+}
+
+/* A message of such fields, the last one by its form. */
 static struct octets small_fields(size_t len, enum form form)
 {
     struct octets message = room(LIMIT);
     put_small_fields(&message, len - 2);
-    put_control(&message, 1, 1, 0, 0);
-    put_number(&message, form == SHORT ? 1 : 0, 1);
+    put_form(&message, form);
+    return message;
+}
+
+/* Nested messages that have each of the small fields once, then some that are empty, and the last field by its form. Of the tags of
+ * kinds_table none but that of the nested messages stands in a message twice. */
+static struct octets unrepeated_fields(size_t len, enum form form)
+{
+    struct octets message = room(LIMIT);
+    while (len - message.len >= 2 + SMALL_FIELDS * SMALL_FIELD_MOST + 2) {
+        struct octets inside = room(SMALL_FIELDS * SMALL_FIELD_MOST);
+        for (size_t which = 0; which < SMALL_FIELDS; which++)
+            put_field_of(&inside, which, random_up_to_bits(24));
+        put_field(&message, 5, inside.data, inside.len);
+        free(inside.data);
+    }
+    while (message.len < len - 2)
+        put_field(&message, 5, NULL, 0);
+    put_form(&message, form);
     return message;
 }
 
@@ -531,6 +601,7 @@ static void add(const char *name, enum form form, enum call call, struct octets 
     snprintf(row->name, sizeof row->name, "%s", name);
     row->call = call;
     row->table = table;
+    row->revision = REVISION;
     row->number = number;
     row->message = message;
     row->out_len = out_len;
@@ -547,10 +618,10 @@ static void add_both(const char *name, enum form form, struct octets table, uint
 static void add_meter_rows(void)
 {
     struct octets none = room(0);
-    struct octets six = meter_table(0);
-    struct octets six_great = meter_table(100);
-    struct octets rising = full_table(0);
-    struct octets shuffled = full_table(1);
+    struct octets six = meter_table(0, MANY);
+    struct octets six_great = meter_table(100, MANY);
+    struct octets rising = full_table(MANY);
+    struct octets shuffled = shuffled_table();
     /* Each reading draws the same numbers again, so the rows behind them do not depend on how many there are. */
     uint64_t state = random_state;
     struct octets meter = meter_message(0, 0);
@@ -562,6 +633,7 @@ static void add_meter_rows(void)
     add("load-6", SHORT, CHECK, six, 0, none, 0);
     add("load-64-rising", SHORT, CHECK, rising, 14, none, 0);
     add("load-64-shuffled", SHORT, CHECK, shuffled, 14, none, 0);
+    add("load-64-single", SHORT, CHECK, full_table(SINGLE), 14, none, 0);
     add_both("a-meter-table-6", SHORT, six, 0, meter);
     add_both("a-meter-great-tags", SHORT, six_great, 0, great_meter);
     add_both("a-meter-wide-table-6", LONGER, six, 0, wide_meter);
@@ -599,6 +671,39 @@ static void add_text_rows(struct octets kinds)
     add_both("g-text-ascii-64K", SHORT, kinds, 0, one_field(4, ascii, LIMIT));
     add_both("g-text-multi-64K", SHORT, kinds, 0, one_field(4, multi, LIMIT));
     add_both("g-text-mixed-64K", SHORT, kinds, 0, one_field(4, "Z\xc3\xa4hler f\xc3\xbcr 5 \xe2\x82\xac ", LIMIT));
+}
+
+static const struct row *row_named(const char *name)
+{
+    for (size_t i = 0; i < row_count; i++)
+        if (strcmp(rows[i].name, name) == 0)
+            return &rows[i];
+    fail(name);
+    return NULL;
+}
+
+/* Single fields (s): the meter readings of (a) and a message like those of (c), where every field that is no message is single and no
+ * message repeats one. For comparison, the message like those of (c) also under a table without marks, and the meter reading of (a)
+ * under revision 1, each time with no single field. The rows behind these do not depend on them. */
+static void add_single_rows(struct octets kinds)
+{
+    uint64_t state = random_state;
+    const struct row *meter = row_named("a-meter-table-6");
+    const struct row *wide_meter = row_named("a-meter-wide-table-6");
+    struct octets six_single = meter_table(0, SINGLE);
+    struct octets kinds_single = kinds_table(SINGLE);
+    struct octets longer = unrepeated_fields(LIMIT, LONGER);
+    random_state = state;
+    struct octets shortest = unrepeated_fields(LIMIT, SHORT);
+    random_state = state;
+    add_both("s-meter-single", SHORT, six_single, 0, meter->message);
+    add_both("s-meter-wide-single", LONGER, six_single, 0, wide_meter->message);
+    add_both("s-meter-revision-1", SHORT, meter->table, 0, meter->message);
+    rows[row_count - 2].revision = rows[row_count - 1].revision = 1;
+    add_both("s-fields-single-64K", LONGER, kinds_single, 0, longer);
+    add_both("s-fields-many-64K", LONGER, kinds, 0, longer);
+    add_both("s-short-fields-single-64K", SHORT, kinds_single, 0, shortest);
+    add_both("s-short-fields-many-64K", SHORT, kinds, 0, shortest);
 }
 
 /* Tib messages have one form only, and no table. */
@@ -647,12 +752,28 @@ static void add_curve_rows(struct octets kinds)
     }
 }
 
+/* Leaves out the rows whose table has a record of length 6. An archive from before the calls took a revision refuses them. */
+static void drop_marked_rows(void)
+{
+    size_t kept = 0;
+    for (size_t i = 0; i < row_count; i++) {
+        const struct octets *table = &rows[i].table;
+        size_t at = 0;
+        while (at < table->len && table->data[at + 2] == 5)
+            at += 8;
+        if (at >= table->len)
+            rows[kept++] = rows[i];
+    }
+    row_count = kept;
+}
+
 static void add_rows(void)
 {
-    struct octets kinds = kinds_table();
+    struct octets kinds = kinds_table(MANY);
     add_meter_rows();
     add_field_rows(kinds);
     add_text_rows(kinds);
+    add_single_rows(kinds);
     add_tib_rows();
     add_curve_rows(kinds);
 }
@@ -667,12 +788,12 @@ static struct answer ask(const struct side *side, const struct row *row, uint8_t
     size_t len = row->message.len;
     switch (row->call) {
     case CHECK:
-        answer.refusal = side->check(table, row->table.len, row->number, message, len, &answer.place, &answer.first,
+        answer.refusal = side->check(table, row->table.len, row->revision, row->number, message, len, &answer.place, &answer.first,
                                      &answer.second, &answer.shortest);
         break;
     case SHORTEN:
-        answer.refusal = side->shorten(table, row->table.len, row->number, message, len, out, row->out_len, &answer.place,
-                                       &answer.first);
+        answer.refusal = side->shorten(table, row->table.len, row->revision, row->number, message, len, out, row->out_len,
+                                       &answer.place, &answer.first);
         break;
     case TIBMSG: answer.refusal = side->tibmsg(message, len, &answer.place, &answer.first, &answer.second); break;
     case TIBRV: answer.refusal = side->tibrv(message, len, &answer.place, &answer.first, &answer.second); break;
@@ -702,8 +823,9 @@ static int may_be_unset;
 
 static void show_difference(const struct row *row, const struct answer answers[2])
 {
-    printf("the answers differ in %s (%s), table of %zu octets, number %llu, message of %zu octets, room %zu\n", row->name,
-           call_names[row->call], row->table.len, (unsigned long long)row->number, row->message.len, row->out_len);
+    printf("the answers differ in %s (%s), table of %zu octets, revision %llu, number %llu, message of %zu octets, room %zu\n",
+           row->name, call_names[row->call], row->table.len, (unsigned long long)row->revision, (unsigned long long)row->number,
+           row->message.len, row->out_len);
     for (int i = 0; i < 2; i++)
         printf("  %-8s refusal %llu place %llu results %llu %llu shortest %llu\n", sides[i].name,
                (unsigned long long)answers[i].refusal, (unsigned long long)answers[i].place, (unsigned long long)answers[i].first,
@@ -782,6 +904,13 @@ static void mend_header(struct row *row)
         set_size(&row->message, 0, row->message.len);
 }
 
+/* Any revision, most often one of the two that there are. */
+static uint64_t random_revision(void)
+{
+    static const uint64_t others[] = {0, 3, 4, 255, 257, 258, 65537, (uint64_t)1 << 32 | 2, (uint64_t)1 << 63, UINT64_MAX};
+    return random_below(16) ? 1 + random_below(2) : others[random_below(sizeof others / sizeof others[0])];
+}
+
 static void compare_damaged(const struct row *row, size_t times)
 {
     struct octets table = room(TABLE_ROOM + 8);
@@ -799,6 +928,8 @@ static void compare_damaged(const struct row *row, size_t times)
             damage(&hurt.message, LIMIT + 1);
         if (random_below(16) == 0)
             hurt.number = random_below(4) ? random_below(18) : random_bits();
+        if (random_below(4) == 0)
+            hurt.revision = random_revision();
         if (random_below(4) > 0)
             mend_header(&hurt);
         if (row->call == SHORTEN)
@@ -809,19 +940,36 @@ static void compare_damaged(const struct row *row, size_t times)
     free(message.data);
 }
 
-/* kinds_table and entries whose tags stand at the ends of what one form of a tag can hold. */
-static struct octets edge_table(void)
+/* A record of either length; so often of 16 a single one. */
+static void put_any_record(struct octets *to, unsigned number, unsigned tag, enum kind kind, size_t single)
 {
-    struct octets table = kinds_table();
-    put_record(&table, 0, 13, UINT, 0);
-    put_record(&table, 0, 14, MESSAGE, 0);
-    put_record(&table, 0, 255, TEXT, 0);
-    put_record(&table, 0, 256, INT, 0);
-    put_record(&table, 0, 65535, MESSAGE, 0);
-    return table;
+    if (random_below(16) < single)
+        put_marked_record(to, number, tag, kind, 0, 1);
+    else if (random_below(2))
+        put_marked_record(to, number, tag, kind, 0, 0);
+    else
+        put_record(to, number, tag, kind, 0);
 }
 
-/* A random field list under edge_table, in random forms, some of them nested. */
+/* The entries of kinds_table and others whose tags stand at the ends of what one form of a tag can hold. Somewhere before or between
+ * them stand up to 54 entries of another message number. */
+static void put_edge_records(struct octets *to, size_t single)
+{
+    static const struct {
+        unsigned tag;
+        enum kind kind;
+    } fields[] = {{1, UINT},  {2, INT},      {3, STRING}, {4, TEXT},  {5, MESSAGE},
+                  {13, UINT}, {14, MESSAGE}, {255, TEXT}, {256, INT}, {65535, MESSAGE}};
+    size_t others = random_below(2) ? 0 : random_below(3) ? random_below(55) : 54;
+    size_t behind = random_below(sizeof fields / sizeof fields[0]);
+    for (size_t i = 0; i < sizeof fields / sizeof fields[0]; i++) {
+        for (unsigned tag = 0; i == behind && tag < others; tag++)
+            put_any_record(to, 15, tag, UINT, single);
+        put_any_record(to, 0, fields[i].tag, fields[i].kind, single);
+    }
+}
+
+/* A random field list under such a table, in random forms, some of them nested. */
 static void put_random(struct octets *to, unsigned depth)
 {
     static const size_t widths[] = {0, 0, 1, 2, 4, 8};
@@ -901,10 +1049,12 @@ static void compare_random_tib(size_t times)
 
 static void compare_random(size_t times)
 {
-    struct row row = {.name = "random", .table = edge_table()};
-    row.message = room(65536);
+    static const size_t singles[] = {0, 2, 8, 16};
+    struct row row = {.name = "random", .table = room(TABLE_ROOM), .message = room(65536)};
     for (size_t i = 0; i < times; i++) {
-        row.message.len = 0;
+        row.revision = random_revision();
+        row.table.len = row.message.len = 0;
+        put_edge_records(&row.table, singles[random_below(4)]);
         put_random(&row.message, 1);
         row.out_len = random_below(3) ? row.message.len : random_below(row.message.len + 1);
         row.call = CHECK;
@@ -920,7 +1070,8 @@ static void compare_random(size_t times)
 static void compare_small(size_t times)
 {
     struct octets none = room(0);
-    struct octets kinds = kinds_table();
+    struct octets kinds = kinds_table(MANY);
+    struct octets kinds_single = kinds_table(SINGLE);
     /* Some characters, and the first or last ones of four rows of the grammar of UTF-8. */
     const char *characters = "\xc3\xa9\xe2\x82\xac\xf0\x9f\x94\x8c\xe0\xa0\x80\xed\x9f\xbf\xf0\x90\x80\x80\xf4\x8f\xbf\xbf";
     struct row small[] = {
@@ -928,12 +1079,15 @@ static void compare_small(size_t times)
         {.name = "fields-small", .call = CHECK, .table = kinds, .message = small_fields(60, SHORT)},
         {.name = "deep-small", .call = CHECK, .table = kinds, .message = deep(8, 60, 1, SHORT)},
         {.name = "too-deep-small", .call = CHECK, .table = kinds, .message = deep(9, 60, 1, SHORT)},
+        {.name = "single-small", .call = CHECK, .table = kinds_single, .message = unrepeated_fields(60, SHORT)},
+        {.name = "repeated-small", .call = CHECK, .table = kinds_single, .message = small_fields(24, SHORT)},
         {.name = "tibmsg-small", .call = TIBMSG, .table = none, .message = tibmsg_small(180)},
         {.name = "tibrv-small", .call = TIBRV, .table = none, .message = tibrv_small(180, 1)},
         {.name = "tibrv-deep-small", .call = TIBRV, .table = none, .message = tibrv_small(480, 8)},
         {.name = "tibrv-too-deep-small", .call = TIBRV, .table = none, .message = tibrv_small(540, 9)},
     };
     for (size_t i = 0; i < sizeof small / sizeof small[0]; i++) {
+        small[i].revision = REVISION;
         compare(&small[i]);
         compare_damaged(&small[i], times);
         if (small[i].call == CHECK) {
@@ -944,6 +1098,7 @@ static void compare_small(size_t times)
     }
     free(none.data);
     free(kinds.data);
+    free(kinds_single.data);
 }
 
 /* Compares the answers to every row. Stops at the first difference. */
@@ -974,6 +1129,8 @@ static void compare_all(void)
            (unsigned long long)short_checks[0]);
     if (short_checks[0] == 0 || short_checks[1] == 0)
         fail("all accepted messages are short, or none is");
+    if (refused_with[CRUDVIM_REPEATED] == 0)
+        fail("no message repeats a single field");
 }
 
 /* A row has to have the form that it says. If it had not, the shortener would copy where it should write, or the reverse. */
@@ -1101,7 +1258,9 @@ int main(int argc, char **argv)
     } else if (argc == 2 && strcmp(argv[1], "--compare") == 0) {
         complete_all();
         compare_all();
-    } else if (argc == 2 && strcmp(argv[1], "--time") == 0) {
+    } else if (argc == 2 && (strcmp(argv[1], "--time") == 0 || strcmp(argv[1], "--time-unmarked") == 0)) {
+        if (strcmp(argv[1], "--time") != 0)
+            drop_marked_rows();
         may_be_unset = 1;
         complete_all();
         compare_rows();
@@ -1112,7 +1271,7 @@ int main(int argc, char **argv)
     } else if ((argc == 4 || argc == 5) && strcmp(argv[1], "--count") == 0) {
         count(argv[2], argv[3], argc == 5 ? strtoul(argv[4], NULL, 10) : 100);
     } else {
-        fail("usage: bench [--compare | --time | --list | --count ROW:CALL SIDE [N]]");
+        fail("usage: bench [--compare | --time | --time-unmarked | --list | --count ROW:CALL SIDE [N]]");
     }
     return 0;
 }

@@ -1,13 +1,16 @@
 #!/usr/bin/env python3
 """Times two archives of the library against each other, on the rows of the bench.
 
-    compare.py BEFORE.a AFTER.a [ROW ...]
+    compare.py [--no-revision] BEFORE.a AFTER.a [ROW ...]
 
 Run it at the project's root. A ROW is part of a row's name; without any, all rows but the points of the curves are printed. The bench is
 linked with both archives, BEFORE in the place of plain.c. It compares their answers to the rows, and no others, because a request may
 change answers. It compares the check's result `shortest` only if both archives set it. Where the linker places a function changes its
 time, so the bench is linked eight times, with the archives in either order behind a block of another length. The ratio, AFTER by
 BEFORE, is the geometric mean of the eight; the least and the greatest are beside it.
+
+With --no-revision BEFORE is an archive from before the calls took a revision. It is called through functions that leave the revision out,
+which costs it about a dozen instructions a call. The rows whose table has records of length 6, which it would refuse, are left out.
 """
 import math
 import pathlib
@@ -18,28 +21,48 @@ import tempfile
 
 CALLS = ('check', 'shorten', 'tibmsg_check', 'tibrv_check')
 PLACEMENTS = 8
+WITHOUT_REVISION = '''
+#include "plain.h"
+uint64_t old_check(const uint8_t *, size_t, uint64_t, const uint8_t *, size_t, uint64_t *, uint64_t *, uint64_t *, uint64_t *);
+uint64_t old_shorten(const uint8_t *, size_t, uint64_t, const uint8_t *, size_t, uint8_t *, size_t, uint64_t *, uint64_t *);
+
+uint64_t plain_check(const uint8_t *table, size_t table_len, uint64_t revision, uint64_t number, const uint8_t *message,
+                     size_t message_len, uint64_t *place, uint64_t *fields, uint64_t *depth, uint64_t *shortest)
+{
+    (void)revision;
+    return old_check(table, table_len, number, message, message_len, place, fields, depth, shortest);
+}
+
+uint64_t plain_shorten(const uint8_t *table, size_t table_len, uint64_t revision, uint64_t number, const uint8_t *message,
+                       size_t message_len, uint8_t *out, size_t out_len, uint64_t *place, uint64_t *length)
+{
+    (void)revision;
+    return old_shorten(table, table_len, number, message, message_len, out, out_len, place, length);
+}
+'''
 
 
 def run(*words, **more):
     return subprocess.run([str(word) for word in words], check=True, capture_output=True, text=True, **more).stdout
 
 
-def in_place_of_plain(archive, folder):
-    """A copy of the archive that defines the functions of plain.h and no others."""
+def in_place_of_plain(archive, folder, old):
+    """A copy of the archive that defines the functions of plain.h and no others. Those in `old` have the prefix old_ instead."""
     copy = folder / 'before.a'
-    run('objcopy', *(f'--redefine-sym=crudvim_{call}=plain_{call}' for call in CALLS), archive, copy)
-    run('objcopy', *(f'--keep-global-symbol=plain_{call}' for call in CALLS), copy)
+    names = {call: f'old_{call}' if call in old else f'plain_{call}' for call in CALLS}
+    run('objcopy', *(f'--redefine-sym=crudvim_{call}={name}' for call, name in names.items()), archive, copy)
+    run('objcopy', *(f'--keep-global-symbol={name}' for name in names.values()), copy)
     return copy
 
 
-def ratios(before, after, folder, k):
-    """Of one placement: the ratio of each row and call."""
+def ratios(objects, before, after, folder, word, k):
+    """Of one placement: the ratio of each row and call. The word says which rows the bench times."""
     block, bench = folder / 'block.s', folder / 'bench'
     block.write_text(f'.text\n.globl block\nblock: .space {16 + 48 * k}, 0x90\n.section .note.GNU-stack\n')
     archives = [after, before] if k % 2 else [before, after]
-    run('gcc', folder / 'bench.o', block, *archives, '-o', bench)
+    run('gcc', *objects, block, *archives, '-o', bench)
     found = {}
-    for line in run(bench, '--time').splitlines():
+    for line in run(bench, word).splitlines():
         words = line.split()
         if len(words) == 7 and re.fullmatch(r'\d+\.\d+', words[6]):
             found[words[0], words[1]] = float(words[6])
@@ -47,12 +70,18 @@ def ratios(before, after, folder, k):
 
 
 def main():
-    before, after, wanted = sys.argv[1], sys.argv[2], sys.argv[3:]
+    no_revision = sys.argv[1:2] == ['--no-revision']
+    before, after, *wanted = sys.argv[1 + no_revision:]
     with tempfile.TemporaryDirectory() as name:
         folder = pathlib.Path(name)
-        run('gcc', '-std=c11', '-O3', '-c', 'bench/bench.c', '-o', folder / 'bench.o')
-        copy = in_place_of_plain(before, folder)
-        runs = [ratios(copy, after, folder, k) for k in range(PLACEMENTS)]
+        objects = [folder / 'bench.o']
+        run('gcc', '-std=c11', '-O3', '-c', 'bench/bench.c', '-o', objects[0])
+        if no_revision:
+            objects.append(folder / 'without_revision.o')
+            run('gcc', '-std=c11', '-O3', '-Ibench', '-x', 'c', '-c', '-', '-o', objects[1], input=WITHOUT_REVISION)
+        copy = in_place_of_plain(before, folder, ('check', 'shorten') if no_revision else ())
+        word = '--time-unmarked' if no_revision else '--time'
+        runs = [ratios(objects, copy, after, folder, word, k) for k in range(PLACEMENTS)]
     print(f"{'row':28} {'call':8} {'ratio':>7} {'least':>7} {'greatest':>8}")
     for row, call in runs[0]:
         if any(word in row for word in wanted) if wanted else not re.match(r'(length|depth)-', row):

@@ -2,7 +2,8 @@
  *
  * It is what a C programmer would write first and keep: one pass of recursion per task, a table that is searched from its start,
  * and a shortener that writes a nested message where it will most likely stand and moves it if its length needs more octets. The
- * check finds in its one pass whether a message is short already, and the shortener copies such a message.
+ * check finds in its one pass whether a message is short already, and the shortener copies such a message. A mask on 64 bits, one for
+ * each entry of the table, keeps which single fields a message has.
  */
 #include "plain.h"
 
@@ -14,29 +15,33 @@ enum {
     MESSAGE_LIMIT = 65536,
     DEPTH_LIMIT = 8,
     TABLE_LIMIT = 64,
-    RECORD_SIZE = 8,
+    LAST_REVISION = 2,
     TIBMSG_HEADER = 9,
     TIBRV_HEADER = 8
 };
 
 enum kind { RAW, UINT, INT, STRING, TEXT, MESSAGE };
 
-/* The key is the message number and the field tag in one number, so that one comparison finds an entry. */
+/* The key is the message number and the field tag in one number, so that one comparison finds an entry. Under revision 1 no entry is
+ * single. */
 struct entry {
     uint32_t key;
     uint8_t kind;
     uint8_t inner;
+    uint8_t single; /* 0 or 1 */
 };
 
+/* Behind the last entry stands one of kind RAW. */
 struct table {
     size_t count;
-    struct entry entries[TABLE_LIMIT];
+    struct entry entries[TABLE_LIMIT + 1];
 };
 
 struct field {
     uint32_t tag;
     enum kind kind;
     unsigned inner;
+    size_t order; /* of its entry */
     const uint8_t *contents;
     size_t length;
 };
@@ -70,36 +75,43 @@ static uint8_t *put_big_endian(uint8_t *out, uint64_t value, size_t count)
 
 /* ---- the field table ---- */
 
-static const struct entry *find(const struct table *table, unsigned number, uint32_t tag)
+/* The order of the entry for a message number and a tag; the count of entries if there is none. */
+static size_t find(const struct table *table, unsigned number, uint32_t tag)
 {
     uint32_t key = (uint32_t)number << 16 | tag;
     for (size_t i = 0; i < table->count; i++)
         if (table->entries[i].key == key)
-            return &table->entries[i];
-    return NULL;
+            return i;
+    return table->count;
 }
 
-static int record_good(const uint8_t *record)
+/* The count of octets of the record at the front, or 0 if it is cut or faulty. A record of nine octets ends with a mark. */
+static size_t record_size(const uint8_t *record, size_t left)
 {
+    if (left < 8 || record[0] != 1 || record[1] != 0)
+        return 0;
+    size_t size = 3 + (size_t)record[2];
     unsigned kind = record[6];
-    if (record[0] != 1 || record[1] != 0 || record[2] != 5)
+    if (size != 8 && (size != 9 || left < 9 || record[8] > 1))
         return 0;
-    if (record[3] > 15 || kind < UINT || kind > MESSAGE)
+    if (record[3] > 15 || kind < UINT || kind > MESSAGE || record[7] > (kind == MESSAGE ? 15 : 0))
         return 0;
-    return record[7] <= (kind == MESSAGE ? 15 : 0);
+    return size;
 }
 
-static uint64_t load(struct table *table, const uint8_t *octets, size_t len, uint64_t *place)
+static uint64_t load(struct table *table, const uint8_t *octets, size_t len, uint64_t revision, uint64_t *place)
 {
+    size_t size;
     table->count = 0;
-    for (size_t at = 0; at < len; at += RECORD_SIZE) {
+    for (size_t at = 0; at < len; at += size) {
         const uint8_t *record = octets + at;
-        if (len - at < RECORD_SIZE || table->count == TABLE_LIMIT || !record_good(record)) {
+        size = record_size(record, len - at);
+        if (size == 0 || table->count == TABLE_LIMIT) {
             *place = at;
             return CRUDVIM_TABLE;
         }
         uint32_t tag = (uint32_t)record[4] << 8 | record[5];
-        if (find(table, record[3], tag) != NULL) {
+        if (find(table, record[3], tag) < table->count) {
             *place = at;
             return CRUDVIM_TABLE;
         }
@@ -107,14 +119,18 @@ static uint64_t load(struct table *table, const uint8_t *octets, size_t len, uin
         entry->key = (uint32_t)record[3] << 16 | tag;
         entry->kind = record[6];
         entry->inner = record[7];
+        entry->single = revision == 2 && size == 9 && record[8] == 1;
     }
+    table->entries[table->count] = (struct entry){0, RAW, 0, 0};
     return CRUDVIM_ACCEPTED;
 }
 
 /* ---- reading one field ---- */
 
-/* Reads the field that starts at `at`, which is before the end. Looks at its control part and its length, not at its contents. */
-static uint64_t read_field(const struct table *table, unsigned number, const uint8_t *at, const uint8_t *end, struct field *field)
+/* Reads the field that starts at `at`, which is before the end. Looks at its control part and its length, not at its contents. Without
+ * the word inline gcc would call it for each field, and the check would take a third more instructions. */
+static inline uint64_t read_field(const struct table *table, unsigned number, const uint8_t *at, const uint8_t *end,
+                                  struct field *field)
 {
     size_t left = (size_t)(end - at);
     unsigned high = at[0] >> 4;
@@ -128,10 +144,11 @@ static uint64_t read_field(const struct table *table, unsigned number, const uin
     uint64_t length = length_size == 0 ? low : big_endian(at + 1 + tag_size, length_size);
     if (length > left - control)
         return CRUDVIM_PAST_THE_END;
-    const struct entry *entry = find(table, number, tag);
+    size_t order = find(table, number, tag);
     field->tag = tag;
-    field->kind = entry == NULL ? RAW : entry->kind;
-    field->inner = entry == NULL ? 0 : entry->inner;
+    field->kind = table->entries[order].kind;
+    field->inner = table->entries[order].inner;
+    field->order = order;
     field->contents = at + control;
     field->length = (size_t)length;
     return CRUDVIM_ACCEPTED;
@@ -213,11 +230,19 @@ __attribute__((noinline)) static uint64_t check_message(struct walk *walk, unsig
                                                         unsigned depth)
 {
     int longer = 0;
+    uint64_t seen = 0; /* the single fields so far, each a bit by the order of its entry */
     if (depth > walk->depth)
         walk->depth = depth;
     while (at < end) {
         struct field field;
         uint64_t refusal = read_field(walk->table, number, at, end, &field);
+        if (refusal == CRUDVIM_ACCEPTED && walk->table->entries[field.order].single) {
+            uint64_t bit = (uint64_t)1 << field.order;
+            /* A message too deep comes first, but it is refused at once, so that no repeat of it is reached. */
+            if ((seen & bit) != 0)
+                refusal = CRUDVIM_REPEATED;
+            seen |= bit;
+        }
         if (refusal == CRUDVIM_ACCEPTED && field.kind == MESSAGE && depth < DEPTH_LIMIT) {
             refusal = check_message(walk, field.inner, field.contents, field.contents + field.length, depth + 1);
             if (refusal != CRUDVIM_ACCEPTED)
@@ -245,8 +270,8 @@ __attribute__((noinline)) static uint64_t check_message(struct walk *walk, unsig
 }
 
 /* Loads the table and checks the message. The walk's place is that of the refusal, 0 if there is none. */
-static uint64_t load_and_check(struct table *table, struct walk *walk, const uint8_t *octets, size_t octets_len, uint64_t number,
-                               const uint8_t *message, size_t message_len)
+static uint64_t load_and_check(struct table *table, struct walk *walk, const uint8_t *octets, size_t octets_len, uint64_t revision,
+                               uint64_t number, const uint8_t *message, size_t message_len)
 {
     walk->table = table;
     walk->start = message;
@@ -256,20 +281,20 @@ static uint64_t load_and_check(struct table *table, struct walk *walk, const uin
     walk->longer = 0;
     if (message_len > MESSAGE_LIMIT)
         return CRUDVIM_TOO_LONG;
-    uint64_t refusal = load(table, octets, octets_len, &walk->place);
+    uint64_t refusal = load(table, octets, octets_len, revision, &walk->place);
     if (refusal != CRUDVIM_ACCEPTED)
         return refusal;
-    if (number > 15)
+    if (revision < 1 || revision > LAST_REVISION || number > 15)
         return CRUDVIM_TABLE;
     return check_message(walk, (unsigned)number, message, message + message_len, 1);
 }
 
-uint64_t plain_check(const uint8_t *octets, size_t octets_len, uint64_t number, const uint8_t *message, size_t message_len,
-                     uint64_t *place, uint64_t *fields, uint64_t *depth, uint64_t *shortest)
+uint64_t plain_check(const uint8_t *octets, size_t octets_len, uint64_t revision, uint64_t number, const uint8_t *message,
+                     size_t message_len, uint64_t *place, uint64_t *fields, uint64_t *depth, uint64_t *shortest)
 {
     struct table table;
     struct walk walk;
-    uint64_t refusal = load_and_check(&table, &walk, octets, octets_len, number, message, message_len);
+    uint64_t refusal = load_and_check(&table, &walk, octets, octets_len, revision, number, message, message_len);
     *place = walk.place;
     *fields = refusal == CRUDVIM_ACCEPTED ? walk.fields : 0;
     *depth = refusal == CRUDVIM_ACCEPTED ? walk.depth : 0;
@@ -383,13 +408,13 @@ static uint8_t *write_short(const struct table *table, unsigned number, const ui
     return out;
 }
 
-uint64_t plain_shorten(const uint8_t *octets, size_t octets_len, uint64_t number, const uint8_t *message, size_t message_len,
-                       uint8_t *out, size_t out_len, uint64_t *place, uint64_t *length)
+uint64_t plain_shorten(const uint8_t *octets, size_t octets_len, uint64_t revision, uint64_t number, const uint8_t *message,
+                       size_t message_len, uint8_t *out, size_t out_len, uint64_t *place, uint64_t *length)
 {
     struct table table;
     struct walk walk;
     *length = 0;
-    uint64_t refusal = load_and_check(&table, &walk, octets, octets_len, number, message, message_len);
+    uint64_t refusal = load_and_check(&table, &walk, octets, octets_len, revision, number, message, message_len);
     *place = walk.place;
     if (refusal != CRUDVIM_ACCEPTED)
         return refusal;

@@ -5,11 +5,11 @@
 #include <stddef.h>
 #include <stdint.h>
 
-uint64_t plain_check(const uint8_t *table, size_t table_len, uint64_t number, const uint8_t *message, size_t message_len,
-                     uint64_t *place, uint64_t *fields, uint64_t *depth, uint64_t *shortest);
+uint64_t plain_check(const uint8_t *table, size_t table_len, uint64_t revision, uint64_t number, const uint8_t *message,
+                     size_t message_len, uint64_t *place, uint64_t *fields, uint64_t *depth, uint64_t *shortest);
 
-uint64_t plain_shorten(const uint8_t *table, size_t table_len, uint64_t number, const uint8_t *message, size_t message_len,
-                       uint8_t *out, size_t out_len, uint64_t *place, uint64_t *length);
+uint64_t plain_shorten(const uint8_t *table, size_t table_len, uint64_t revision, uint64_t number, const uint8_t *message,
+                       size_t message_len, uint8_t *out, size_t out_len, uint64_t *place, uint64_t *length);
 
 uint64_t plain_tibmsg_check(const uint8_t *message, size_t message_len, uint64_t *place, uint64_t *fields, uint64_t *depth);
 
