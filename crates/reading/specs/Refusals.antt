@@ -1,19 +1,19 @@
--- The refusals of document 01 by number. Definitions cite them by these names.
+-- The refusals of documents 01 and 02 by number. Definitions cite them by these names.
 use Prim.Native.Nat.{ℕ}
 
 -- A message or a buffer over the length limit, or a frame that announces such a message.
 abbrev pub tooLong : ℕ
 tooLong = 1
 
--- A faulty field table, a number that is no revision, or a message number over the last.
+-- A faulty field table or dictionary, a number that is no revision, or a message number over the last.
 abbrev pub table : ℕ
 table = 2
 
--- Octets that end inside a control part, header, name, size or hint.
+-- Octets that end inside a control part, header, name, size, hint or FID.
 abbrev pub cut : ℕ
 cut = 3
 
--- Contents that would end after the message around them.
+-- Contents, or the padding after them, that would end after the message around them.
 abbrev pub pastTheEnd : ℕ
 pastTheEnd = 4
 
@@ -49,11 +49,11 @@ nothingOpen = 11
 abbrev pub stillOpen : ℕ
 stillOpen = 12
 
--- Another magic number or version of a Tib message.
+-- Another magic number or version of a message of a Tib format.
 abbrev pub magic : ℕ
 magic = 13
 
--- A Tib size that is not that of the buffer, or octets after the second frame.
+-- A size in a header of a Tib format that is not that of the buffer, or octets after the second frame.
 abbrev pub size : ℕ
 size = 14
 
@@ -61,7 +61,7 @@ size = 14
 abbrev pub name : ℕ
 name = 15
 
--- A type, a size or a hint against the rules.
+-- A type, a size or a hint against the rules, or a FID without both flags.
 abbrev pub typeSizeOrHint : ℕ
 typeSizeOrHint = 16
 
@@ -72,6 +72,10 @@ notInFractions = 17
 -- No such field.
 abbrev pub absent : ℕ
 absent = 18
+
+-- A field whose fid the dictionary does not have.
+abbrev pub notInDictionary : ℕ
+notInDictionary = 19
 
 -- A field that repeats a single one.
 abbrev pub repeated : ℕ

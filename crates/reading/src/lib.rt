@@ -10,14 +10,14 @@ pub const DEPTH_LIMIT: u64 = 8;
 
 pub const LAST_NUMBER: u64 = 15;
 
-// The refusals of document 01.
+// The refusals of documents 01 and 02.
 // A message or a buffer over the length limit, or a frame that announces such a message.
 pub const TOO_LONG: u64 = 1;
-// A faulty field table, a number that is no revision, or a message number over the last.
+// A faulty field table or dictionary, a number that is no revision, or a message number over the last.
 pub const TABLE: u64 = 2;
-// Octets that end inside a control part, header, name, size or hint.
+// Octets that end inside a control part, header, name, size, hint or FID.
 pub const CUT: u64 = 3;
-// Contents that would end after the message around them.
+// Contents, or the padding after them, that would end after the message around them.
 pub const PAST_THE_END: u64 = 4;
 // Messages nested nine deep.
 pub const TOO_DEEP: u64 = 5;
@@ -35,18 +35,20 @@ pub const STATE: u64 = 10;
 pub const NOTHING_OPEN: u64 = 11;
 // A finish with a field open.
 pub const STILL_OPEN: u64 = 12;
-// Another magic number or version of a Tib message.
+// Another magic number or version of a message of a Tib format.
 pub const MAGIC: u64 = 13;
-// A Tib size that is not that of the buffer, or octets after the second frame.
+// A size in a header of a Tib format that is not that of the buffer, or octets after the second frame.
 pub const SIZE: u64 = 14;
 // A bad name.
 pub const NAME: u64 = 15;
-// A type, a size or a hint against the rules.
+// A type, a size or a hint against the rules, or a FID without both flags.
 pub const TYPE_SIZE_OR_HINT: u64 = 16;
 // A real that cannot be read in fractions.
 pub const NOT_IN_FRACTIONS: u64 = 17;
 // No such field.
 pub const ABSENT: u64 = 18;
+// A field whose fid the dictionary does not have.
+pub const NOT_IN_DICTIONARY: u64 = 19;
 // A field that repeats a single one.
 pub const REPEATED: u64 = 20;
 
