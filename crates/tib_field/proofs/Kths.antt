@@ -97,13 +97,25 @@ module _ {A Z K : Type 0} (octets : A → List ℕ) (P : A → Type 0) (sizes : 
   found = foundOf sizes at absent wanted
 
   -- No field stands at i.
-  pub none-here : ((f : A) (rest : List ℕ) → P f → drop i s ≡ octets f ++ rest → ⊥) → absent ≡ found
+  none-here : ((f : A) (rest : List ℕ) → P f → drop i s ≡ octets f ++ rest → ⊥) → absent ≡ found
   unfolding foundOf
   none-here never = go (look octets P s wanted i remaining now)
     where
       go : Look octets P s wanted i remaining → absent ≡ found
       go (ends d w) = sym (ap (foundOf sizes at absent) w)
       go (stands f rest p d fits this later) = absurd (never f rest p d)
+
+  -- None stands at the end of the octets.
+  pub none-at-end : length s ≤ i → absent ≡ found
+  none-at-end h =
+      none-here
+      (λ f rest p d.
+      let l = ap length d ∙ length-append (octets f) rest in
+      let m = length-drop i s in
+      let n = measured f in
+      let a = n .0 in
+      let b = n .1 in
+      omega arith)
 
   -- A field stands at i: it is the one, or another is still to come.
   pub record OneMore (z : Z) : Type 0 where

@@ -1,11 +1,16 @@
 pub mod Numbers
 pub mod Marks
+pub mod Headers
 pub mod Names
 pub mod Zeros
 pub mod Standing
 pub mod Choices
 pub mod NameSteps
 pub mod Fields
+pub mod Rows
+pub mod Steps
+pub mod Traversals
 pub mod Kths
 pub mod ReadingLaws
 pub mod WrongNames
+pub mod Messages

@@ -5,9 +5,7 @@ use mathlib.Core.Path.{_≡_, refl, sym, ap, _∙_}
 use mathlib.Core.List.{List, [], _∷_, _++_}
 use lib.ListN.{length, take, drop}
 use lib.Seq.{drop-at}
-use Rattle.tib_field.specs.Name.{Name, nameStep, afterName}
-use Rattle.tib_field.specs.declared.NameStep.{NameStep}
-use Rattle.tib_field.specs.declared.NameStep.the-variants.{End, Fault, Name as Sized}
+use Rattle.tib_field.specs.Name.{Name, nameStep, afterName, NameStep, End, Fault, Sized}
 use Rattle.tib_field.proofs.Names.{name-step-end, name-step-found, name-step-of-name}
 use Rattle.octets.proofs.Slices.{tail-part}
 

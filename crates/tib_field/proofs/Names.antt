@@ -9,10 +9,8 @@ use lib.ListN.{length, getD, take, drop, length-append, take-append-drop}
 use lib.Seq.{take-at, length-take-le, getD-take}
 use borrow.Author.Tests.{eq-eqb, ne-eqb, eqb-true, eqb-false, lt-ltb, le-ltb, ltb-false}
 use Rattle.octets.proofs.Slices.{length-zero}
-use Rattle.tib_field.specs.Name.{NoZero, Name, none, closed, closes, named, nameStep}
+use Rattle.tib_field.specs.Name.{NoZero, Name, none, closed, closes, named, nameStep, NameStep, End, Fault, Sized}
 use Rattle.tib_field.specs.internal.Zeros.{faultOf, nameFault, ZeroIn}
-use Rattle.tib_field.specs.declared.NameStep.{NameStep}
-use Rattle.tib_field.specs.declared.NameStep.the-variants.{End, Fault, Name as Sized}
 
 abbrev Closed : List ℕ → Type 0
 Closed s = (r : List ℕ) × NoZero r × (s ≡ r ++ (0 ∷ []))
@@ -221,3 +219,15 @@ found-inside s n e =
 
 pub sized-inside : (s : List ℕ) (n k : ℕ) → (length s ≡ 0 → ⊥) → k ≡ nameFault s → k ≡ 0 → n ≡ getD s 0 0 → 1 + n ≤ length s
 sized-inside s n k h e z m = found-inside s n (name-step-sized s n k h e z m)
+
+few-fault : (n : ℕ) (t u : Bool) → faultOf (cond t (Fault 3) (cond u (Sized n) (Fault 15))) ≤ 15
+unfolding faultOf
+few-fault n true u = omega arith
+few-fault n false true = omega arith
+few-fault n false false = omega arith
+
+-- The refusal of a name is small.
+pub name-fault-few : (s : List ℕ) → nameFault s ≤ 15
+unfolding nameFault nameStep faultOf
+name-fault-few [] = omega arith
+name-fault-few (x ∷ s) = few-fault x (ltb (length s) x) (named (take x s))

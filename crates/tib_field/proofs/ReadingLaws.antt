@@ -9,8 +9,6 @@ use Rattle.reading.specs.Reading.{Reading, accepted, refused}
 use Rattle.reading.specs.internal.Verdicts.{IsAccepted, verdictOf}
 use Rattle.reading.specs.Checks.{refusal, counts}
 use Rattle.reading.specs.declared.Verdict.the-variants.{Accepted, Refused}
-use Rattle.tib_field.specs.Refused.{refusedField}
-use Rattle.tib_field.specs.declared.Field.{Field}
 use Rattle.tib_field.specs.Kth.{fieldOrAbsent, fieldOf}
 use Rattle.tib_field.specs.internal.KthOf.{kthOf}
 
@@ -24,19 +22,19 @@ module _ {A : Type 0} (count depth : A → ℕ) where
   verdict-accepted (refused m q) n d e = let z : _≡_ {A = ℕ} 0 1 = cc in absurd (omega arith)
 
   -- What a message is refused with is the answer for each of its fields.
-  pub field-refused : {B : Type 0} (shown : ℕ → B → Field) (fields : A → List (ℕ × B)) (k : ℕ) (r : Reading A) (n p : ℕ)
-      → verdictOf count depth r ≡ Refused n p → refusedField n p ≡ fieldOf shown fields k r
+  pub field-refused : {B F : Type 0} (refuse : ℕ → ℕ → F) (shown : ℕ → B → F) (fields : A → List (ℕ × B)) (k : ℕ) (r : Reading A) (n p : ℕ)
+      → verdictOf count depth r ≡ Refused n p → refuse n p ≡ fieldOf refuse shown fields k r
   unfolding verdictOf fieldOf
-  field-refused shown fields k (accepted x) n p e = let z : _≡_ {A = ℕ} 0 1 = cc in absurd (omega arith)
-  field-refused shown fields k (refused m q) n p e = let a : m ≡ n = cc in let b : q ≡ p = cc in rw (a, b)
+  field-refused refuse shown fields k (accepted x) n p e = let z : _≡_ {A = ℕ} 0 1 = cc in absurd (omega arith)
+  field-refused refuse shown fields k (refused m q) n p e = let a : m ≡ n = cc in let b : q ≡ p = cc in rw (a, b)
 
   -- What the check refuses is refused with the same number and place, whichever field is asked for.
-  pub refused-as-checked : {B : Type 0} (shown : ℕ → B → Field) (fields : A → List (ℕ × B)) (k : ℕ) (r : Reading A)
+  pub refused-as-checked : {B F : Type 0} (refuse : ℕ → ℕ → F) (shown : ℕ → B → F) (fields : A → List (ℕ × B)) (k : ℕ) (r : Reading A)
       → (counts count depth r .refusal ≡ 0 → ⊥)
-      → fieldOf shown fields k r ≡ refusedField (counts count depth r .refusal) (counts count depth r .place)
+      → fieldOf refuse shown fields k r ≡ refuse (counts count depth r .refusal) (counts count depth r .place)
   unfolding counts refusal fieldOf
-  refused-as-checked shown fields k (accepted x) n = absurd (n refl)
-  refused-as-checked shown fields k (refused number place) n = refl
+  refused-as-checked refuse shown fields k (accepted x) n = absurd (n refl)
+  refused-as-checked refuse shown fields k (refused number place) n = refl
 
   -- A check answers 0 exactly for a whole message, where the reading accepts exactly those and no refusal is 0.
   pub accepts-exactly : (Whole : A → Type 0) (r : Reading A) → ((x : A) → (r ≡ accepted x) ↔ Whole x)
@@ -71,7 +69,7 @@ module _ {A : Type 0} (r : Reading A) (Fault : ℕ → ℕ → Type 0) (refuses 
       go none (refused k p) e = (k, p, refuses k p .0 e)
 
 -- The answer of a message that is accepted is that for its k-th field.
-pub field-of-kth : {A B : Type 0} (shown : ℕ → B → Field) (fields : A → List (ℕ × B)) (k : ℕ) (r : Reading A) → IsAccepted r
-    → (w : Option (ℕ × B)) → kthOf fields k r ≡ w → fieldOrAbsent shown w ≡ fieldOf shown fields k r
+pub field-of-kth : {A B F : Type 0} (refuse : ℕ → ℕ → F) (shown : ℕ → B → F) (fields : A → List (ℕ × B)) (k : ℕ) (r : Reading A) → IsAccepted r
+    → (w : Option (ℕ × B)) → kthOf fields k r ≡ w → fieldOrAbsent refuse shown w ≡ fieldOf refuse shown fields k r
 unfolding IsAccepted kthOf fieldOf
-field-of-kth shown fields k r a w e = ap (fieldOrAbsent shown) (sym e) ∙ rw (a .1)
+field-of-kth refuse shown fields k r a w e = ap (fieldOrAbsent refuse shown) (sym e) ∙ rw (a .1)

@@ -9,9 +9,8 @@ use lib.Seq.{take-at, length-take-le}
 use lib.Dec.{ltb}
 use borrow.Author.Tests.{ltb-true, ltb-false, lt-ltb, le-ltb}
 use Rattle.tib_field.specs.Name as names
-use Rattle.tib_field.specs.Name.{nameStep, afterName}
+use Rattle.tib_field.specs.Name.{nameStep, afterName, Fault, Sized}
 use Rattle.tib_field.specs.WrongName.{WrongNamed, nameCut, nameBad, named}
-use Rattle.tib_field.specs.declared.NameStep.the-variants.{Fault, Name as Sized}
 use Rattle.tib_field.proofs.Names.{named-name, name-named}
 use Rattle.tib_field.proofs.NameSteps.{next, next-of-name}
 

@@ -8,6 +8,11 @@ unfoldable pub Each : {A : Type 0} → (A → Type 0) → List A → Type 0
 Each P [] = Unit {0}
 Each P (f ∷ fs) = P f × Each P fs
 
+-- P holds of each field after those before it: of the first after `before`, of the next after these and the first, and so on.
+unfoldable pub EachAfter : {A : Type 0} → (List A → A → Type 0) → List A → List A → Type 0
+EachAfter P before [] = Unit {0}
+EachAfter P before (f ∷ fs) = P before f × EachAfter P (before ++ (f ∷ [])) fs
+
 -- The octets of the fields.
 unfoldable pub joined : {A : Type 0} → (A → List ℕ) → List A → List ℕ
 joined octets [] = []

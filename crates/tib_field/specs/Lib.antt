@@ -2,7 +2,11 @@ pub mod Mark
 pub mod Name
 pub mod Refused
 pub mod Fields
+pub mod Whole
+pub mod FirstFault
+pub mod Header
 pub mod Kth
+pub mod Steps
 pub mod WrongName
 pub mod internal
 pub mod Stands

@@ -1,4 +1,4 @@
--- The mark at the front of octets, as the readers of both formats test it.
+-- The mark at the front of octets, as the readers of all three formats test it.
 use Prim.Native.Nat.{ℕ}
 use mathlib.Core.Bool.{Bool, true, false, _&&_}
 use mathlib.Core.List.{List, [], _∷_}

@@ -6,8 +6,6 @@ use mathlib.Core.List.{List, [], _∷_, _++_}
 use lib.ListN.{length, take, drop}
 use lib.Dec.{eqb, ltb}
 use Rattle.reading.specs.Refusals as refusals
-use Rattle.tib_field.specs.declared.NameStep.{NameStep}
-use Rattle.tib_field.specs.declared.NameStep.the-variants.{End, Fault, Name as Sized}
 
 -- No octet is zero.
 unfoldable pub NoZero : List ℕ → Type 0
@@ -28,6 +26,13 @@ closes (x ∷ s) = cond (eqb x 0) (eqb (length s) 0) (closes s)
 unfoldable pub named : List ℕ → Bool
 named [] = true
 named (x ∷ s) = closes (x ∷ s)
+
+-- What is found where a field may begin: the end of the message, a bad name with its refusal, or a name of this many octets after the octet of its
+-- size.
+pub data NameStep : Type 0 where
+  End : NameStep
+  Fault : ℕ → NameStep
+  Sized : ℕ → NameStep
 
 -- The size of a name and the name at the front of octets: a missing octet is refused before a bad one.
 unfoldable pub nameStep : List ℕ → NameStep

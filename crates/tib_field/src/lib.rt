@@ -1,5 +1,6 @@
-// What the two Tib formats share: the test of a field's name, the value of a size, the mark of a header, and the field that a reader returns.
-// This crate also has the definitions and laws of consecutive fields, of the k-th of them, and of the verdict on them.
+// What TibMsg, TibrvMsg and QForm share: the test of a name, the value of a size, the test of a header, the number of a refusal, and the field that
+// the readers of TibMsg and TibrvMsg return. This crate also has the definitions and laws of consecutive fields, of the k-th of them, and of the
+// verdict on them.
 use tib_real::types::Real;
 ghost use mathlib.Core.Path.{_≡_};
 ghost use mathlib.Core.Bool.{false, cond};
@@ -10,14 +11,11 @@ ghost use Rattle.octets.specs.internal.Bounded.{unsigned};
 ghost use Rattle.tib_field.specs.internal.Zeros.{ZeroIn, Far, nameFault};
 ghost use Rattle.tib_field.specs.Refused.{noReal, refusedField};
 ghost use Rattle.tib_field.specs.Mark.{begins as begins-with};
+ghost use Rattle.tib_field.specs.Header.{headerFault};
 
-// What is found where a field may begin: the end of the message, a bad name with its refusal, or a name of this many octets
-// after the octet of its size.
-pub enum NameStep {
-    End,
-    Fault(u64),
-    Name(usize),
-}
+// A function that measures a field, or a part of it, returns one number: how many octets there are, or FAULT plus the refusal. No message has as many
+// octets. One number stays in a register; a struct would go through memory for each field.
+pub const FAULT: u64 = 1048576;
 
 // A refusal and its place, or 0, 0 and a field of a message: the place and the length of its name, with the closing zero (length 0 if it
 // has no name); its type; the place and the length of its data; whether it has a hint, the hint's type and value; and the value of a real.
@@ -87,6 +85,28 @@ pub fn begins(s: &[u8], mark: &[u8]) -> bool
         i += 1;
     }
     true
+}
+
+// Returns the refusal of the header of a message, 0 if it is good: a mark, then a size of four octets that does not count the header.
+pub fn header_fault(s: &[u8], mark: &[u8]) -> u64
+    ensures { λ r. ⌜ r ≡ headerFault (now (mark .entry)) (now (s .entry)) ⌝ }
+{
+    let n = s.len();
+    let m = mark.len();
+    if n < 4 {
+        return reading::CUT;
+    }
+    if n - 4 < m {
+        return reading::CUT;
+    }
+    if !begins(s, mark) {
+        return reading::MAGIC;
+    }
+    let end = m + 4;
+    if uint(&s[m..end]) != (n - end) as u64 {
+        return reading::SIZE;
+    }
+    0
 }
 
 // Returns whether the octet x at the place i is zero and i is below n.

@@ -4,9 +4,7 @@ use mathlib.Core.Path.{_≡_}
 use mathlib.Core.Bool.{Bool, true, false}
 use mathlib.Core.List.{List}
 use lib.ListN.{getD}
-use Rattle.tib_field.specs.declared.NameStep.{NameStep}
-use Rattle.tib_field.specs.declared.NameStep.the-variants.{End, Fault, Name as Sized}
-use Rattle.tib_field.specs.Name.{nameStep}
+use Rattle.tib_field.specs.Name.{nameStep, NameStep, End, Fault, Sized}
 
 -- The refusal of the name at the front of octets, 0 where it is accepted.
 unfoldable pub faultOf : NameStep → ℕ
