@@ -1,5 +1,5 @@
-pub mod Headers
 pub mod TraverseLoop
+pub mod GoodFields
 pub mod Kths
 pub mod Shows
 pub mod Places

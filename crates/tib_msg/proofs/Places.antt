@@ -13,7 +13,7 @@ use Rattle.tib_field.proofs.Fields.{each-one, joined-around, Picked, picked, no
 use Rattle.tib_field.proofs.Standing.{name-stands, data-stands}
 use Rattle.tib_msg_field.specs.Layout.{kind, hinted, Hint, none, array, partial, value, Parts, octets, Allowed, magic, Whole}
 use Rattle.tib_msg_field.proofs.Steps.{flat}
-use Rattle.tib_msg_field.proofs.Accepted.{whole-accepted}
+use Rattle.tib_msg_field.proofs.Accepted.{accepted-exactly}
 use Rattle.tib_msg.specs.CheckAndField.{hintValue, shown, places, field}
 use Rattle.tib_msg.proofs.Shows.{value-none, value-array, value-partial}
 use Rattle.tib_msg.specs.KthTold.{HintTold, absent, element, offset, amount, KthTold}
@@ -28,7 +28,7 @@ hint-told k size t hint (partial n h) =
 hint-told k size t hint (value e s a b p q w) = rw (ne-eqb k 8 a, ne-eqb k 9 b) (amount e s a b)
 
 module _ (s : List ℕ) (fs : List Parts) (w : Whole s fs) where
-  told : (k : ℕ) → Picked octets fs k 9 → KthTold s fs k (fieldOrAbsent shown (getElem? (placed octets 9 fs) k))
+  told : (k : ℕ) → Picked octets fs k 9 → KthTold s fs k (fieldOrAbsent refusedField shown (getElem? (placed octets 9 fs) k))
   unfolding shown fieldOrAbsent
   told k p =
       let f = p .field in
@@ -60,11 +60,11 @@ module _ (s : List ℕ) (fs : List Parts) (w : Whole s fs) where
         named-at = refl;
         data-at = omega arith;
       } in
-      subst (KthTold s fs k) (sym (ap (fieldOrAbsent shown) (p .same))) q
+      subst (KthTold s fs k) (sym (ap (fieldOrAbsent refusedField shown) (p .same))) q
 
   -- The answer for k is the k-th field of the division, or 18 at 0 where the division has no more than k fields.
   pub field-is-kth : (k : ℕ) → (k < length fs → KthTold s fs k (field s k)) × (length fs ≤ k → field s k ≡ refusedField 18 0)
   unfolding field fieldOf fieldOrAbsent places
   field-is-kth k =
-      let e = whole-accepted s fs w in
+      let e = accepted-exactly s fs .1 w in
       (λ h. rw e (told k (picked octets fs k 9 h)), λ h. rw (e, none-remaining octets fs k 9 h))

@@ -9,20 +9,17 @@ use Rattle.tib_real.specs.FromOctets.{realOf}
 use Rattle.tib_real.specs.declared.types.Real.{Real}
 use Rattle.reading.specs.Checks.{counts}
 use Rattle.reading.specs.declared.Checked.{Checked}
-use Rattle.tib_field.specs.Refused.{noReal}
+use Rattle.tib_field.specs.Refused.{noReal, refusedField}
 use Rattle.tib_field.specs.Fields.{placed}
 use Rattle.tib_field.specs.Kth.{fieldOf}
+use Rattle.tib_field.specs.Steps.{flatDepth}
 use Rattle.tib_field.specs.declared.Field.{Field}
 use Rattle.tib_msg_field.specs.Layout.{kind, hinted, Parts, octets}
 use Rattle.tib_msg_field.specs.Reading.{reading}
 
--- No field's data are read as a message, so the depth is 1.
-unfoldable pub depth : List Parts → ℕ
-depth fs = 1
-
 -- The check of a message: its refusal, or the count of its fields.
 unfoldable pub check : List ℕ → Checked
-check s = counts length depth (reading s)
+check s = counts length flatDepth (reading s)
 
 -- The value of a hint: an array's element size and a partial's offset stand in the second octet, any other value after it.
 unfoldable pub hintValue : ℕ → List ℕ → ℕ
@@ -55,4 +52,4 @@ places fs = placed octets 9 fs
 
 -- The k-th field of a message.
 unfoldable pub field : List ℕ → ℕ → Field
-field s k = fieldOf shown places k (reading s)
+field s k = fieldOf refusedField shown places k (reading s)

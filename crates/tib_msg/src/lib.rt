@@ -1,18 +1,22 @@
 // Reads TibMsg messages: checks a whole message, and returns its k-th field.
 use reading::Checked;
 use reading::Verdict;
+use tib_field::FAULT;
 use tib_field::Field;
 use tib_msg_field::Sizes;
-use tib_msg_field::Step;
 use tib_real::types::Real;
 ghost use mathlib.Core.Path.{_≡_};
+ghost use mathlib.Core.Bool.{true};
 ghost use Prim.Native.Nat.{suc, _+_, _≤_, _<_, _^_};
 ghost use lib.ListN.{length, getD, drop};
-ghost use Rattle.tib_msg_field.specs.Reading.{total, partsAt, fieldsFrom, reading};
+ghost use Rattle.tib_msg_field.specs.Layout.{hinted as hinted-of};
+ghost use Rattle.tib_msg_field.specs.Reading.{nextField, total, partsAt, fieldsFrom, reading};
+ghost use Rattle.reading.specs.Reading.{messageLimit};
 ghost use Rattle.reading.specs.internal.Verdicts.{IsAccepted, verdictOf};
 ghost use Rattle.tib_field.specs.internal.KthOf.{kthOf};
-ghost use Rattle.tib_msg.specs.CheckAndField.{depth, check as check-of, hintValue, realShown, shown as shown-of, places, field as field-of};
-ghost use Rattle.tib_msg.specs.internal.Found.{foundAt};
+ghost use Rattle.tib_field.specs.Steps.{Over, flatDepth};
+ghost use Rattle.tib_msg.specs.CheckAndField.{check as check-of, hintValue, realShown, shown as shown-of, places, field as field-of};
+ghost use Rattle.tib_msg.specs.internal.Found.{foundAt, HasField, hintOctets};
 
 // The place and the sizes of a field, or that there is none.
 enum Kth {
@@ -28,23 +32,22 @@ fn past(at: usize, z: Sizes) -> usize
     at + 2 + z.name + z.width + z.contents + z.hint
 }
 
-// Traverses the fields of a message. Internal: the caller has already tested the header.
+// Traverses the fields of a message. Internal: the caller has already tested the length and the header.
 fn traverse(s: &[u8]) -> Verdict
-    requires { ⌜ 9 ≤ length (now s) ⌝ }
-    ensures { λ r. ⌜ r ≡ verdictOf length depth (fieldsFrom (suc (length (now (s .entry)))) 9 (drop 9 (now (s .entry)))) ⌝ }
+    requires { ⌜ (9 ≤ length (now s)) × (length (now s) ≤ messageLimit) ⌝ }
+    ensures { λ r. ⌜ r ≡ verdictOf length flatDepth (fieldsFrom (suc (length (now (s .entry)))) 9 (drop 9 (now (s .entry)))) ⌝ }
 {
     let mut i: usize = 9;
     let mut fields: u64 = 0;
-    loop {
-        match tib_msg_field::next_field(&s[i..]) {
-            Step::Done => return Verdict::Accepted(fields, 1),
-            Step::Fault(k) => return Verdict::Refused(k, i as u64),
-            Step::Over(z) => {
-                i = past(i, z);
-                fields += 1;
-            }
+    while i < s.len() {
+        let n = tib_msg_field::field_octets(&s[i..]);
+        if FAULT <= n {
+            return Verdict::Refused(n - FAULT, i as u64);
         }
+        i += n as usize;
+        fields += 1;
     }
+    Verdict::Accepted(fields, 1)
 }
 
 // Returns a refusal at the place 0.
@@ -56,21 +59,14 @@ fn refuse(refusal: u64) -> Verdict
 
 // Reads a whole message: its header, then its fields.
 fn read(message: &[u8]) -> Verdict
-    ensures { λ r. ⌜ r ≡ verdictOf length depth (reading (now (message .entry))) ⌝ }
+    ensures { λ r. ⌜ r ≡ verdictOf length flatDepth (reading (now (message .entry))) ⌝ }
 {
-    let n = message.len();
-    if reading::MESSAGE_LIMIT < n {
+    if reading::MESSAGE_LIMIT < message.len() {
         return refuse(reading::TOO_LONG);
     }
-    if n < 9 {
-        return refuse(reading::CUT);
-    }
-    if !tib_field::begins(message, b"\xce\x13\xaa\x1f\x01") {
-        return refuse(reading::MAGIC);
-    }
-    let size = tib_field::uint(&message[5..9]);
-    if size != (n - 9) as u64 {
-        return refuse(reading::SIZE);
+    let fault = tib_field::header_fault(message, b"\xce\x13\xaa\x1f\x01");
+    if fault != 0 {
+        return refuse(fault);
     }
     traverse(message)
 }
@@ -82,6 +78,46 @@ pub fn check(message: &[u8]) -> Checked
     reading::answer(read(message))
 }
 
+// Returns how many octets the hint at the front of octets takes, by the field's type octet. Internal: the hint is good.
+fn hint_octets(c: u8, s: &[u8]) -> usize
+    requires { ⌜ (hinted-of c ≡ true → 2 ≤ length (now s)) ⌝ }
+    ensures { λ r. ⌜ r ≡ hintOctets c (now (s .entry)) ⌝ }
+{
+    if !tib_msg_field::hinted(c) {
+        return 0;
+    }
+    let k = tib_msg_field::kind(c);
+    if k == 8 {
+        return 2;
+    }
+    if k == 9 {
+        return 2;
+    }
+    2 + (numbers::wide(s[1]) as usize)
+}
+
+// Returns the sizes of the field at the front of octets. Internal: the field is good.
+fn sizes_at(s: &[u8]) -> Sizes
+    requires { ⌜ HasField (now s) ⌝ }
+    ensures { λ r. ⌜ nextField (now (s .entry)) ≡ Over r ⌝ }
+{
+    let n = numbers::wide(s[0]) as usize;
+    let at = 1 + n;
+    let c = s[at];
+    let w = tib_msg_field::size_width(c);
+    let start = at + 1;
+    let end = start + w;
+    let l = tib_field::uint(&s[start..end]) as usize;
+    let hint = end + l;
+    Sizes {
+        name: n,
+        octet: c,
+        width: w,
+        contents: l,
+        hint: hint_octets(c, &s[hint..]),
+    }
+}
+
 // Returns the place and the sizes of the k-th field. Internal: the caller has already checked the message.
 fn find(s: &[u8], k: u64) -> Kth
     requires { ⌜ IsAccepted (reading (now s)) ⌝ }
@@ -89,19 +125,15 @@ fn find(s: &[u8], k: u64) -> Kth
 {
     let mut i: usize = 9;
     let mut remaining = k;
-    loop {
-        match tib_msg_field::next_field(&s[i..]) {
-            Step::Done => return Kth::Absent,
-            Step::Fault(_) => return Kth::Absent,
-            Step::Over(z) => {
-                if remaining == 0 {
-                    return Kth::At { place: i, sizes: z };
-                }
-                i = past(i, z);
-                remaining -= 1;
-            }
+    while i < s.len() {
+        let z = sizes_at(&s[i..]);
+        if remaining == 0 {
+            return Kth::At { place: i, sizes: z };
         }
+        i = past(i, z);
+        remaining -= 1;
     }
+    Kth::Absent
 }
 
 // Returns the first octet, 0 if there is none.

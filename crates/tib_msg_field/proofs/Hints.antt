@@ -1,7 +1,7 @@
 -- The computed tests of a type octet and of a hint are the layout's rules.
 use Prim.Native.Nat.{ℕ, _+_, _-_, _/_, _%_, _≤_, _<_}
 use native.Mathlib.Omega.{arith}
-use mathlib.Core.Path.{_≡_, refl, sym, ap, subst}
+use mathlib.Core.Path.{_≡_, refl, sym, ap, _∙_, subst}
 use mathlib.Core.Bool.{Bool, true, false, cond, _&&_, _||_, not}
 use mathlib.Core.List.{List, [], _∷_, _++_}
 use lib.ListN.{length, take, drop, length-append, take-append-drop}
@@ -9,10 +9,8 @@ use lib.Seq.{length-take-le}
 use lib.Dec.{T, eqb, leb, ltb}
 use borrow.Author.Tests.{leb-true, le-leb, eqb-true, eqb-false, eq-eqb, ne-eqb, ltb-false, le-ltb}
 use Rattle.tib_field.proofs.Choices.{both}
-use Rattle.tib_msg_field.specs.declared.HintStep.{HintStep}
-use Rattle.tib_msg_field.specs.declared.HintStep.the-variants.{Fault as HintFault, Size}
 use Rattle.tib_msg_field.specs.Layout.{kind, hinted, isWidth, Hint, none, array, partial, value}
-use Rattle.tib_msg_field.specs.Reading.{typeAllowed, arrayHint, partialHint, valueHint, readHint, hintAt}
+use Rattle.tib_msg_field.specs.Reading.{HintStep, HintFault, Size, typeAllowed, arrayHint, partialHint, valueHint, readHint, hintAt}
 
 pub is-true : (t : Bool) → t ≡ true → T t
 is-true t e = subst T (sym e) tt
@@ -174,6 +172,27 @@ hint-of c size hint rest h = go (hinted c) hint h
     go : (t : Bool) (hint : List ℕ) → Hint (kind c) size t hint → cond t (readHint (kind c) size (hint ++ rest)) (Size 0) ≡ Size (length hint)
     go true hint w = front-of-hint (kind c) size hint rest w
     go false hint (none j k) = refl
+
+-- A hint has ten octets at most.
+pub hint-small : (kind size : ℕ) (t : Bool) (hint : List ℕ) → Hint kind size t hint → length hint ≤ 10
+hint-small kind size t hint (none j k) = omega arith
+hint-small kind size t hint (array a n k p q w d) = omega arith
+hint-small kind size t hint (partial n k) = omega arith
+hint-small kind size t hint (value a s j k p q w) = let h = width-small (length s) (true-is (isWidth (length s)) w) in omega arith
+
+-- A hint that is found has ten octets at most, and lies within the octets.
+pub hint-few : (c size : ℕ) (s : List ℕ) (h : ℕ) → hintAt c size s ≡ Size h → (h ≤ 10) × (h ≤ length s)
+unfolding hintAt
+hint-few c size s h e = go (hinted c) e
+  where
+    go : (t : Bool) → cond t (readHint (kind c) size s) (Size 0) ≡ Size h → (h ≤ 10) × (h ≤ length s)
+    go true w =
+        let f = name-step-found (kind c) size s h w in
+        let few = hint-small (kind c) size true (f .hint) (f .allowed) in
+        let all = ap length (f .divides) ∙ length-append (f .hint) (f .rest) in
+        let n = f .sized in
+        (omega arith, omega arith)
+    go false w = let m : 0 ≡ h = cc in (omega arith, omega arith)
 
 -- Without its bit, no hint is there, and the field is neither an array nor a partial.
 no-hint : (kind size : ℕ) (t : Bool) (hint : List ℕ) → t ≡ false → Hint kind size t hint → (kind ≡ 8 → ⊥) × (kind ≡ 9 → ⊥)

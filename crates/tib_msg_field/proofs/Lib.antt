@@ -1,7 +1,10 @@
 pub mod Hints
+pub mod TypeTests
 pub mod Steps
 pub mod WrongFields
+pub mod Rows
 pub mod Accepted
 pub mod StepTests
+pub mod FieldNumbers
 pub mod FirstFault
 pub mod Refusals

@@ -6,11 +6,12 @@ use mathlib.Core.List.{List}
 use Rattle.octets.specs.Number.{bigEndian}
 use Rattle.reading.specs.Reading.{refused}
 use Rattle.tib_field.proofs.WrongNames.{of-named}
-use Rattle.tib_msg_field.specs.Layout.{kind}
+use Rattle.tib_field.proofs.Messages as messages
+use Rattle.tib_msg_field.specs.Layout.{kind, octets, Allowed, magic}
 use Rattle.tib_msg_field.specs.FirstFault as faults
-use Rattle.tib_msg_field.specs.FirstFault.{WrongHint, WrongData, WrongSize, WrongType, FirstFault}
-use Rattle.tib_msg_field.specs.Reading.{reading}
-use Rattle.tib_msg_field.proofs.FirstFault.{refused-exactly}
+use Rattle.tib_msg_field.specs.FirstFault.{WrongHint, WrongData, WrongSize, WrongType, WrongField}
+use Rattle.tib_msg_field.specs.Reading.{fieldsFrom, reading}
+use Rattle.tib_msg_field.proofs.Rows.{steps}
 
 hint-positive : (kind size k : ℕ) (s : List ℕ) → WrongHint kind size k s → 0 < k
 hint-positive kind size k s (faults.cut r h) = omega arith
@@ -31,14 +32,9 @@ type-positive k s faults.missing = omega arith
 type-positive k s (faults.bad c r h) = omega arith
 type-positive k s (faults.later j c r g h) = size-positive c j r h
 
-fault-positive : (s : List ℕ) (k p : ℕ) → FirstFault s k p → 0 < k
-fault-positive s k p (faults.tooLong h) = omega arith
-fault-positive s k p (faults.headerCut h) = omega arith
-fault-positive s k p (faults.otherMark h mark rest d w l n) = omega arith
-fault-positive s k p (faults.otherSize h size rest d w n) = omega arith
-fault-positive s k p (faults.field h j size fs rest d w n a f) =
-    of-named WrongType (λ (i : ℕ). 0 < i) (omega arith) (omega arith) type-positive j rest f
-
 -- A message is never refused with 0.
 pub refusal-positive : (s : List ℕ) (k place : ℕ) → reading s ≡ refused k place → 0 < k
-refusal-positive s k place e = fault-positive s k place (refused-exactly s k place .0 e)
+unfolding reading
+refusal-positive s =
+    messages.refusal-positive magic octets Allowed WrongField fieldsFrom steps s
+    (of-named WrongType (λ (i : ℕ). 0 < i) (omega arith) (omega arith) type-positive)

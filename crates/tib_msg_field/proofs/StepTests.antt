@@ -1,22 +1,20 @@
 -- What the reading finds at the front of octets, test by test.
-use Prim.Native.Nat.{ℕ, suc, _-_, _/_, _%_, _≤_, _<_}
+use Prim.Native.Nat.{ℕ, suc, _+_, _-_, _*_, _/_, _%_, _≤_, _<_}
 use native.Mathlib.Omega.{arith}
-use mathlib.Core.Path.{_≡_, refl, _∙_}
+use mathlib.Core.Path.{_≡_, refl, sym, _∙_}
 use mathlib.Core.Bool.{Bool, true, false, cond}
 use mathlib.Core.List.{List, [], _∷_}
 use lib.ListN.{length, getD, take, drop}
 use lib.Seq.{length-take-le}
 use lib.Dec.{eqb}
 use borrow.Author.Tests.{lt-ltb, le-ltb}
-use Rattle.tib_msg_field.specs.declared.HintStep.the-variants.{Fault as HintFault}
 use Rattle.octets.specs.Number.{bigEndian}
 use Rattle.octets.specs.internal.Bounded.{unsigned}
 use Rattle.octets.proofs.Slices.{length-zero, tail-part, front-part}
 use Rattle.octets.proofs.Number.{unsigned-is}
-use Rattle.tib_msg_field.specs.declared.Step.the-variants.{Fault}
-use Rattle.tib_msg_field.specs.declared.HintStep.{HintStep}
 use Rattle.tib_msg_field.specs.Layout.{kind, sizeWidth, sizeAllowed}
-use Rattle.tib_msg_field.specs.Reading.{typeAllowed, arrayHint, partialHint, valueHint, readHint, hintAt, withHint, fromData, fromSize, fromType}
+use Rattle.tib_field.specs.Steps.{Fault}
+use Rattle.tib_msg_field.specs.Reading.{HintStep, HintFault, typeAllowed, arrayHint, partialHint, valueHint, readHint, hintAt, withHint, fromData, fromSize, fromType}
 
 pub hint-cut : (k size : ℕ) (s : List ℕ) → length s < 2 → HintFault 3 ≡ readHint k size s
 unfolding readHint
@@ -48,26 +46,38 @@ size-few c = go (eqb (c / 128 % 2) 1)
     go true = omega arith
     go false = omega arith
 
-module _ (n c w : ℕ) (s : List ℕ) (e : w ≡ sizeWidth c) where
-  pub size-cut : length s < w → Fault 3 ≡ fromSize n c (sizeWidth c) s
+-- A size takes four octets or one.
+pub size-one : (c w : ℕ) → w ≡ sizeWidth c → (w ≡ 4 → ⊥) → 1 ≡ sizeWidth c
+unfolding sizeWidth
+size-one c w e d = go (eqb (c / 128 % 2) 1) e
+  where
+    go : (t : Bool) → w ≡ cond t 4 1 → _≡_ {A = ℕ} 1 (cond t 4 1)
+    go true f = absurd (d f)
+    go false f = refl
+
+-- The value of a size of one octet, and of more.
+pub one-read : (s : List ℕ) (l : ℕ) → (length s ≡ 0 → ⊥) → l ≡ getD s 0 0 → l ≡ bigEndian (take 1 s)
+unfolding bigEndian
+one-read [] l h e = absurd (h refl)
+one-read (x ∷ s) l h e = let a : x * 1 + 0 ≡ x = omega arith in e ∙ sym a
+
+pub four-read : (s : List ℕ) (l : ℕ) → 4 ≤ length s → l ≡ unsigned (take (4 - 0) (drop 0 s)) → l ≡ bigEndian (take 4 s)
+four-read s l h r = let a = length-take-le 4 s h in r ∙ rw (front-part s 4) (unsigned-is (take 4 s) (omega arith))
+
+module _ (n c w : ℕ) (s : List ℕ) where
+  pub size-cut : length s < w → Fault 3 ≡ fromSize n c w s
   unfolding fromSize
-  size-cut h = rw (← e, lt-ltb (length s) w h)
+  size-cut h = rw (lt-ltb (length s) w h)
 
-  module _ (h : w ≤ length s) (l : ℕ) (r : l ≡ unsigned (take (w - 0) (drop 0 s))) where
-    size-read : l ≡ bigEndian (take w s)
-    size-read =
-        let a = length-take-le w s h in
-        let b = size-few c in
-        r ∙ rw (front-part s w) (unsigned-is (take w s) (omega arith))
-
-    pub size-bad : (k : ℕ) → k ≡ kind c → sizeAllowed k l ≡ false → Fault 16 ≡ fromSize n c (sizeWidth c) s
+  module _ (h : w ≤ length s) (l : ℕ) (r : l ≡ bigEndian (take w s)) where
+    pub size-bad : (k : ℕ) → k ≡ kind c → sizeAllowed k l ≡ false → Fault 16 ≡ fromSize n c w s
     unfolding fromSize
-    size-bad k f g = rw (← e, le-ltb (length s) w h, ← size-read, ← f, g)
+    size-bad k f g = rw (le-ltb (length s) w h, ← r, ← f, g)
 
     pub size-good : (k : ℕ) → k ≡ kind c → sizeAllowed k l ≡ true
-        → fromData n c w l (take (length s - w) (drop w s)) ≡ fromSize n c (sizeWidth c) s
+        → fromData n c w l (take (length s - w) (drop w s)) ≡ fromSize n c w s
     unfolding fromSize
-    size-good k f g = rw (← e, le-ltb (length s) w h, ← size-read, ← f, g, tail-part s w)
+    size-good k f g = rw (le-ltb (length s) w h, ← r, ← f, g, tail-part s w)
 
 pub type-cut : (n : ℕ) (s : List ℕ) → length s ≡ 0 → Fault 3 ≡ fromType n s
 unfolding fromType

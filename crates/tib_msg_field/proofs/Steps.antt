@@ -12,11 +12,9 @@ use Rattle.tib_field.specs.Name.{Name, nameStep, afterName}
 use Rattle.tib_field.proofs.Choices.{passes, fails}
 use Rattle.tib_field.proofs.NameSteps.{next-of-name, name-found}
 use Rattle.tib_msg_field.specs.declared.Sizes.{Sizes}
-use Rattle.tib_msg_field.specs.declared.Step.the-variants.{Done, Fault, Over}
-use Rattle.tib_msg_field.specs.declared.HintStep.{HintStep}
-use Rattle.tib_msg_field.specs.declared.HintStep.the-variants.{Fault as HintFault, Size}
 use Rattle.tib_msg_field.specs.Layout.{kind, sizeWidth, sizeAllowed, Parts, octets, Allowed}
-use Rattle.tib_msg_field.specs.Reading.{typeAllowed, hintAt, withHint, fromData, fromSize, fromType, nextField, total, partsAt}
+use Rattle.tib_field.specs.Steps.{Done, Fault, Over}
+use Rattle.tib_msg_field.specs.Reading.{HintStep, HintFault, Size, typeAllowed, hintAt, withHint, fromData, fromSize, fromType, nextField, total, partsAt}
 use Rattle.tib_msg_field.specs.internal.Sizes.{sizes}
 use Rattle.tib_msg_field.proofs.Hints.{is-true, true-is, good-type, hint-found, hint-of, type-of}
 
@@ -137,6 +135,3 @@ parts-of-field f rest =
       drop-at (f .contents) (f .hint ++ rest) (length (f .contents)) refl,
       take-at (f .hint) rest (length (f .hint)) refl,
     )
-
-pub rest-of-field : (f : Parts) (rest : List ℕ) → drop (total (sizes f)) (octets f ++ rest) ≡ rest
-rest-of-field f rest = drop-at (octets f) rest (total (sizes f)) (length-octets f)

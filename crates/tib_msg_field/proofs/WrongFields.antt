@@ -12,15 +12,13 @@ use Rattle.octets.specs.Number.{bigEndian}
 use Rattle.tib_field.proofs.Choices.{both}
 use Rattle.tib_field.proofs.NameSteps.{next-done}
 use Rattle.tib_field.proofs.WrongNames.{name-told, name-wrong}
-use Rattle.tib_msg_field.specs.declared.Step.{Step}
-use Rattle.tib_msg_field.specs.declared.Step.the-variants.{Done, Fault, Over}
-use Rattle.tib_msg_field.specs.declared.HintStep.{HintStep}
-use Rattle.tib_msg_field.specs.declared.HintStep.the-variants.{Fault as HintFault, Size}
 use Rattle.tib_msg_field.specs.Layout as layouts
 use Rattle.tib_msg_field.specs.Layout.{kind, hinted, sizeWidth, isWidth, sizeAllowed, Hint}
 use Rattle.tib_msg_field.specs.FirstFault as faults
 use Rattle.tib_msg_field.specs.FirstFault.{TypeOctet, WrongHint, WrongData, WrongSize, WrongType, WrongField}
-use Rattle.tib_msg_field.specs.Reading.{typeAllowed, arrayHint, partialHint, valueHint, readHint, hintAt, withHint, fromData, fromSize, fromType, nextField}
+use Rattle.tib_field.specs.Steps.{Step, Done, Fault, Over}
+use Rattle.tib_msg_field.specs.declared.Sizes.{Sizes}
+use Rattle.tib_msg_field.specs.Reading.{HintStep, HintFault, Size, typeAllowed, arrayHint, partialHint, valueHint, readHint, hintAt, withHint, fromData, fromSize, fromType, nextField}
 use Rattle.tib_msg_field.proofs.Hints.{is-true, true-is, good-type, type-good, front-of-hint}
 
 -- ---- hints
@@ -127,12 +125,12 @@ wrong-front kind size k s (faults.valueCut t n r more h g) = go (two kind size t
 -- ---- what a step refuses is wrong
 
 -- The octets from a part on are wrong with the number that they are refused with, and are not the end.
-StepTold : (ℕ → Type 0) → Step → Type 0
+StepTold : (ℕ → Type 0) → Step Sizes → Type 0
 StepTold P Done = ⊥
 StepTold P (Fault k) = P k
 StepTold P (Over z) = Unit {0}
 
-told-map : (P Q : ℕ → Type 0) → ((k : ℕ) → P k → Q k) → (x : Step) → StepTold P x → StepTold Q x
+told-map : (P Q : ℕ → Type 0) → ((k : ℕ) → P k → Q k) → (x : Step Sizes) → StepTold P x → StepTold Q x
 unfolding StepTold
 told-map P Q f Done h = h
 told-map P Q f (Fault k) h = f k h

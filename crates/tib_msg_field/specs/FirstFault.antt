@@ -7,11 +7,10 @@ use mathlib.Core.List.{List, [], _∷_, _++_}
 use lib.ListN.{length}
 use lib.Dec.{T}
 use Rattle.octets.specs.Number.{bigEndian}
-use Rattle.reading.specs.Reading.{messageLimit}
 use Rattle.reading.specs.Refusals as refusals
 use Rattle.tib_field.specs.WrongName.{WrongNamed}
-use Rattle.tib_field.specs.Fields.{Each, joined}
-use Rattle.tib_msg_field.specs.Layout.{kind, hinted, sizeWidth, sizeAllowed, Hint, Parts, octets, Allowed, magic}
+use Rattle.tib_field.specs.FirstFault as messages
+use Rattle.tib_msg_field.specs.Layout.{kind, hinted, sizeWidth, sizeAllowed, Hint, octets, Allowed, magic}
 
 -- A good type octet: two bits clear, a type that there is, and the bit for a hint where the type is an array or a partial.
 pub record TypeOctet (c : ℕ) : Type 0 where
@@ -49,14 +48,6 @@ pub data WrongType : ℕ → List ℕ → Type 0 where
 abbrev pub WrongField : ℕ → List ℕ → Type 0
 WrongField k s = WrongNamed WrongType k s
 
--- The first fault of octets, by its number and its place: of the header, at 0; or of the field after fields that the layout allows.
-pub data FirstFault (s : List ℕ) : ℕ → ℕ → Type 0 where
-  tooLong : messageLimit < length s → FirstFault s refusals.tooLong 0
-  headerCut : length s < 9 → FirstFault s refusals.cut 0
-  otherMark : length s ≤ messageLimit → (mark rest : List ℕ) → s ≡ mark ++ rest → length mark ≡ 5 → 4 ≤ length rest → (mark ≡ magic → ⊥)
-      → FirstFault s refusals.magic 0
-  otherSize : length s ≤ messageLimit → (size rest : List ℕ) → s ≡ magic ++ (size ++ rest) → length size ≡ 4
-      → (bigEndian size ≡ length rest → ⊥) → FirstFault s refusals.size 0
-  field : length s ≤ messageLimit → (k : ℕ) (size : List ℕ) (fs : List Parts) (rest : List ℕ) → s ≡ magic ++ (size ++ (joined octets fs ++ rest))
-      → length size ≡ 4 → bigEndian size ≡ length (joined octets fs ++ rest) → Each Allowed fs → WrongField k rest
-      → FirstFault s k (9 + length (joined octets fs))
+-- The first fault of octets, by its number and its place.
+abbrev pub FirstFault : List ℕ → ℕ → ℕ → Type 0
+FirstFault s k p = messages.FirstFault magic octets Allowed WrongField s k p

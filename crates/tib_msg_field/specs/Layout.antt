@@ -6,9 +6,8 @@ use mathlib.Core.List.{List, [], _∷_, _++_}
 use lib.ListN.{length}
 use lib.Dec.{T, eqb}
 use Rattle.octets.specs.Number.{bigEndian}
-use Rattle.reading.specs.Reading.{messageLimit}
 use Rattle.tib_field.specs.Name.{Name}
-use Rattle.tib_field.specs.Fields.{Each, joined}
+use Rattle.tib_field.specs.Whole.{WholeMessage}
 
 -- The type octet. Its low four bits are the type.
 unfoldable pub kind : ℕ → ℕ
@@ -64,11 +63,6 @@ pub record Allowed (f : Parts) : Type 0 where
 abbrev pub magic : List ℕ
 magic = 0xce ∷ 0x13 ∷ 0xaa ∷ 0x1f ∷ 0x01 ∷ []
 
--- A whole message, at most 65,536 octets long, and its division into fields. The size in the header does not count the header.
-pub record Whole (s : List ℕ) (fs : List Parts) : Type 0 where
-  pub size : List ℕ
-  pub divides : s ≡ magic ++ (size ++ joined octets fs)
-  pub width : length size ≡ 4
-  pub counted : bigEndian size ≡ length (joined octets fs)
-  pub allowed : Each Allowed fs
-  pub withinLimit : length s ≤ messageLimit
+-- A whole message and its division into fields.
+abbrev pub Whole : List ℕ → List Parts → Type 0
+Whole s fs = WholeMessage magic octets Allowed s fs

@@ -1,21 +1,23 @@
 -- Reading a TibMsg message: its division into fields, or the first refusal with its place. In each part of a field a missing octet is
 -- refused before a bad one.
-use Prim.Native.Nat.{ℕ, zero, suc, _+_, _-_, _/_, _%_}
+use Prim.Native.Nat.{ℕ, suc, _+_, _/_, _%_}
 use mathlib.Core.Bool.{Bool, cond, _&&_, _||_, not}
 use mathlib.Core.List.{List, [], _∷_}
 use lib.ListN.{length, take, drop}
 use lib.Dec.{eqb, leb, ltb}
 use Rattle.octets.specs.Number.{bigEndian}
-use Rattle.reading.specs.Reading.{Reading, accepted, refused, onAccepted, messageLimit}
+use Rattle.reading.specs.Reading.{Reading}
 use Rattle.reading.specs.Refusals as refusals
-use Rattle.tib_field.specs.Mark.{begins}
+use Rattle.tib_field.specs.Header.{readingOf}
 use Rattle.tib_field.specs.Name.{nameStep, afterName}
+use Rattle.tib_field.specs.Steps.{Step, Done, Fault, Over, fieldsBy}
 use Rattle.tib_msg_field.specs.declared.Sizes.{Sizes}
-use Rattle.tib_msg_field.specs.declared.Step.{Step}
-use Rattle.tib_msg_field.specs.declared.Step.the-variants.{Done, Fault, Over}
-use Rattle.tib_msg_field.specs.declared.HintStep.{HintStep}
-use Rattle.tib_msg_field.specs.declared.HintStep.the-variants.{Fault as HintFault, Size}
 use Rattle.tib_msg_field.specs.Layout.{kind, hinted, sizeWidth, isWidth, sizeAllowed, Parts, magic}
+
+-- What is found where a hint may begin: a refusal, or a hint of this many octets.
+pub data HintStep : Type 0 where
+  HintFault : ℕ → HintStep
+  Size : ℕ → HintStep
 
 -- A type octet: two bits clear, a type that there is, and a hint for an array or a partial.
 unfoldable pub typeAllowed : ℕ → Bool
@@ -45,27 +47,27 @@ unfoldable pub hintAt : ℕ → ℕ → List ℕ → HintStep
 hintAt c size s = cond (hinted c) (readHint (kind c) size s) (Size 0)
 
 -- The field of which all but the hint is read.
-unfoldable pub withHint : ℕ → ℕ → ℕ → ℕ → HintStep → Step
+unfoldable pub withHint : ℕ → ℕ → ℕ → ℕ → HintStep → Step Sizes
 withHint n c w l (HintFault k) = Fault k
 withHint n c w l (Size h) = Over (record { name = n; octet = c; width = w; contents = l; hint = h })
 
 -- The field from its data on, which are announced to be l octets.
-unfoldable pub fromData : ℕ → ℕ → ℕ → ℕ → List ℕ → Step
+unfoldable pub fromData : ℕ → ℕ → ℕ → ℕ → List ℕ → Step Sizes
 fromData n c w l s = cond (ltb (length s) l) (Fault refusals.pastTheEnd) (withHint n c w l (hintAt c l (drop l s)))
 
 -- The field from its size on, which takes w octets.
-unfoldable pub fromSize : ℕ → ℕ → ℕ → List ℕ → Step
+unfoldable pub fromSize : ℕ → ℕ → ℕ → List ℕ → Step Sizes
 fromSize n c w s =
     cond (ltb (length s) w) (Fault refusals.cut)
     (cond (sizeAllowed (kind c) (bigEndian (take w s))) (fromData n c w (bigEndian (take w s)) (drop w s)) (Fault refusals.typeSizeOrHint))
 
 -- The field from its type on, after a name of n octets.
-unfoldable pub fromType : ℕ → List ℕ → Step
+unfoldable pub fromType : ℕ → List ℕ → Step Sizes
 fromType n [] = Fault refusals.cut
 fromType n (c ∷ s) = cond (typeAllowed c) (fromSize n c (sizeWidth c) s) (Fault refusals.typeSizeOrHint)
 
 -- What stands at the front of octets: their end, a fault, or a field.
-unfoldable pub nextField : List ℕ → Step
+unfoldable pub nextField : List ℕ → Step Sizes
 nextField s = afterName Done Fault fromType s (nameStep s)
 
 -- How many octets a field takes: two more than these parts, for the name's size and the type.
@@ -86,22 +88,10 @@ partsAt s z =
       hint = take (z .hint) afterData;
     }
 
--- The reading of the fields from a place on, by the step at the front of the octets; `next` reads the fields that follow.
-unfoldable pub afterStep : (ℕ → List ℕ → Reading (List Parts)) → ℕ → List ℕ → Step → Reading (List Parts)
-afterStep next at s Done = accepted []
-afterStep next at s (Fault refusal) = refused refusal at
-afterStep next at s (Over z) = onAccepted (λ (fs : List Parts). partsAt s z ∷ fs) (next (at + total z) (drop (total z) s))
+-- The fields from a place on. The first number bounds the fields that are still looked at.
+abbrev pub fieldsFrom : ℕ → ℕ → List ℕ → Reading (List Parts)
+fieldsFrom = fieldsBy nextField total partsAt
 
--- The fields from a place on. `fuel` bounds the fields that are still looked at.
-unfoldable pub fieldsFrom : ℕ → ℕ → List ℕ → Reading (List Parts)
-fieldsFrom zero at s = refused refusals.cut at
-fieldsFrom (suc fuel) at s = afterStep (fieldsFrom fuel) at s (nextField s)
-
--- The whole message. A field takes an octet or more, so one look more than there are octets is enough.
+-- The whole message. A field takes an octet or more, so one more than the octets of the message is a sufficient bound.
 unfoldable pub reading : List ℕ → Reading (List Parts)
-reading s =
-    cond (ltb messageLimit (length s)) (refused refusals.tooLong 0)
-    (cond (ltb (length s) 9) (refused refusals.cut 0)
-    (cond (not (begins magic s)) (refused refusals.magic 0)
-    (cond (not (eqb (bigEndian (take 4 (drop 5 s))) (length s - 9))) (refused refusals.size 0)
-    (fieldsFrom (suc (length s)) 9 (drop 9 s)))))
+reading s = readingOf magic (fieldsFrom (suc (length s))) s

@@ -4,7 +4,8 @@ use lib.ListN.{length}
 use Rattle.reading.specs.internal.Verdicts.{checkedBy}
 use Rattle.reading.proofs.Checks.{answer-by-verdict}
 use Rattle.tib_msg_field.specs.Reading.{reading}
-use Rattle.tib_msg.specs.CheckAndField.{depth, check}
+use Rattle.tib_field.specs.Steps.{flatDepth}
+use Rattle.tib_msg.specs.CheckAndField.{check}
 use borrow.Author.Needs.{needs}
 use Rattle.tib_msg.proofs.check.Statement.{statement}
 use Rattle.tib_msg.proofs.check.Tie as tie
@@ -19,7 +20,7 @@ returns : tie.Need-returns
 unfolding check
 returns c =
     let r = c .before in
-    c .answer .ensures ∙ ap checkedBy (r .read .ensures) ∙ answer-by-verdict length depth (reading (r .before .before .args .message .now))
+    c .answer .ensures ∙ ap checkedBy (r .read .ensures) ∙ answer-by-verdict length flatDepth (reading (r .before .before .args .message .now))
 
 pub check-spec : {M : Type 1} → statement M
 check-spec = tie.close (tie.spec read-requires answer-requires returns)

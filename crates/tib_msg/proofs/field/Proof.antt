@@ -1,9 +1,11 @@
 -- `tib_msg::field` meets its contract.
 use mathlib.Core.Path.{sym, _∙_}
 use lib.ListN.{length}
+use Rattle.tib_field.specs.Refused.{refusedField}
 use Rattle.tib_field.proofs.ReadingLaws.{verdict-accepted, field-refused}
 use Rattle.tib_msg_field.specs.Reading.{reading}
-use Rattle.tib_msg.specs.CheckAndField.{depth, shown, places, field}
+use Rattle.tib_field.specs.Steps.{flatDepth}
+use Rattle.tib_msg.specs.CheckAndField.{shown, places, field}
 use Rattle.tib_msg.proofs.Kths.{field-found, field-absent}
 use borrow.Author.Needs.{needs}
 use Rattle.tib_msg.proofs.field.Statement.{statement}
@@ -24,7 +26,7 @@ enum-told c = search needs
 find-requires : tie.Need-find-requires
 find-requires c κs =
     let r = c .before .before in
-    verdict-accepted length depth (reading (r .before .before .args .message .now)) _ _ (sym (r .read .ensures) ∙ c .enum-told .given .1)
+    verdict-accepted length flatDepth (reading (r .before .before .args .message .now)) _ _ (sym (r .read .ensures) ∙ c .enum-told .given .1)
 
 enum-known-place : tie.Need-enum-known-place
 enum-known-place c = search needs
@@ -34,7 +36,7 @@ shown-requires c κs =
     let t = c .before .before .before .before in
     let r = t .before .before in
     let a = r .before .before .args in
-    let f = field-found (a .message .now) (a .k) (verdict-accepted length depth (reading (a .message .now)) _ _ (sym (r .read .ensures) ∙ t .enum-told .given .1)) _ _ (sym (c .before .before .before .find .ensures) ∙ c .before .place .given .1) in
+    let f = field-found (a .message .now) (a .k) (verdict-accepted length flatDepth (reading (a .message .now)) _ _ (sym (r .read .ensures) ∙ t .enum-told .given .1)) _ _ (sym (c .before .before .before .find .ensures) ∙ c .before .place .given .1) in
     (f .inside, f .small)
 
 enum-told-2 : tie.Need-enum-told-2
@@ -48,7 +50,7 @@ unfolding field
 returns c =
     let r = c .before .before .before .before in
     let a = r .before .before .args in
-    c .refused-field .ensures ∙ field-refused length depth shown places (a .k) (reading (a .message .now)) _ _ (sym (r .read .ensures) ∙ c .before .before .refusal .given .1)
+    c .refused-field .ensures ∙ field-refused length flatDepth refusedField shown places (a .k) (reading (a .message .now)) _ _ (sym (r .read .ensures) ∙ c .before .before .refusal .given .1)
 
 returns-2 : tie.Need-returns-2
 returns-2 c =
@@ -56,7 +58,7 @@ returns-2 c =
     let r = t .before .before in
     let a = r .before .before .args in
     c .shown .ensures
-    ∙ field-found (a .message .now) (a .k) (verdict-accepted length depth (reading (a .message .now)) _ _ (sym (r .read .ensures) ∙ t .enum-told .given .1)) _ _ (sym (c .before .before .before .before .find .ensures) ∙ c .before .before .place .given .1) .shows
+    ∙ field-found (a .message .now) (a .k) (verdict-accepted length flatDepth (reading (a .message .now)) _ _ (sym (r .read .ensures) ∙ t .enum-told .given .1)) _ _ (sym (c .before .before .before .before .find .ensures) ∙ c .before .before .place .given .1) .shows
 
 returns-3 : tie.Need-returns-3
 returns-3 c =
@@ -64,7 +66,7 @@ returns-3 c =
     let r = t .before .before in
     let a = r .before .before .args in
     c .refused-field2 .ensures
-    ∙ field-absent (a .message .now) (a .k) (verdict-accepted length depth (reading (a .message .now)) _ _ (sym (r .read .ensures) ∙ t .enum-told .given .1)) (sym (c .before .before .before .find .ensures) ∙ c .before .enum-told2 .given .1)
+    ∙ field-absent (a .message .now) (a .k) (verdict-accepted length flatDepth (reading (a .message .now)) _ _ (sym (r .read .ensures) ∙ t .enum-told .given .1)) (sym (c .before .before .before .find .ensures) ∙ c .before .enum-told2 .given .1)
 
 pub field-spec : {M : Type 1} → statement M
 field-spec =

@@ -1,7 +1,12 @@
 -- `tib_msg::read` meets its contract.
-use mathlib.Core.Path.{sym, _∙_}
-use borrow.Author.Tests.{not-true, not-false}
-use Rattle.tib_msg.proofs.Headers.{too-long, header-cut, other-magic, other-size, good-header}
+use Prim.Native.Nat.{suc}
+use mathlib.Core.Path.{sym, ap, _∙_}
+use lib.ListN.{length}
+use Rattle.reading.specs.internal.Verdicts.{verdictOf}
+use Rattle.tib_field.proofs.Headers.{header-inside, read-long, read-fault, read-fields}
+use Rattle.tib_msg_field.specs.Layout.{magic}
+use Rattle.tib_msg_field.specs.Reading.{fieldsFrom, reading}
+use Rattle.tib_field.specs.Steps.{flatDepth}
 use borrow.Author.Needs.{needs}
 use Rattle.tib_msg.proofs.read.Statement.{statement}
 use Rattle.tib_msg.proofs.read.Tie as tie
@@ -10,57 +15,37 @@ refuse-requires : tie.Need-refuse-requires
 refuse-requires c κs = search needs
 
 returns : tie.Need-returns
-returns c = c .refuse .ensures ∙ too-long (c .before .before .before .args .message .now) (c .before .if1 .taken)
+unfolding reading verdictOf
+returns c =
+    let a = c .before .before .before .args .message .now in
+    c .refuse .ensures ∙ ap (verdictOf length flatDepth) (sym (read-long magic a (fieldsFrom (suc (length a))) (c .before .if1 .taken)))
+
+slice-aggregate-header-fault : tie.Need-slice-aggregate-header-fault
+slice-aggregate-header-fault c = search needs
+
+header-fault-requires : tie.Need-header-fault-requires
+header-fault-requires c κs = search needs
 
 refuse-requires-2 : tie.Need-refuse-requires-2
 refuse-requires-2 c κs = search needs
 
 returns-2 : tie.Need-returns-2
-returns-2 c = c .refuse2 .ensures ∙ header-cut (c .before .before .before .before .args .message .now) (c .before .before .if1 .left) (c .before .if2 .taken)
-
-slice-aggregate-begins : tie.Need-slice-aggregate-begins
-slice-aggregate-begins c = search needs
-
-begins-requires : tie.Need-begins-requires
-begins-requires c κs = search needs
-
-refuse-requires-3 : tie.Need-refuse-requires-3
-refuse-requires-3 c κs = search needs
-
-returns-3 : tie.Need-returns-3
-returns-3 c =
-    c .refuse3 .ensures
-    ∙ other-magic (c .before .before .before .before .before .before .before .args .message .now) (c .before .before .before .before .before .if1 .left) (c .before .before .before .before .if2 .left) (sym (c .before .before .begins .ensures) ∙ not-true _ (c .before .if3 .taken))
-
-sub-uint : tie.Need-sub-uint
-sub-uint c = search needs
-
-part-uint-start : tie.Need-part-uint-start
-part-uint-start c = search needs
-
-part-uint-end : tie.Need-part-uint-end
-part-uint-end c = search needs
-
-uint-requires : tie.Need-uint-requires
-uint-requires c κs = search needs
-
-refuse-requires-4 : tie.Need-refuse-requires-4
-refuse-requires-4 c κs = search needs
-
-returns-4 : tie.Need-returns-4
-returns-4 c =
-    c .refuse4 .ensures
-    ∙ other-size (c .before .before .before .before .before .before .before .before .before .before .args .message .now) (c .before .before .before .before .before .before .before .before .if1 .left) (c .before .before .before .before .before .before .before .if2 .left) (sym (c .before .before .before .before .before .begins .ensures) ∙ not-false _ (c .before .before .before .before .if3 .left))
-    (c .before .before .uint .result) (c .before .before .uint .ensures) (c .before .if4 .taken)
+unfolding reading verdictOf
+returns-2 c =
+    let a = c .before .before .before .before .before .before .args .message .now in
+    c .refuse2 .ensures
+    ∙ ap (verdictOf length flatDepth) (sym (read-fault magic a (fieldsFrom (suc (length a))) (c .before .before .before .before .if1 .left) _ (c .before .before .header-fault .ensures) (c .before .if2 .taken)))
 
 traverse-requires : tie.Need-traverse-requires
-traverse-requires c κs = search needs
+traverse-requires c κs =
+    (header-inside magic (c .before .before .before .before .before .args .message .now) (sym (c .before .header-fault .ensures) ∙ c .if2 .left), c .before .before .before .if1 .left)
 
-returns-5 : tie.Need-returns-5
-returns-5 c =
+returns-3 : tie.Need-returns-3
+unfolding reading
+returns-3 c =
+    let a = c .before .before .before .before .before .before .args .message .now in
     c .traverse .ensures
-    ∙ good-header (c .before .before .before .before .before .before .before .before .before .before .args .message .now) (c .before .before .before .before .before .before .before .before .if1 .left) (c .before .before .before .before .before .before .before .if2 .left) (sym (c .before .before .before .before .before .begins .ensures) ∙ not-false _ (c .before .before .before .before .if3 .left))
-    (c .before .before .uint .result) (c .before .before .uint .ensures) (c .before .if4 .left)
+    ∙ ap (verdictOf length flatDepth) (sym (read-fields magic a (fieldsFrom (suc (length a))) (c .before .before .before .before .if1 .left) _ (c .before .before .header-fault .ensures) (c .before .if2 .left)))
 
 pub read-spec : {M : Type 1} → statement M
 read-spec =
@@ -68,17 +53,9 @@ read-spec =
     (tie.spec
     refuse-requires
     returns
+    slice-aggregate-header-fault
+    header-fault-requires
     refuse-requires-2
     returns-2
-    slice-aggregate-begins
-    begins-requires
-    refuse-requires-3
-    returns-3
-    sub-uint
-    part-uint-start
-    part-uint-end
-    uint-requires
-    refuse-requires-4
-    returns-4
     traverse-requires
-    returns-5)
+    returns-3)

@@ -1,6 +1,10 @@
 -- `tib_msg_field::from_size` meets its contract.
-use mathlib.Core.Path.{sym, _∙_}
-use Rattle.tib_msg_field.proofs.StepTests.{size-cut, size-bad, size-good}
+use Prim.Native.Nat.{ℕ}
+use native.Mathlib.Omega.{arith}
+use mathlib.Core.Path.{sym, ap, _∙_}
+use Rattle.tib_field.specs.internal.Numbers.{numberOf}
+use Rattle.tib_msg_field.specs.Reading.{fromSize, total}
+use Rattle.tib_msg_field.proofs.StepTests.{size-one, one-read, size-cut, size-bad, size-good}
 use borrow.Author.Needs.{needs}
 use Rattle.tib_msg_field.proofs.from_size.Statement.{statement}
 use Rattle.tib_msg_field.proofs.from_size.Tie as tie
@@ -8,20 +12,28 @@ use Rattle.tib_msg_field.proofs.from_size.Tie as tie
 size-width-requires : tie.Need-size-width-requires
 size-width-requires c κs = search needs
 
+from-long-requires : tie.Need-from-long-requires
+from-long-requires c κs = search needs
+
 returns : tie.Need-returns
-returns c = size-cut (c .before .before .before .args .n) (c .before .before .before .args .c) (c .before .size-width .result) (c .before .before .before .args .s .now) (c .before .size-width .ensures) (c .if1 .taken)
+returns c =
+    let w = c .before .before in
+    let a = w .before .before .args in
+    c .from-long .ensures ∙ ap (λ (x : ℕ). numberOf total (fromSize (a .n) (a .c) x (a .s .now))) (sym (c .before .if1 .taken) ∙ w .size-width .ensures)
 
-sub-uint : tie.Need-sub-uint
-sub-uint c = search needs
+returns-2 : tie.Need-returns-2
+unfolding numberOf
+returns-2 c =
+    let w = c .before .before in
+    let a = w .before .before .args in
+    ap (numberOf total)
+    (size-cut (a .n) (a .c) 1 (a .s .now) (omega (arith, c .if2 .taken)) ∙ ap (λ (x : ℕ). fromSize (a .n) (a .c) x (a .s .now)) (size-one (a .c) (w .size-width .result) (w .size-width .ensures) (c .before .if1 .left)))
 
-part-uint-start : tie.Need-part-uint-start
-part-uint-start c = search needs
+shared-slice-read-wide : tie.Need-shared-slice-read-wide
+shared-slice-read-wide c = search needs
 
-part-uint-end : tie.Need-part-uint-end
-part-uint-end c = search needs
-
-uint-requires : tie.Need-uint-requires
-uint-requires c κs = search needs
+wide-requires : tie.Need-wide-requires
+wide-requires c κs = search needs
 
 kind-requires : tie.Need-kind-requires
 kind-requires c κs = search needs
@@ -41,34 +53,46 @@ part-from-data-end c = search needs
 from-data-requires : tie.Need-from-data-requires
 from-data-requires c κs = search needs
 
-returns-2 : tie.Need-returns-2
-returns-2 c =
-    c .from-data .ensures
-    ∙ size-good (c .before .before .before .before .before .before .before .before .before .before .args .n) (c .before .before .before .before .before .before .before .before .before .before .args .c) (c .before .before .before .before .before .before .before .before .size-width .result) (c .before .before .before .before .before .before .before .before .before .before .args .s .now) (c .before .before .before .before .before .before .before .before .size-width .ensures) (c .before .before .before .before .before .before .before .if1 .left)
-    (c .before .before .before .before .before .uint .result) (c .before .before .before .before .before .uint .ensures) (c .before .before .before .before .kind .result) (c .before .before .before .before .kind .ensures)
-    (sym (c .before .before .before .size-allowed .ensures) ∙ c .before .before .if2 .taken)
-
 returns-3 : tie.Need-returns-3
 returns-3 c =
-    size-bad (c .before .before .before .before .before .before .before .before .args .n) (c .before .before .before .before .before .before .before .before .args .c) (c .before .before .before .before .before .before .size-width .result) (c .before .before .before .before .before .before .before .before .args .s .now) (c .before .before .before .before .before .before .size-width .ensures) (c .before .before .before .before .before .if1 .left)
-    (c .before .before .before .uint .result) (c .before .before .before .uint .ensures) (c .before .before .kind .result) (c .before .before .kind .ensures)
-    (sym (c .before .size-allowed .ensures) ∙ c .if2 .left)
+    let t = c .before .before in
+    let k = t .before .before in
+    let l = k .before in
+    let e = l .before .before in
+    let w = e .before .before in
+    let a = w .before .before .args in
+    c .from-data .ensures
+    ∙ ap (numberOf total)
+    (size-good (a .n) (a .c) 1 (a .s .now) (omega (arith, e .if2 .left)) (l .wide .result) (one-read (a .s .now) (l .wide .result) (e .if2 .left) (l .wide .ensures)) (k .kind .result) (k .kind .ensures) (sym (t .before .size-allowed .ensures) ∙ t .if3 .taken)
+    ∙ ap (λ (x : ℕ). fromSize (a .n) (a .c) x (a .s .now)) (size-one (a .c) (w .size-width .result) (w .size-width .ensures) (e .before .if1 .left)))
+
+returns-4 : tie.Need-returns-4
+unfolding numberOf
+returns-4 c =
+    let k = c .before .before in
+    let l = k .before in
+    let e = l .before .before in
+    let w = e .before .before in
+    let a = w .before .before .args in
+    ap (numberOf total)
+    (size-bad (a .n) (a .c) 1 (a .s .now) (omega (arith, e .if2 .left)) (l .wide .result) (one-read (a .s .now) (l .wide .result) (e .if2 .left) (l .wide .ensures)) (k .kind .result) (k .kind .ensures) (sym (c .before .size-allowed .ensures) ∙ c .if3 .left)
+    ∙ ap (λ (x : ℕ). fromSize (a .n) (a .c) x (a .s .now)) (size-one (a .c) (w .size-width .result) (w .size-width .ensures) (e .before .if1 .left)))
 
 pub from-size-spec : {M : Type 1} → statement M
 from-size-spec =
     tie.close
     (tie.spec
     size-width-requires
+    from-long-requires
     returns
-    sub-uint
-    part-uint-start
-    part-uint-end
-    uint-requires
+    returns-2
+    shared-slice-read-wide
+    wide-requires
     kind-requires
     size-allowed-requires
     sub-from-data
     part-from-data-start
     part-from-data-end
     from-data-requires
-    returns-2
-    returns-3)
+    returns-3
+    returns-4)

@@ -1,12 +1,15 @@
 -- `tib_msg_field::from_type` meets its contract.
-use mathlib.Core.Path.{sym, _∙_}
+use mathlib.Core.Path.{sym, ap, _∙_}
+use Rattle.tib_field.specs.internal.Numbers.{numberOf}
+use Rattle.tib_msg_field.specs.Reading.{total}
 use Rattle.tib_msg_field.proofs.StepTests.{type-cut, type-bad, type-good}
 use borrow.Author.Needs.{needs}
 use Rattle.tib_msg_field.proofs.from_type.Statement.{statement}
 use Rattle.tib_msg_field.proofs.from_type.Tie as tie
 
 returns : tie.Need-returns
-returns c = type-cut (c .before .before .args .n) (c .before .before .args .s .now) (c .if1 .taken)
+unfolding numberOf
+returns c = ap (numberOf total) (type-cut (c .before .before .args .n) (c .before .before .args .s .now) (c .if1 .taken))
 
 shared-slice-read-c : tie.Need-shared-slice-read-c
 shared-slice-read-c c = search needs
@@ -29,10 +32,11 @@ from-size-requires c κs = search needs
 returns-2 : tie.Need-returns-2
 returns-2 c =
     c .from-size .ensures
-    ∙ type-good (c .before .before .before .before .before .before .before .args .n) (c .before .before .before .before .before .before .before .args .s .now) (c .before .before .before .before .before .if1 .left) (sym (c .before .before .before .type-allowed .ensures) ∙ c .before .before .if2 .taken)
+    ∙ ap (numberOf total) (type-good (c .before .before .before .before .before .before .before .args .n) (c .before .before .before .before .before .before .before .args .s .now) (c .before .before .before .before .before .if1 .left) (sym (c .before .before .before .type-allowed .ensures) ∙ c .before .before .if2 .taken))
 
 returns-3 : tie.Need-returns-3
-returns-3 c = type-bad (c .before .before .before .before .before .args .n) (c .before .before .before .before .before .args .s .now) (c .before .before .before .if1 .left) (sym (c .before .type-allowed .ensures) ∙ c .if2 .left)
+unfolding numberOf
+returns-3 c = ap (numberOf total) (type-bad (c .before .before .before .before .before .args .n) (c .before .before .before .before .before .args .s .now) (c .before .before .before .if1 .left) (sym (c .before .type-allowed .ensures) ∙ c .if2 .left))
 
 pub from-type-spec : {M : Type 1} → statement M
 from-type-spec =

@@ -1,13 +1,15 @@
 -- `tib_msg_field::read_hint` meets its contract.
 use borrow.Author.Tests.{eq-eqb, ne-eqb}
-use mathlib.Core.Path.{_∙_}
+use mathlib.Core.Path.{ap, _∙_}
+use Rattle.tib_msg_field.specs.internal.Numbers.{hintNumber}
 use Rattle.tib_msg_field.proofs.StepTests.{hint-cut, hint-two}
 use borrow.Author.Needs.{needs}
 use Rattle.tib_msg_field.proofs.read_hint.Statement.{statement}
 use Rattle.tib_msg_field.proofs.read_hint.Tie as tie
 
 returns : tie.Need-returns
-returns c = hint-cut (c .before .before .args .k) (c .before .before .args .size) (c .before .before .args .s .now) (c .if1 .taken)
+unfolding hintNumber
+returns c = ap hintNumber (hint-cut (c .before .before .args .k) (c .before .before .args .size) (c .before .before .args .s .now) (c .if1 .taken))
 
 shared-slice-read-wide : tie.Need-shared-slice-read-wide
 shared-slice-read-wide c = search needs
@@ -27,7 +29,7 @@ array-hint-requires c κs = search needs
 returns-2 : tie.Need-returns-2
 returns-2 c =
     c .array-hint .ensures
-    ∙ (rw (eq-eqb (c .before .before .before .before .before .before .before .before .args .k) 8 (c .before .if2 .taken)) at
+    ∙ ap hintNumber (rw (eq-eqb (c .before .before .before .before .before .before .before .before .args .k) 8 (c .before .if2 .taken)) at
     (hint-two (c .before .before .before .before .before .before .before .before .args .k) (c .before .before .before .before .before .before .before .before .args .size) (c .before .before .before .before .before .before .before .before .args .s .now) (c .before .before .before .before .wide .result) (c .before .before .wide2 .result) (c .before .before .before .before .before .before .if1 .left) (c .before .before .before .before .wide .ensures) (c .before .before .wide2 .ensures)))
 
 partial-hint-requires : tie.Need-partial-hint-requires
@@ -36,7 +38,7 @@ partial-hint-requires c κs = search needs
 returns-3 : tie.Need-returns-3
 returns-3 c =
     c .partial-hint .ensures
-    ∙ (rw (ne-eqb (c .before .before .before .before .before .before .before .before .before .args .k) 8 (c .before .before .if2 .left), eq-eqb (c .before .before .before .before .before .before .before .before .before .args .k) 9 (c .before .if3 .taken)) at
+    ∙ ap hintNumber (rw (ne-eqb (c .before .before .before .before .before .before .before .before .before .args .k) 8 (c .before .before .if2 .left), eq-eqb (c .before .before .before .before .before .before .before .before .before .args .k) 9 (c .before .if3 .taken)) at
     (hint-two (c .before .before .before .before .before .before .before .before .before .args .k) (c .before .before .before .before .before .before .before .before .before .args .size) (c .before .before .before .before .before .before .before .before .before .args .s .now) (c .before .before .before .before .before .wide .result) (c .before .before .before .wide2 .result) (c .before .before .before .before .before .before .before .if1 .left) (c .before .before .before .before .before .wide .ensures) (c .before .before .before .wide2 .ensures)))
 
 sub-value-hint : tie.Need-sub-value-hint
@@ -48,7 +50,7 @@ value-hint-requires c κs = search needs
 returns-4 : tie.Need-returns-4
 returns-4 c =
     c .value-hint .ensures
-    ∙ (rw (ne-eqb (c .before .before .before .before .before .before .before .before .before .args .k) 8 (c .before .before .if2 .left), ne-eqb (c .before .before .before .before .before .before .before .before .before .args .k) 9 (c .before .if3 .left)) at
+    ∙ ap hintNumber (rw (ne-eqb (c .before .before .before .before .before .before .before .before .before .args .k) 8 (c .before .before .if2 .left), ne-eqb (c .before .before .before .before .before .before .before .before .before .args .k) 9 (c .before .if3 .left)) at
     (hint-two (c .before .before .before .before .before .before .before .before .before .args .k) (c .before .before .before .before .before .before .before .before .before .args .size) (c .before .before .before .before .before .before .before .before .before .args .s .now) (c .before .before .before .before .before .wide .result) (c .before .before .before .wide2 .result) (c .before .before .before .before .before .before .before .if1 .left) (c .before .before .before .before .before .wide .ensures) (c .before .before .before .wide2 .ensures)))
 
 pub read-hint-spec : {M : Type 1} → statement M

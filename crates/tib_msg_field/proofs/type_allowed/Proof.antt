@@ -1,50 +1,28 @@
 -- `tib_msg_field::type_allowed` meets its contract.
-use borrow.Author.Tests.{le-leb, lt-leb, eq-eqb, ne-eqb, not-true, not-false}
-use mathlib.Core.Path.{sym, _∙_}
-use Rattle.tib_msg_field.specs.Reading.{typeAllowed}
-use Rattle.tib_msg_field.specs.Layout.{hinted}
+use lib.Bits.{and-mask}
+use native.Mathlib.Omega.{arith}
+use mathlib.Core.Path.{_∙_}
+use Rattle.tib_msg_field.proofs.TypeTests.{type-over, type-plain, type-hinted}
 use borrow.Author.Needs.{needs}
 use Rattle.tib_msg_field.proofs.type_allowed.Statement.{statement}
 use Rattle.tib_msg_field.proofs.type_allowed.Tie as tie
 
-clear-requires : tie.Need-clear-requires
-clear-requires c κs = search needs
-
 returns : tie.Need-returns
-unfolding typeAllowed
-returns c = rw (sym (c .before .clear .ensures) ∙ not-true _ (c .if1 .taken))
-
-kind-requires : tie.Need-kind-requires
-kind-requires c κs = search needs
+returns c = let o = c .before .args .c in type-over o _ (and-mask o 6) (c .if1 .taken)
 
 returns-2 : tie.Need-returns-2
-unfolding typeAllowed
-returns-2 c = rw (sym (c .before .before .before .clear .ensures) ∙ not-false _ (c .before .before .if1 .left), ← c .before .kind .ensures, lt-leb _ 10 (c .if2 .taken))
+returns-2 c = let o = c .before .before .args .c in type-plain o _ (and-mask o 6) (c .before .if1 .left) (λ e. omega arith) (λ e. omega arith)
+
+returns-3 : tie.Need-returns-3
+returns-3 c = let o = c .before .before .before .args .c in type-plain o _ (and-mask o 6) (c .before .before .if1 .left) (λ e. omega arith) (λ e. omega arith)
 
 hinted-requires : tie.Need-hinted-requires
 hinted-requires c κs = search needs
 
-returns-3 : tie.Need-returns-3
-unfolding typeAllowed
-returns-3 c = rw (sym (c .before .before .before .before .before .clear .ensures) ∙ not-false _ (c .before .before .before .before .if1 .left), ← c .before .before .before .kind .ensures, le-leb _ 10 (c .before .before .if2 .left), sym (c .before .hinted .ensures) ∙ c .if3 .taken)
-
 returns-4 : tie.Need-returns-4
-unfolding typeAllowed
-returns-4 c = rw (sym (c .before .before .before .before .before .before .clear .ensures) ∙ not-false _ (c .before .before .before .before .before .if1 .left), ← c .before .before .before .before .kind .ensures, le-leb _ 10 (c .before .before .before .if2 .left), sym (c .before .before .hinted .ensures) ∙ c .before .if3 .left, eq-eqb _ 8 (c .if4 .taken))
-
-returns-5 : tie.Need-returns-5
-unfolding typeAllowed
-returns-5 c = rw (sym (c .before .before .before .before .before .before .clear .ensures) ∙ not-false _ (c .before .before .before .before .before .if1 .left), ← c .before .before .before .before .kind .ensures, le-leb _ 10 (c .before .before .before .if2 .left), sym (c .before .before .hinted .ensures) ∙ c .before .if3 .left, ne-eqb _ 8 (c .if4 .left))
+returns-4 c =
+    let o = c .before .before .before .before .args .c in
+    c .hinted .ensures ∙ type-hinted o _ (and-mask o 6) (c .before .before .before .if1 .left) (c .before .before .if2 .left) (c .before .if3 .left)
 
 pub type-allowed-spec : {M : Type 1} → statement M
-type-allowed-spec =
-    tie.close
-    (tie.spec
-    clear-requires
-    returns
-    kind-requires
-    returns-2
-    hinted-requires
-    returns-3
-    returns-4
-    returns-5)
+type-allowed-spec = tie.close (tie.spec returns returns-2 returns-3 hinted-requires returns-4)
