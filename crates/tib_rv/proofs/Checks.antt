@@ -27,4 +27,4 @@ module _ (s : List ℕ) where
   -- What the check refuses is refused with the same number and place, whichever field is asked for.
   pub refused-as-checked : (k : ℕ) → (check s .refusal ≡ 0 → ⊥) → field s k ≡ refusedField (check s .refusal) (check s .place)
   unfolding check field
-  refused-as-checked k n = field-refused-as-checked count depth shown places k (reading s) n
+  refused-as-checked k n = field-refused-as-checked count depth refusedField shown places k (reading s) n

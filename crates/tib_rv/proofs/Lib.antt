@@ -1,5 +1,6 @@
 pub mod Headers
 pub mod MessageLoop
+pub mod GoodFields
 pub mod Kths
 pub mod Places
 pub mod Checks

@@ -3,11 +3,11 @@ use Prim.Native.Nat.{ℕ, zero, suc, _+_, _-_, _≤_, _<_, max}
 use native.Mathlib.Omega.{arith}
 use mathlib.Core.Path.{_≡_, refl, ap, _∙_}
 use mathlib.Core.List.{List, _++_}
-use lib.ListN.{length, take, drop, length-append}
-use lib.Seq.{drop-drop}
+use lib.ListN.{length, getD, take, drop, length-append, length-drop}
+use Rattle.octets.proofs.Slices.{length-zero, tail-part}
+use lib.Seq.{drop-drop, getD-drop}
 use borrow.Author.Tests.{ne-eqb}
 use Rattle.tib_rv_field.specs.declared.Sizes.{Sizes}
-use Rattle.tib_rv_field.specs.declared.Step.the-variants.{Done, Fault, Over, Into}
 use Rattle.reading.specs.Reading.{Reading, accepted, refused}
 use Rattle.reading.specs.internal.Verdicts.{verdictOf}
 use Rattle.reading.specs.declared.Verdict.{Verdict}
@@ -15,10 +15,12 @@ use Rattle.reading.specs.declared.Verdict.the-variants.{Accepted, Refused}
 use Rattle.reading.proofs.Traversal as traversal
 use Rattle.reading.proofs.Traversal.{Traversal}
 use Rattle.tib_rv_field.specs.Layout.{Parts, octets, holder, magic, Fields, end, leaf, nested, joined, message, depth}
-use Rattle.tib_rv_field.specs.Reading.{nextField, lead, total, partsAt, Inner, nestedOf, afterStep, fieldsFrom, headerFault, messageFrom}
+use Rattle.tib_rv_field.specs.Reading.{Step, Done, Fault, Over, Into, nextField, lead, total, partsAt, Inner, nestedOf, afterStep, fieldsFrom, headerFault, messageFrom}
 use Rattle.tib_rv_field.specs.internal.Sizes.{sizes}
+use Rattle.tib_rv_field.specs.internal.Numbers.{numberOf}
 use Rattle.tib_rv.specs.CheckAndField.{count}
-use Rattle.tib_rv_field.proofs.Steps.{step-found, step-holder, length-octets}
+use Rattle.tib_rv_field.proofs.Steps.{step-found, step-holder, step-of-end, length-octets}
+use Rattle.tib_rv_field.proofs.WrongFields.{step-done}
 use Rattle.tib_rv_field.proofs.Accepted.{accepted-good, field-size, depth-positive}
 
 -- A field that is found lies within the octets, and takes one of them or more.
@@ -49,6 +51,60 @@ pub lead-within : (z : Sizes) → (1 ≤ lead z) × (lead z ≤ total z)
 unfolding total lead
 lead-within z = (omega arith, omega arith)
 
+-- The field that holds a message has three octets more before its data than its name has.
+lead-read : (s : List ℕ) (z : Sizes) → nextField s ≡ Into z → 3 + getD s 0 0 ≡ lead z
+unfolding octets sizes lead
+lead-read s z e =
+    let f = step-holder s z e in
+    let a : getD s 0 0 ≡ length (f .name) = ap (λ (r : List ℕ). getD r 0 0) (f .divides) in
+    let b = ap lead (f .sized) in
+    omega arith
+
+pub lead-at : (s : List ℕ) (i : ℕ) (z : Sizes) → nextField (drop i s) ≡ Into z → (x : ℕ) → x ≡ getD s i 0 → i + 3 + x ≡ i + lead z
+lead-at s i z e x h =
+    let a = lead-read (drop i s) z e in
+    let p : i + 0 ≡ i = omega arith in
+    let b : getD (drop i s) 0 0 ≡ getD s i 0 = getD-drop i s 0 0 ∙ ap (λ (k : ℕ). getD s k 0) p in
+    omega arith
+
+-- What stands at i, by its number n. A message is too short for a field of as many octets as the other numbers.
+module _ (s : List ℕ) (i : ℕ) (inside : i < length s) (few : length s ≤ 65536) (n : ℕ) (e : n ≡ numberOf (nextField (take (length s - i) (drop i s)))) where
+  numbered : n ≡ numberOf (nextField (drop i s))
+  numbered = e ∙ ap (λ (r : List ℕ). numberOf (nextField r)) (tail-part s i)
+
+  abbrev pub Found : ℕ → (Sizes → Step) → Type 0
+  Found more step = (z : Sizes) × (nextField (drop i s) ≡ step z) × (n ≡ more + total z)
+
+  pub leaf-here : n < 1048576 → Found 0 Over
+  unfolding numberOf
+  leaf-here small = go (nextField (drop i s)) refl numbered
+    where
+      go : (p : Step) → nextField (drop i s) ≡ p → n ≡ numberOf p → Found 0 Over
+      go Done g h = let d = ap length (step-done (drop i s) g) in let l = length-drop i s in absurd (omega arith)
+      go (Fault k) g h = absurd (omega arith)
+      go (Over z) g h = (z, g, omega arith)
+      go (Into z) g h = absurd (omega arith)
+
+  pub fault-here : 2097152 ≤ n → nextField (drop i s) ≡ Fault (n - 2097152)
+  unfolding numberOf
+  fault-here large = go (nextField (drop i s)) refl numbered
+    where
+      go : (p : Step) → nextField (drop i s) ≡ p → n ≡ numberOf p → nextField (drop i s) ≡ Fault (n - 2097152)
+      go Done g h = absurd (omega arith)
+      go (Fault k) g h = let d : n - 2097152 ≡ k = omega arith in rw d g
+      go (Over z) g h = let b = over-inside (drop i s) z g .1 in let l = length-drop i s in absurd (omega arith)
+      go (Into z) g h = let b = into-inside (drop i s) z g .1 in let l = length-drop i s in absurd (omega arith)
+
+  pub holder-here : 1048576 ≤ n → n < 2097152 → Found 1048576 Into
+  unfolding numberOf
+  holder-here large small = go (nextField (drop i s)) refl numbered
+    where
+      go : (p : Step) → nextField (drop i s) ≡ p → n ≡ numberOf p → Found 1048576 Into
+      go Done g h = absurd (omega arith)
+      go (Fault k) g h = absurd (omega arith)
+      go (Over z) g h = let b = over-inside (drop i s) z g .1 in let l = length-drop i s in absurd (omega arith)
+      go (Into z) g h = (z, g, h)
+
 module _ (inner : Inner) (at : ℕ) (s : List ℕ) where
   abbrev pub whole : Verdict
   whole = traversal.whole count depth fieldsFrom inner at 8 s
@@ -61,9 +117,12 @@ module _ (inner : Inner) (at : ℕ) (s : List ℕ) where
   start = traversal.start count depth fieldsFrom inner at 8 s depth-positive
 
   module _ (i f d : ℕ) (now : State i f d) where
-    pub at-end : nextField (drop i s) ≡ Done → Accepted f d ≡ whole
+    pub at-end : length s ≤ i → Accepted f d ≡ whole
     unfolding fieldsFrom afterStep count depth
-    at-end e = traversal.at-end count depth fieldsFrom inner at 8 s inner i f d now end refl refl (rw e)
+    at-end h =
+        let l = length-drop i s in
+        let e = ap nextField (length-zero (drop i s) (omega arith)) ∙ step-of-end in
+        traversal.at-end count depth fieldsFrom inner at 8 s inner i f d now end refl refl (rw e)
 
     pub at-fault : (k : ℕ) → nextField (drop i s) ≡ Fault k → Refused k (at + i) ≡ whole
     unfolding fieldsFrom afterStep

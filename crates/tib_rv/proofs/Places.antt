@@ -46,7 +46,7 @@ inner-whole f h l =
 
 module _ (s : List ℕ) (fields : Fields) (w : Whole s fields) where
   told : (k : ℕ) → Picked octets (outermost fields) k 8
-      → KthTold s fields k (fieldOrAbsent shown (getElem? (placed octets 8 (outermost fields)) k))
+      → KthTold s fields k (fieldOrAbsent refusedField shown (getElem? (placed octets 8 (outermost fields)) k))
   unfolding shown message fieldOrAbsent
   told k p =
       let f = p .field in
@@ -85,7 +85,7 @@ module _ (s : List ℕ) (fields : Fields) (w : Whole s fields) where
         named-at = refl;
         data-at = omega arith;
       } in
-      subst (KthTold s fields k) (sym (ap (fieldOrAbsent shown) (p .same))) q
+      subst (KthTold s fields k) (sym (ap (fieldOrAbsent refusedField shown) (p .same))) q
 
   -- The answer for k is the k-th outermost field of the division, or 18 at 0 where the division has no more than k outermost fields.
   pub field-is-kth : (k : ℕ) → (k < length (outermost fields) → KthTold s fields k (field s k))

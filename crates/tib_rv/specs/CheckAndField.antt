@@ -5,7 +5,7 @@ use mathlib.Core.List.{List, [], _∷_}
 use lib.ListN.{length}
 use Rattle.reading.specs.Checks.{counts}
 use Rattle.reading.specs.declared.Checked.{Checked}
-use Rattle.tib_field.specs.Refused.{noReal}
+use Rattle.tib_field.specs.Refused.{noReal, refusedField}
 use Rattle.tib_field.specs.Fields.{placed}
 use Rattle.tib_field.specs.Kth.{fieldOf}
 use Rattle.tib_field.specs.declared.Field.{Field}
@@ -52,4 +52,4 @@ places fs = placed octets 8 (outermost fs)
 
 -- The k-th outermost field of a message.
 unfoldable pub field : List ℕ → ℕ → Field
-field s k = fieldOf shown places k (reading s)
+field s k = fieldOf refusedField shown places k (reading s)

@@ -3,23 +3,17 @@ use reading::Checked;
 use reading::Verdict;
 use tib_field::Field;
 use tib_rv_field::Sizes;
-use tib_rv_field::Step;
 ghost use mathlib.Core.Path.{_≡_};
+ghost use mathlib.Core.Option.{some};
 ghost use Prim.Native.Nat.{_+_, _≤_, _<_, _^_};
 ghost use lib.ListN.{length};
-ghost use Rattle.tib_rv_field.specs.Reading.{nextField, lead as lead-of, total, headerFault, messageFrom, reading};
+ghost use Rattle.tib_rv_field.specs.Reading.{following as following-of, counted, nextField, lead as lead-of, total, headerFault, messageFrom, reading};
 ghost use Rattle.tib_rv_field.specs.Layout.{depth};
 ghost use Rattle.reading.specs.Reading.{messageLimit, depthLimit};
 ghost use Rattle.reading.specs.internal.Verdicts.{IsAccepted, verdictOf};
 ghost use Rattle.tib_field.specs.internal.KthOf.{kthOf};
 ghost use Rattle.tib_rv.specs.CheckAndField.{count, check as check-of, places, field as field-of};
-ghost use Rattle.tib_rv.specs.internal.Found.{anyField, foundAt, shownSizes};
-
-// A field, whether it holds a message or not, or that there is none.
-enum AnyField {
-    Nothing,
-    Field(Sizes),
-}
+ghost use Rattle.tib_rv.specs.internal.Found.{anyField, HasField, foundAt, shownSizes};
 
 // The place and the sizes of a field, or that there is none.
 enum Kth {
@@ -83,28 +77,27 @@ fn message(s: &[u8], levels: u64, field: u64, at: u64) -> Verdict
     let mut i: usize = 8;
     let mut fields: u64 = 0;
     let mut depth: u64 = 1;
-    loop {
-        match tib_rv_field::next_field(&s[i..]) {
-            Step::Done => return Verdict::Accepted(fields, depth),
-            Step::Fault(k) => return refused(k, at + (i as u64)),
-            Step::Over(z) => {
-                i = past(i, z);
-                fields = fields + 1;
-            }
-            Step::Into(z) => {
-                let a = data_at(i, z);
-                let e = past(i, z);
-                match message(&s[a..e], levels - 1, at + (i as u64), at + (a as u64)) {
-                    Verdict::Refused(refusal, place) => return refused(refusal, place),
-                    Verdict::Accepted(f, d) => {
-                        i = e;
-                        fields = fields + (1 + f);
-                        depth = numbers::larger(depth, d + 1);
-                    }
+    while i < s.len() {
+        let n = tib_rv_field::field_octets(&s[i..]);
+        if n < tib_rv_field::INTO {
+            i = i + (n as usize);
+            fields = fields + 1;
+        } else if tib_rv_field::REFUSED <= n {
+            return refused(n - tib_rv_field::REFUSED, at + (i as u64));
+        } else {
+            let a = i + 3 + (numbers::wide(s[i]) as usize);
+            let e = i + ((n - tib_rv_field::INTO) as usize);
+            match message(&s[a..e], levels - 1, at + (i as u64), at + (a as u64)) {
+                Verdict::Refused(refusal, place) => return refused(refusal, place),
+                Verdict::Accepted(f, d) => {
+                    i = e;
+                    fields = fields + (1 + f);
+                    depth = numbers::larger(depth, d + 1);
                 }
             }
         }
     }
+    Verdict::Accepted(fields, depth)
 }
 
 // Reads a whole message and its nested ones.
@@ -124,15 +117,43 @@ pub fn check(message: &[u8]) -> Checked
     reading::answer(read(message))
 }
 
-// Reads the field at the front of octets, whether it holds a message or not. Returns `Nothing` at the end of the message and for a fault.
-fn next_any(s: &[u8]) -> AnyField
-    ensures { λ r. ⌜ r ≡ anyField (nextField (now (s .entry))) ⌝ }
+// Returns the count in a size, by its first octet and the octets after that. Internal: these are all there.
+fn count_of(m: u64, s: &[u8]) -> u64
+    requires { ⌜ following-of m ≤ length (now s) ⌝ }
+    ensures { λ r. ⌜ r ≡ counted m (now (s .entry)) ⌝ }
 {
-    match tib_rv_field::next_field(s) {
-        Step::Done => AnyField::Nothing,
-        Step::Fault(_) => AnyField::Nothing,
-        Step::Over(z) => AnyField::Field(z),
-        Step::Into(z) => AnyField::Field(z),
+    if m < 0x79 {
+        return m;
+    }
+    let w = tib_rv_field::following(m);
+    tib_field::uint(&s[0..w])
+}
+
+// Returns the sizes of the field at the front of octets, whether it holds a message or not. Internal: the field is good.
+fn sizes_at(s: &[u8]) -> Sizes
+    requires { ⌜ HasField (now s) ⌝ }
+    ensures { λ r. ⌜ anyField (nextField (now (s .entry))) ≡ some r ⌝ }
+{
+    let n = numbers::wide(s[0]) as usize;
+    let at = 1 + n;
+    let c = s[at];
+    let size = at + 1;
+    let m = numbers::wide(s[size]);
+    let rest = size + 1;
+    let k = count_of(m, &s[rest..]) as usize;
+    if c == 1 {
+        return Sizes {
+            name: n,
+            octet: c,
+            width: 1,
+            contents: k,
+        };
+    }
+    Sizes {
+        name: n,
+        octet: c,
+        width: 1 + tib_rv_field::following(m),
+        contents: k - (tib_rv_field::own(m) as usize),
     }
 }
 
@@ -143,18 +164,15 @@ fn find(s: &[u8], k: u64) -> Kth
 {
     let mut i: usize = 8;
     let mut remaining = k;
-    loop {
-        match next_any(&s[i..]) {
-            AnyField::Nothing => return Kth::Absent,
-            AnyField::Field(z) => {
-                if remaining == 0 {
-                    return Kth::At { place: i, sizes: z };
-                }
-                i = past(i, z);
-                remaining -= 1;
-            }
+    while i < s.len() {
+        let z = sizes_at(&s[i..]);
+        if remaining == 0 {
+            return Kth::At { place: i, sizes: z };
         }
+        i = past(i, z);
+        remaining -= 1;
     }
+    Kth::Absent
 }
 
 // Returns the field of these sizes at a place.

@@ -16,10 +16,8 @@ use Rattle.tib_field.proofs.Marks.{mark-begins, begins-mark}
 use Rattle.tib_field.proofs.Choices.{passes, fails}
 use Rattle.tib_field.proofs.ReadingLaws.{not-accepted}
 use Rattle.tib_rv_field.specs.declared.Sizes.{Sizes}
-use Rattle.tib_rv_field.specs.declared.Step.{Step}
-use Rattle.tib_rv_field.specs.declared.Step.the-variants.{Done, Fault, Over, Into}
 use Rattle.tib_rv_field.specs.Layout.{Parts, octets, holder, magic, Fields, end, leaf, nested, joined, message, depth, Header, Allowed, Whole}
-use Rattle.tib_rv_field.specs.Reading.{nextField, lead, total, partsAt, Inner, nestedOf, afterStep, fieldsFrom, headerFault, messageFrom, reading}
+use Rattle.tib_rv_field.specs.Reading.{Step, Done, Fault, Over, Into, nextField, lead, total, partsAt, Inner, nestedOf, afterStep, fieldsFrom, headerFault, messageFrom, reading}
 use Rattle.tib_rv_field.specs.internal.Sizes.{sizes}
 use Rattle.tib_rv_field.proofs.Steps.{Found, Held, Counted, step-found, step-holder, step-of-leaf, step-of-held, step-of-end, parts-of-field, rest-of-field}
 use Rattle.tib_rv_field.proofs.WrongFields.{step-done}

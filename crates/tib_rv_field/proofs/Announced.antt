@@ -5,9 +5,8 @@ use mathlib.Core.List.{List}
 use lib.ListN.{length, take}
 use Rattle.octets.specs.Number.{bigEndian}
 use Rattle.tib_rv_field.specs.declared.Sizes.{Sizes}
-use Rattle.tib_rv_field.specs.declared.Step.the-variants.{Into}
 use Rattle.tib_rv_field.specs.Layout.{Parts, holder}
-use Rattle.tib_rv_field.specs.Reading.{nextField, partsAt}
+use Rattle.tib_rv_field.specs.Reading.{Into, nextField, partsAt}
 use Rattle.tib_rv_field.proofs.Steps.{Counted, step-holder, parts-of-field}
 
 module _ (s : List ℕ) (z : Sizes) (e : nextField s ≡ Into z) where

@@ -16,12 +16,10 @@ use Rattle.tib_field.specs.Mark.{begins}
 use Rattle.tib_field.proofs.Marks.{mark-begins, begins-mark}
 use Rattle.tib_field.proofs.ReadingLaws as reading-laws
 use Rattle.tib_rv_field.specs.declared.Sizes.{Sizes}
-use Rattle.tib_rv_field.specs.declared.Step.{Step}
-use Rattle.tib_rv_field.specs.declared.Step.the-variants.{Done, Fault, Over, Into}
 use Rattle.tib_rv_field.specs.Layout.{Parts, octets, holder, magic, Fields, leaf, message, depth, Header, Whole}
 use Rattle.tib_rv_field.specs.FirstFault.{WrongHeader, Opens, Holder, FaultIn, here, over, past, tooDeep, header, inside, FirstFault}
 use Rattle.tib_rv_field.specs.FirstFault as faults
-use Rattle.tib_rv_field.specs.Reading.{nextField, lead, total, partsAt, Inner, nestedOf, afterStep, fieldsFrom, headerFault, messageFrom, reading}
+use Rattle.tib_rv_field.specs.Reading.{Step, Done, Fault, Over, Into, nextField, lead, total, partsAt, Inner, nestedOf, afterStep, fieldsFrom, headerFault, messageFrom, reading}
 use Rattle.tib_rv_field.specs.internal.Sizes.{sizes}
 use Rattle.tib_rv_field.proofs.Steps.{Found, Held, Counted, step-found, step-holder, step-of-leaf, step-of-held, parts-of-field, rest-of-field, length-octets}
 use Rattle.tib_rv_field.proofs.Accepted.{GoodMessage, GoodHeader, leaf-parts, held-parts, header-good, good-header, field-size, message-counted, accepted-good, good-accepted, accepted-exactly}

@@ -4,17 +4,15 @@ use native.Mathlib.Omega.{arith}
 use mathlib.Core.Path.{_≡_, refl, _∙_}
 use mathlib.Core.Bool.{cond}
 use mathlib.Core.List.{List, [], _∷_}
-use lib.ListN.{length, getD, take, drop, length-drop}
+use lib.ListN.{length, getD, take, drop, length-drop, length-take}
 use lib.Seq.{length-take-le}
 use lib.Dec.{ltb}
 use borrow.Author.Tests.{lt-ltb, le-ltb, ne-eqb}
-use Rattle.octets.specs.Number.{bigEndian}
+use Rattle.octets.specs.Number.{Octets, bigEndian}
 use Rattle.octets.specs.internal.Bounded.{unsigned}
 use Rattle.octets.proofs.Slices.{length-zero, tail-part, front-part}
-use Rattle.octets.proofs.Number.{unsigned-is}
-use Rattle.tib_rv_field.specs.declared.Step.{Step}
-use Rattle.tib_rv_field.specs.declared.Step.the-variants.{Fault}
-use Rattle.tib_rv_field.specs.Reading.{following, counted, fromCount, fromSize, fromType}
+use Rattle.octets.proofs.Number.{unsigned-is, octets-part, number-below-most}
+use Rattle.tib_rv_field.specs.Reading.{Step, Fault, following, counted, fromCount, fromSize, fromType}
 
 pub size-none : (n c : ℕ) (s : List ℕ) → length s ≡ 0 → Fault 3 ≡ fromSize n c s
 unfolding fromSize
@@ -41,11 +39,10 @@ module _ (n c : ℕ) (s : List ℕ) (m : ℕ) (h : length s ≡ 0 → ⊥) (e : 
       rw (le-ltb 0x7a m (omega arith), ne-eqb m 0x79 (λ z. omega arith), ne-eqb m 0x7a (λ z. omega arith), le-ltb (length s - 1) 0 (omega arith), lt-ltb m 0x79 g, a) at
       (size-some n c s m h e)
 
-  pub size-long : (w : ℕ) (r : Step) → 0x79 ≤ m → m ≤ 0x7a → w ≡ following m → r ≡ long n c m w (take (length s - 1) (drop 1 s)) → r ≡ fromSize n c s
+  pub size-long : (w : ℕ) → 0x79 ≤ m → m ≤ 0x7a → w ≡ following m → long n c m w (take (length s - 1) (drop 1 s)) ≡ fromSize n c s
   unfolding counted
-  size-long w r g low f q =
-      q
-      ∙ rw (tail-part s 1, length-drop 1 s, f)
+  size-long w g low f =
+      rw (tail-part s 1, length-drop 1 s, f)
       (rw (le-ltb 0x7a m low, le-ltb m 0x79 g) at (size-some n c s m h e))
 
 pub follows-79 : (m : ℕ) → m ≡ 0x79 → 2 ≡ following m
@@ -66,6 +63,14 @@ module _ (n c m w : ℕ) (s : List ℕ) where
       let d = length-take-le w s g in
       let a : k ≡ bigEndian (take w s) = r ∙ rw (front-part s w) (unsigned-is (take w s) (omega arith)) in
       rw (le-ltb (length s) w g, a)
+
+-- The value of a size's octets is small.
+pub long-small : (w : ℕ) (s : List ℕ) → Octets s → w ≤ 4 → (k : ℕ) → k ≡ unsigned (take (w - 0) (drop 0 s)) → k < 4294967296
+long-small w s o few k r =
+    let a = length-take w s in
+    let b = number-below-most (take (w - 0) (drop 0 s)) 4 (octets-part (w - 0) 0 s o) (rw (front-part s w) (omega arith)) in
+    let c : k ≡ bigEndian (take (w - 0) (drop 0 s)) = r ∙ unsigned-is (take (w - 0) (drop 0 s)) (rw (front-part s w) (omega arith)) in
+    omega arith
 
 pub type-cut : (n : ℕ) (s : List ℕ) → length s ≡ 0 → Fault 3 ≡ fromType n s
 unfolding fromType

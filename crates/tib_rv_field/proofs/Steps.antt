@@ -13,10 +13,8 @@ use Rattle.tib_field.specs.Name.{Name, nameStep, afterName}
 use Rattle.tib_field.proofs.Choices.{passes, fails}
 use Rattle.tib_field.proofs.NameSteps.{next-of-name, AfterName, name-found}
 use Rattle.tib_rv_field.specs.declared.Sizes.{Sizes}
-use Rattle.tib_rv_field.specs.declared.Step.{Step}
-use Rattle.tib_rv_field.specs.declared.Step.the-variants.{Done, Fault, Over, Into}
 use Rattle.tib_rv_field.specs.Layout.{Parts, octets, Leaf, holder}
-use Rattle.tib_rv_field.specs.Reading.{following, own, counted, countAllowed, found, fromCount, fromSize, fromType, nextField, lead, total, partsAt}
+use Rattle.tib_rv_field.specs.Reading.{Step, Done, Fault, Over, Into, following, own, counted, countAllowed, found, fromCount, fromSize, fromType, nextField, lead, total, partsAt}
 use Rattle.tib_rv_field.specs.internal.Sizes.{sizes}
 use Rattle.tib_rv_field.proofs.Counts.{size-found, announced, good-count, plain-count}
 
@@ -102,6 +100,33 @@ module _ (q : Step) (fine : Finds q) where
   name-tested : (s : List ℕ) → nextField s ≡ q → AfterName Done Fault fromType s q
   unfolding nextField Finds
   name-tested s e = name-found Done Fault fromType s q (λ f. subst Finds (sym f) fine) no-fault e
+
+  -- The octets of a field that a step finds, up to its size.
+  pub record Read (s : List ℕ) : Type 0 where
+    pub name : List ℕ
+    pub octet : ℕ
+    pub marker : ℕ
+    pub tail : List ℕ
+    pub divides : s ≡ length name ∷ (name ++ (octet ∷ (marker ∷ tail)))
+    pub wide : following marker ≤ length tail
+    pub enough : own marker ≤ counted marker tail
+    pub same : found (length name) octet marker (counted marker tail) ≡ q
+
+  pub step-read : (s : List ℕ) → nextField s ≡ q → Read s
+  step-read s e =
+      let n = name-tested s e in
+      let y = type-tested (length (n .name)) (n .rest) (n .same) in
+      let t = y .3 in
+      record {
+        name = n .name;
+        octet = y .0;
+        marker = t .marker;
+        tail = t .tail;
+        divides = n .divides ∙ ap (λ (x : List ℕ). length (n .name) ∷ (n .name ++ x)) (y .2 ∙ ap (λ (x : List ℕ). y .0 ∷ x) (t .divides));
+        wide = t .wide;
+        enough = good-count (y .0) (t .marker) (counted (t .marker) (t .tail)) (t .count) .enough;
+        same = t .same;
+      }
 
 found-over : (n c m k : ℕ) (z : Sizes) → found n c m k ≡ Over z
     → (c ≡ 1 → ⊥) × (record { name = n; octet = c; width = 1 + following m; contents = k - own m } ≡ z)

@@ -15,12 +15,10 @@ use Rattle.tib_field.proofs.Marks.{mark-begins, begins-mark}
 use Rattle.tib_field.proofs.Choices.{either}
 use Rattle.tib_field.proofs.NameSteps.{next-done}
 use Rattle.tib_field.proofs.WrongNames.{name-told, name-wrong}
-use Rattle.tib_rv_field.specs.declared.Step.{Step}
-use Rattle.tib_rv_field.specs.declared.Step.the-variants.{Done, Fault, Over, Into}
 use Rattle.tib_rv_field.specs.Layout.{Size, magic}
 use Rattle.tib_rv_field.specs.FirstFault as faults
 use Rattle.tib_rv_field.specs.FirstFault.{SizeOctets, one, two, four, Announces, WrongSize, WrongType, WrongField, WrongHeader}
-use Rattle.tib_rv_field.specs.Reading.{following, own, counted, countAllowed, found, fromCount, fromSize, fromType, nextField, headerFault}
+use Rattle.tib_rv_field.specs.Reading.{Step, Done, Fault, Over, Into, following, own, counted, countAllowed, found, fromCount, fromSize, fromType, nextField, headerFault}
 use Rattle.tib_rv_field.proofs.Counts.{Form, short, middle, long, form, following-short, size-found, announced, good-count}
 
 -- The octets of a size by its marker.

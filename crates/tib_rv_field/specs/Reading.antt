@@ -11,9 +11,14 @@ use Rattle.reading.specs.Refusals as refusals
 use Rattle.tib_field.specs.Mark.{begins}
 use Rattle.tib_field.specs.Name.{nameStep, afterName}
 use Rattle.tib_rv_field.specs.declared.Sizes.{Sizes}
-use Rattle.tib_rv_field.specs.declared.Step.{Step}
-use Rattle.tib_rv_field.specs.declared.Step.the-variants.{Done, Fault, Over, Into}
 use Rattle.tib_rv_field.specs.Layout.{Parts, magic, Fields, end, leaf, nested}
+
+-- What is found where a field may begin: the end of the message, a bad field with its refusal, a field, or a field that holds a message.
+pub data Step : Type 0 where
+  Done : Step
+  Fault : ℕ → Step
+  Over : Sizes → Step
+  Into : Sizes → Step
 
 -- How many octets of a size follow its first octet.
 unfoldable pub following : ℕ → ℕ

@@ -1,6 +1,7 @@
 -- `tib_rv::field` meets its contract.
 use mathlib.Core.Path.{sym, _∙_}
 use native.Mathlib.Omega.{arith}
+use Rattle.tib_field.specs.Refused.{refusedField}
 use Rattle.tib_field.proofs.ReadingLaws.{verdict-accepted, field-refused}
 use Rattle.tib_rv_field.specs.Layout.{depth}
 use Rattle.tib_rv_field.specs.Reading.{reading}
@@ -49,7 +50,7 @@ unfolding field
 returns c =
     let r = c .before .before .before .before in
     let a = r .before .before .args in
-    c .refused-field .ensures ∙ field-refused count depth shown places (a .k) (reading (a .message .now)) _ _ (sym (r .read .ensures) ∙ c .before .before .refusal .given .1)
+    c .refused-field .ensures ∙ field-refused count depth refusedField shown places (a .k) (reading (a .message .now)) _ _ (sym (r .read .ensures) ∙ c .before .before .refusal .given .1)
 
 returns-2 : tie.Need-returns-2
 returns-2 c =

@@ -1,8 +1,9 @@
 -- `tib_rv_field::from_count` meets its contract.
 use borrow.Author.Tests.{lt-ltb, le-ltb, not-true, not-false}
 use mathlib.Core.Path.{sym, _∙_}
-use Rattle.tib_rv_field.specs.Reading.{own, found, fromCount}
 use native.Mathlib.Omega.{arith}
+use Rattle.tib_rv_field.specs.Reading.{own, fromCount}
+use Rattle.tib_rv_field.specs.internal.Numbers.{numberOf}
 use Rattle.tib_rv_field.proofs.Counts.{good-count}
 use borrow.Author.Needs.{needs}
 use Rattle.tib_rv_field.proofs.from_count.Statement.{statement}
@@ -12,7 +13,7 @@ count-allowed-requires : tie.Need-count-allowed-requires
 count-allowed-requires c κs = search needs
 
 returns : tie.Need-returns
-unfolding fromCount
+unfolding fromCount numberOf
 returns c = rw (sym (c .before .count-allowed .ensures) ∙ not-true _ (c .if1 .taken))
 
 own-requires : tie.Need-own-requires
@@ -20,16 +21,20 @@ own-requires c κs = search needs
 
 sub-if2 : tie.Need-sub-if2
 sub-if2 c =
-    let g = good-count (c .before .before .before .args .c) (c .before .before .before .args .m) (c .before .before .before .args .k) (sym (c .before .before .count-allowed .ensures) ∙ not-false _ (c .before .if1 .left)) .enough in
+    let a = c .before .before .before .args in
+    let g = good-count (a .c) (a .m) (a .k) (sym (c .before .before .count-allowed .ensures) ∙ not-false _ (c .before .if1 .left)) .enough in
     let e = c .own .ensures in
     omega arith
 
 returns-2 : tie.Need-returns-2
-unfolding fromCount
+unfolding fromCount numberOf
 returns-2 c = rw ((sym (c .before .before .before .count-allowed .ensures) ∙ not-false _ (c .before .before .if1 .left)), ← c .before .own .ensures, lt-ltb _ _ (c .if2 .taken))
 
 found-requires : tie.Need-found-requires
-found-requires c κs = good-count (c .before .before .before .before .args .c) (c .before .before .before .before .args .m) (c .before .before .before .before .args .k) (sym (c .before .before .before .count-allowed .ensures) ∙ not-false _ (c .before .before .if1 .left)) .enough
+found-requires c κs =
+    let b = c .before .before .before .before in
+    let a = b .args in
+    (good-count (a .c) (a .m) (a .k) (sym (c .before .before .before .count-allowed .ensures) ∙ not-false _ (c .before .before .if1 .left)) .enough, b .pre)
 
 returns-3 : tie.Need-returns-3
 unfolding fromCount

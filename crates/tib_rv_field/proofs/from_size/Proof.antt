@@ -1,13 +1,15 @@
 -- `tib_rv_field::from_size` meets its contract.
-use mathlib.Core.Path.{_∙_}
+use mathlib.Core.Path.{ap, _∙_}
 use borrow.Author.Needs.{needs}
 use native.Mathlib.Omega.{arith}
+use Rattle.tib_rv_field.specs.internal.Numbers.{numberOf}
 use Rattle.tib_rv_field.proofs.StepTests.{size-none, marker-bad, size-short, size-long, follows-79, follows-7a}
 use Rattle.tib_rv_field.proofs.from_size.Statement.{statement}
 use Rattle.tib_rv_field.proofs.from_size.Tie as tie
 
 returns : tie.Need-returns
-returns c = let a = c .before .before .args in size-none (a .n) (a .c) (a .s .now) (c .if1 .taken)
+unfolding numberOf
+returns c = let a = c .before .before .args in ap numberOf (size-none (a .n) (a .c) (a .s .now) (c .if1 .taken))
 
 shared-slice-read-wide : tie.Need-shared-slice-read-wide
 shared-slice-read-wide c = search needs
@@ -25,7 +27,7 @@ returns-2 : tie.Need-returns-2
 returns-2 c =
     let w = c .before .before in
     let a = w .before .before .before .before .args in
-    c .from-count .ensures ∙ size-short (a .n) (a .c) (a .s .now) (w .wide .result) (w .before .before .if1 .left) (w .wide .ensures) (c .before .if2 .taken)
+    c .from-count .ensures ∙ ap numberOf (size-short (a .n) (a .c) (a .s .now) (w .wide .result) (w .before .before .if1 .left) (w .wide .ensures) (c .before .if2 .taken))
 
 sub-from-long : tie.Need-sub-from-long
 sub-from-long c = search needs
@@ -44,7 +46,7 @@ returns-3 c =
     let w = c .before .before .before .before in
     let a = w .before .before .before .before .args in
     let t = c .before .before in
-    size-long (a .n) (a .c) (a .s .now) (w .wide .result) (w .before .before .if1 .left) (w .wide .ensures) 2 _ (t .before .if2 .left) (omega (arith, t .if3 .taken)) (follows-79 _ (t .if3 .taken)) (c .from-long .ensures)
+    c .from-long .ensures ∙ ap numberOf (size-long (a .n) (a .c) (a .s .now) (w .wide .result) (w .before .before .if1 .left) (w .wide .ensures) 2 (t .before .if2 .left) (omega (arith, t .if3 .taken)) (follows-79 _ (t .if3 .taken)))
 
 sub-from-long-2 : tie.Need-sub-from-long-2
 sub-from-long-2 c = search needs
@@ -63,13 +65,14 @@ returns-4 c =
     let w = c .before .before .before .before .before in
     let a = w .before .before .before .before .args in
     let t = c .before .before in
-    size-long (a .n) (a .c) (a .s .now) (w .wide .result) (w .before .before .if1 .left) (w .wide .ensures) 4 _ (t .before .before .if2 .left) (omega (arith, t .if4 .taken)) (follows-7a _ (t .if4 .taken)) (c .from-long2 .ensures)
+    c .from-long2 .ensures ∙ ap numberOf (size-long (a .n) (a .c) (a .s .now) (w .wide .result) (w .before .before .if1 .left) (w .wide .ensures) 4 (t .before .before .if2 .left) (omega (arith, t .if4 .taken)) (follows-7a _ (t .if4 .taken)))
 
 returns-5 : tie.Need-returns-5
+unfolding numberOf
 returns-5 c =
     let w = c .before .before .before in
     let a = w .before .before .before .before .args in
-    marker-bad (a .n) (a .c) (a .s .now) (w .wide .result) (w .before .before .if1 .left) (w .wide .ensures) (omega (arith, c .if4 .left, c .before .if3 .left, c .before .before .if2 .left))
+    ap numberOf (marker-bad (a .n) (a .c) (a .s .now) (w .wide .result) (w .before .before .if1 .left) (w .wide .ensures) (omega (arith, c .if4 .left, c .before .if3 .left, c .before .before .if2 .left)))
 
 pub from-size-spec : {M : Type 1} → statement M
 from-size-spec =

@@ -1,12 +1,14 @@
 -- `tib_rv_field::from_type` meets its contract.
-use mathlib.Core.Path.{_∙_}
+use mathlib.Core.Path.{ap, _∙_}
+use Rattle.tib_rv_field.specs.internal.Numbers.{numberOf}
 use Rattle.tib_rv_field.proofs.StepTests.{type-cut, type-whole}
 use borrow.Author.Needs.{needs}
 use Rattle.tib_rv_field.proofs.from_type.Statement.{statement}
 use Rattle.tib_rv_field.proofs.from_type.Tie as tie
 
 returns : tie.Need-returns
-returns c = type-cut (c .before .before .args .n) (c .before .before .args .s .now) (c .if1 .taken)
+unfolding numberOf
+returns c = ap numberOf (type-cut (c .before .before .args .n) (c .before .before .args .s .now) (c .if1 .taken))
 
 shared-slice-read-from-size : tie.Need-shared-slice-read-from-size
 shared-slice-read-from-size c = search needs
@@ -24,7 +26,7 @@ from-size-requires : tie.Need-from-size-requires
 from-size-requires c κs = search needs
 
 returns-2 : tie.Need-returns-2
-returns-2 c = c .from-size .ensures ∙ type-whole (c .before .before .before .before .before .args .n) (c .before .before .before .before .before .args .s .now) (c .before .before .before .if1 .left)
+returns-2 c = c .from-size .ensures ∙ ap numberOf (type-whole (c .before .before .before .before .before .args .n) (c .before .before .before .before .before .args .s .now) (c .before .before .before .if1 .left))
 
 pub from-type-spec : {M : Type 1} → statement M
 from-type-spec =

@@ -1,27 +1,30 @@
--- `tib_rv_field::next_field` meets its contract.
-use mathlib.Core.Path.{_∙_}
-use borrow.Author.Needs.{needs}
+-- `tib_rv_field::field_octets` meets its contract.
 use native.Mathlib.Omega.{arith}
-use Rattle.tib_field.proofs.Names.{name-step-none, name-step-refused, name-step-sized, sized-inside}
+use mathlib.Core.Path.{ap, _∙_}
+use Rattle.tib_field.proofs.Names.{name-step-none, name-step-refused, name-step-sized, sized-inside, name-fault-few}
 use Rattle.tib_field.proofs.NameSteps.{next-of-end, next-of-fault, next-of-sized}
-use Rattle.tib_rv_field.specs.Reading.{fromType, nextField}
-use Rattle.tib_rv_field.specs.declared.Step.the-variants.{Done, Fault}
-use Rattle.tib_rv_field.proofs.next_field.Statement.{statement}
-use Rattle.tib_rv_field.proofs.next_field.Tie as tie
+use Rattle.tib_rv_field.specs.Reading.{Done, Fault, fromType, nextField}
+use Rattle.tib_rv_field.specs.internal.Numbers.{numberOf}
+use borrow.Author.Needs.{needs}
+use Rattle.tib_rv_field.proofs.field_octets.Statement.{statement}
+use Rattle.tib_rv_field.proofs.field_octets.Tie as tie
 
 returns : tie.Need-returns
-unfolding nextField
-returns c = let s = c .before .before .args .s .now in next-of-end Done Fault fromType s (name-step-none s (c .if1 .taken))
+unfolding nextField numberOf
+returns c = let s = c .before .before .args .s .now in ap numberOf (next-of-end Done Fault fromType s (name-step-none s (c .if1 .taken)))
 
 name-fault-requires : tie.Need-name-fault-requires
 name-fault-requires c κs = search needs
 
+add-result : tie.Need-add-result
+add-result c = let f = c .before in let n = f .name-fault .ensures in omega (arith, name-fault-few (f .before .before .before .args .s .now))
+
 returns-2 : tie.Need-returns-2
-unfolding nextField
+unfolding nextField numberOf
 returns-2 c =
     let f = c .before in
     let s = f .before .before .before .args .s .now in
-    next-of-fault Done Fault fromType s _ (name-step-refused s _ (f .name-fault .ensures) (c .if2 .taken))
+    ap numberOf (next-of-fault Done Fault fromType s _ (name-step-refused s _ (f .name-fault .ensures) (c .if2 .taken)))
 
 shared-slice-read-wide : tie.Need-shared-slice-read-wide
 shared-slice-read-wide c = search needs
@@ -51,7 +54,11 @@ part-from-type-end : tie.Need-part-from-type-end
 part-from-type-end c = search needs
 
 from-type-requires : tie.Need-from-type-requires
-from-type-requires c κs = search needs
+from-type-requires c κs =
+    let w = c .before in
+    let x = w .before .shared-slice-known2 .given 0 .fits in
+    let e = w .wide .ensures in
+    omega arith
 
 returns-3 : tie.Need-returns-3
 unfolding nextField
@@ -60,14 +67,15 @@ returns-3 c =
     let f = w .before .before .before in
     let s = f .before .before .before .args .s .now in
     c .from-type .ensures
-    ∙ next-of-sized Done Fault fromType s _ (name-step-sized s (w .wide .result) (f .name-fault .result) (f .before .if1 .left) (f .name-fault .ensures) (w .before .before .if2 .left) (w .wide .ensures))
+    ∙ ap numberOf (next-of-sized Done Fault fromType s _ (name-step-sized s (w .wide .result) (f .name-fault .result) (f .before .if1 .left) (f .name-fault .ensures) (w .before .before .if2 .left) (w .wide .ensures)))
 
-pub next-field-spec : {M : Type 1} → statement M
-next-field-spec =
+pub field-octets-spec : {M : Type 1} → statement M
+field-octets-spec =
     tie.close
     (tie.spec
     returns
     name-fault-requires
+    add-result
     returns-2
     shared-slice-read-wide
     wide-requires
