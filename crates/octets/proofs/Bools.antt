@@ -1,6 +1,6 @@
 -- Laws of Boolean tests that this crate and its users share.
 use mathlib.Core.Path.{_≡_, refl, sym, _∙_}
-use mathlib.Core.Bool.{Bool, true, false, _&&_, _||_, true≢false, false≢true}
+use mathlib.Core.Bool.{Bool, true, false, not, _&&_, _||_, true≢false, false≢true}
 use Prim.Native.Nat.{ℕ}
 use lib.Dec.{eqb}
 use borrow.Author.Tests.{eqb-true, eq-eqb}
@@ -53,6 +53,13 @@ or-first a b p = rw p refl
 pub or-second : (a b : Bool) → b ≡ true → a || b ≡ true
 or-second true b p = refl
 or-second false b p = p
+
+-- One test more that is to fail, taken with the tests before it or with those after it.
+pub neither-moves : (a b c d : Bool) → not (a || b) && (c && not d) ≡ not a && c && not (b || d)
+neither-moves true b c d = refl
+neither-moves false true true d = refl
+neither-moves false true false d = refl
+neither-moves false false c d = refl
 
 -- Two tests are equal if each implies the other.
 pub same-test : (a b : Bool) → (a ≡ true → b ≡ true) → (b ≡ true → a ≡ true) → a ≡ b

@@ -9,7 +9,7 @@ use lib.Dec.{eqb}
 use borrow.Author.Tests.{eq-eqb, not-true}
 use Rattle.table.specs.Load.{pair, seen}
 use Rattle.table.specs.Repeat.{distinct}
-use Rattle.octets.proofs.Bools.{and-left, and-right, or-first, or-second, eqb-swap}
+use Rattle.octets.proofs.Bools.{and-left, and-right, or-first, or-second, eqb-swap, neither-moves}
 
 -- ---- a pair that is seen
 
@@ -36,13 +36,7 @@ unfolding distinct seen
 distinct-more [] w = refl
 distinct-more (x ∷ ws) w =
     rw (seen-append (pair x) ws (w ∷ []), seen-one (pair x) w, eqb-swap (pair w) (pair x), distinct-more ws w)
-    (go (seen (pair x) ws) (eqb (pair x) (pair w)) (distinct ws) (seen (pair w) ws))
-  where
-    go : (a b c d : Bool) → not (a || b) && (c && not d) ≡ not a && c && not (b || d)
-    go true b c d = refl
-    go false true true d = refl
-    go false true false d = refl
-    go false false c d = refl
+    (neither-moves (seen (pair x) ws) (eqb (pair x) (pair w)) (distinct ws) (seen (pair w) ws))
 
 pub distinct-snoc : (ws : List ℕ) (w : ℕ) → distinct ws ≡ true → seen (pair w) ws ≡ false → distinct (ws ++ (w ∷ [])) ≡ true
 distinct-snoc ws w e h = distinct-more ws w ∙ rw (e, h) refl

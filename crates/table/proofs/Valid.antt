@@ -30,7 +30,7 @@ range-snoc (x ∷ ws) w e h =
     let b = allInRange ws in
     and-both a (allInRange (ws ++ (w ∷ []))) (and-left a b e) (range-snoc ws w (and-right a b e) h)
 
-zeros : (n : ℕ) → allZero (replicate n 0) ≡ true
+pub zeros : (n : ℕ) → allZero (replicate n 0) ≡ true
 unfolding allZero
 zeros zero = refl
 zeros (suc n) = zeros n
@@ -97,7 +97,7 @@ range-at [] i e h = absurd (omega arith)
 range-at (w ∷ ws) zero e h = and-left (inRange (entry w)) (allInRange ws) e
 range-at (w ∷ ws) (suc i) e h = range-at ws i (and-right (inRange (entry w)) (allInRange ws) e) (omega arith)
 
-zeros-are : (l : List ℕ) → allZero l ≡ true → l ≡ replicate (length l) 0
+pub zeros-are : (l : List ℕ) → allZero l ≡ true → l ≡ replicate (length l) 0
 unfolding allZero
 zeros-are [] e = refl
 zeros-are (x ∷ l) e =

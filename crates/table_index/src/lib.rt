@@ -222,7 +222,7 @@ fn index_words(words: &[u64], count: usize, revision: u64, cells: &mut [u32; 128
 }
 
 // Returns whether the words from n on are all 0. The loop has no test inside, so the compiler can vectorize it.
-fn unused(words: &[u64], n: usize) -> bool
+pub fn unused(words: &[u64], n: usize) -> bool
     ensures { λ r. ⌜ r ≡ allZero (drop n (now (words .entry))) ⌝ }
 {
     let mut bits: u64 = 0;
