@@ -1,0 +1,10 @@
+pub mod TraverseLoop
+pub mod Kths
+pub mod Noted
+pub mod Calls
+pub mod Shows
+pub mod Checks
+pub mod Faults
+pub mod Places
+pub mod Samples
+pub mod Answers

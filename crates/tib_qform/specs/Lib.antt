@@ -1,0 +1,5 @@
+pub mod CheckAndField
+pub mod Answers
+pub mod KthTold
+pub mod Samples
+pub mod internal
