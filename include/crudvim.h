@@ -1,4 +1,4 @@
-/* Crudvim: reading, shortening and framing of hproto messages; reading of TibMsg and TibrvMsg messages.
+/* Crudvim: reading, shortening and framing of hproto messages; reading of TibMsg, TibrvMsg and QForm messages.
  *
  * Every entry takes every input. It returns 0 where the call is accepted, and else the number of the refusal. A refusal sets
  * *place to where the fault is, sets every other result to 0, and leaves every octet of a buffer that it was lent. An accepted call
@@ -41,6 +41,7 @@ extern "C" {
 #define CRUDVIM_TYPE_SIZE_OR_HINT 16u
 #define CRUDVIM_NOT_IN_FRACTIONS 17u
 #define CRUDVIM_ABSENT 18u
+#define CRUDVIM_NOT_IN_DICTIONARY 19u
 #define CRUDVIM_REPEATED 20u
 
 /* What a refusal number means, for people. */
@@ -49,7 +50,7 @@ static inline const char *crudvim_refusal_text(uint64_t refusal)
     switch (refusal) {
     case CRUDVIM_ACCEPTED: return "accepted";
     case CRUDVIM_TOO_LONG: return "longer than the limit";
-    case CRUDVIM_TABLE: return "bad field table, revision or message number";
+    case CRUDVIM_TABLE: return "bad field table, dictionary, revision or message number";
     case CRUDVIM_CUT: return "ends inside a control part, header, name, size or hint";
     case CRUDVIM_PAST_THE_END: return "contents go past the end of the message around them";
     case CRUDVIM_TOO_DEEP: return "nested more than 8 deep";
@@ -60,12 +61,13 @@ static inline const char *crudvim_refusal_text(uint64_t refusal)
     case CRUDVIM_STATE: return "bad writer state or another buffer";
     case CRUDVIM_NOTHING_OPEN: return "close with nothing open";
     case CRUDVIM_STILL_OPEN: return "finish with a field still open";
-    case CRUDVIM_MAGIC: return "bad Tib magic number or version";
+    case CRUDVIM_MAGIC: return "bad magic number or version";
     case CRUDVIM_SIZE: return "announced size is not the buffer's";
     case CRUDVIM_NAME: return "malformed name";
-    case CRUDVIM_TYPE_SIZE_OR_HINT: return "bad type, size or hint";
+    case CRUDVIM_TYPE_SIZE_OR_HINT: return "bad type, size, hint or flag";
     case CRUDVIM_NOT_IN_FRACTIONS: return "real not readable in fractions";
     case CRUDVIM_ABSENT: return "no such occurrence";
+    case CRUDVIM_NOT_IN_DICTIONARY: return "fid not in the dictionary";
     case CRUDVIM_REPEATED: return "repeat of a single field";
     default: return "unknown refusal number";
     }
@@ -133,8 +135,30 @@ uint64_t crudvim_tibrv_check(const uint8_t *message, size_t message_len, uint64_
 uint64_t crudvim_tibrv_field(const uint8_t *message, size_t message_len, uint64_t k, uint64_t *place, uint64_t *name_start,
                              uint64_t *name_length, uint64_t *type, uint64_t *data_start, uint64_t *data_length);
 
+/* A dictionary of QForm is a sequence of at most 512 records. A record is 02, the length 5 on two octets, and an entry: fid (two octets, at
+ * most 16383), type (one octet, at most 21) and size of the data (two octets; 0 is allowed). All numbers are big-endian. No fid stands
+ * twice, and the size of type 15 is 9.
+ *
+ * A QForm message is 11 11 11 12, the count of the octets that follow the header on four octets, and fields. A field is a FID on two
+ * octets and data of the size that the dictionary has for it. Both top bits of a FID are set, and the other 14 are the fid. Data of odd
+ * size are followed by one octet of any value, also at the end of the message. It is no part of the data. */
+
+/* Checks a QForm message under a dictionary. *fields is the count of its fields; *depth is 1. Refusals, in this order: 1 at 0 for a
+ * message over 65536 octets; 2 at the faulty record of the dictionary; 3, 13 and 14 at 0 for the header; then the first fault of a
+ * field, at the field's first octet: 3 where only one octet is left for a FID, 16 where its top bits are not both set, 19 where the dictionary
+ * does not have the fid, 4 where data or the octet after them are missing. */
+uint64_t crudvim_qform_check(const uint8_t *dictionary, size_t dictionary_len, const uint8_t *message, size_t message_len,
+                             uint64_t *place, uint64_t *fields, uint64_t *depth);
+
+/* Reads the k-th field, from 0, of a QForm message, after the whole message is checked. *type and *data_length are those of the
+ * dictionary, and the data stand at *data_start. There are no hints. The precision of a price (type 15) is the last octet of its data.
+ * Refusals: the check's, then 18 at 0. */
+uint64_t crudvim_qform_field(const uint8_t *dictionary, size_t dictionary_len, const uint8_t *message, size_t message_len, uint64_t k,
+                             uint64_t *place, uint64_t *fid, uint64_t *type, uint64_t *data_start, uint64_t *data_length);
+
 /* Reads a real, given by its 64 bits and its hint, in fractions: *whole is the real times 2 to the power of the hint. Refused with
- * 17 at 0 where there is no hint (hinted is 0; any other number means that there is one) or it is not from 1 to 8, or the product is not whole or not below 2^53 in size. */
+ * 17 at 0 where there is no hint (hinted is 0; any other number means that there is one) or it is not from 1 to 8, or the product is
+ * not whole or not below 2^53 in size. */
 uint64_t crudvim_fractions(uint64_t real_bits, uint64_t hinted, uint64_t hint, uint64_t *place, int64_t *whole);
 
 #ifdef __cplusplus

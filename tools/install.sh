@@ -12,8 +12,8 @@ cp include/crudvim.h "$prefix/include/crudvim.h"
 cat > "$prefix/lib/pkgconfig/crudvim.pc" <<END
 prefix=$prefix
 Name: crudvim
-Description: hproto, TibMsg and TibrvMsg messages: check, shorten, frame, read
-Version: 3.0.0
+Description: hproto, TibMsg, TibrvMsg and QForm messages: check, shorten, frame, read
+Version: 3.1.0
 Cflags: -I\${prefix}/include
 Libs: -L\${prefix}/lib -lcrudvim
 END

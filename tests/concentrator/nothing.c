@@ -13,6 +13,9 @@ static void expect(const char *what, uint64_t got, uint64_t wanted)
     }
 }
 
+/* A QForm message without fields. */
+static const uint8_t qform[] = {0x11, 0x11, 0x11, 0x12, 0, 0, 0, 0};
+
 int main(void)
 {
     uint64_t a = 99, b = 99, c = 99, d = 99, e = 99, f = 99, g = 99, h = 99, i = 99, j = 99;
@@ -46,5 +49,18 @@ int main(void)
     expect("tibmsg field bits", j, 0);
     expect("tibrv check", crudvim_tibrv_check(NULL, 0, &a, &b, &c), CRUDVIM_CUT);
     expect("tibrv field", crudvim_tibrv_field(NULL, 0, 0, &a, &b, &c, &d, &e, &f), CRUDVIM_CUT);
+    a = b = c = 99;
+    expect("qform check", crudvim_qform_check(NULL, 0, NULL, 0, &a, &b, &c), CRUDVIM_CUT);
+    expect("qform check: its results", a | b | c, 0);
+    a = b = c = 99;
+    expect("qform check with no dictionary", crudvim_qform_check(NULL, 0, qform, 8, &a, &b, &c), CRUDVIM_ACCEPTED);
+    expect("qform check with no dictionary: place and fields", a | b, 0);
+    expect("qform check with no dictionary: depth", c, 1);
+    a = b = c = d = e = 99;
+    expect("qform field", crudvim_qform_field(NULL, 0, qform, 8, 0, &a, &b, &c, &d, &e), CRUDVIM_ABSENT);
+    expect("qform field: its results", a | b | c | d | e, 0);
+    a = b = c = d = e = 99;
+    expect("qform field of nothing", crudvim_qform_field((const uint8_t *)"\2", 1, NULL, 0, 0, &a, &b, &c, &d, &e), CRUDVIM_TABLE);
+    expect("qform field of nothing: its results", a | b | c | d | e, 0);
     return failed;
 }

@@ -62,7 +62,7 @@ gcc -std=c99 -Wall -Wextra -Werror -pedantic -I"$work/usr/include" "$work/readme
 gcc -std=c99 -Wall -Wextra -Werror -pedantic -O0 -g -I"$work/usr/include" $here/nothing.c -L"$work/usr/lib" -lcrudvim -o "$work/nothing"
 valgrind -q --error-exitcode=1 "$work/nothing"
 
-# The stack that each entry takes.
+# The stack that each entry takes, and at most may take; those for QForm have cells of 32 KiB.
 gcc -std=gnu99 -Wall -Wextra -Werror -O2 -pthread -I"$work/usr/include" $here/stack.c -L"$work/usr/lib" -lcrudvim -o "$work/stack"
-"$work/stack" 6144
+"$work/stack" 6144 36864
 echo "concentrator: the example and calls with nothing gave what was expected"

@@ -6,6 +6,7 @@ ghost use Rattle.message_calls.specs.Calls.{checkOctets, shortOctets, shortenOc
 ghost use Rattle.message_frame.specs.Frame.{frameRead, frameWritten, frameStored};
 ghost use Rattle.tib_msg.specs.CheckAndField.{check as tibmsg-check, field as tibmsg-field};
 ghost use Rattle.tib_rv.specs.CheckAndField.{check as tibrv-check, field as tibrv-field};
+ghost use Rattle.tib_qform.specs.CheckAndField.{checkOctets as qform-check, fieldOctets as qform-field};
 ghost use Rattle.tib_real.specs.FromOctets.{withBits};
 ghost use Rattle.tib_real.specs.InFractions.{fractionsOf};
 ghost use Rattle.crudvim.specs.Fields.{flag as flag-of, flagged, parts, hint as hint-of};
@@ -241,6 +242,47 @@ pub extern "C" fn crudvim_tibrv_field(
     *data_start = outer.data_place;
     *data_length = outer.data_length;
     outer.refusal
+}
+
+// Checks a QForm message under a dictionary.
+#[no_mangle]
+pub extern "C" fn crudvim_qform_check(
+    dictionary: &[u8],
+    message: &[u8],
+    place: &mut u64,
+    fields: &mut u64,
+    depth: &mut u64,
+) -> u64
+    ensures { λ r. ⌜ qform-check (now (dictionary .entry)) (now (message .entry)) ≡ record { refusal = r; place = now (place .exit); fields = now (fields .exit); depth = now (depth .exit) } ⌝ }
+{
+    let qform = tib_qform::check(dictionary, message);
+    *place = qform.place;
+    *fields = qform.fields;
+    *depth = qform.depth;
+    qform.refusal
+}
+
+// Returns the k-th field, from 0, of a QForm message under a dictionary.
+#[no_mangle]
+pub extern "C" fn crudvim_qform_field(
+    dictionary: &[u8],
+    message: &[u8],
+    k: u64,
+    place: &mut u64,
+    fid: &mut u64,
+    kind: &mut u64,
+    data_start: &mut u64,
+    data_length: &mut u64,
+) -> u64
+    ensures { λ r. ⌜ qform-field (now (dictionary .entry)) (now (message .entry)) k ≡ record { refusal = r; place = now (place .exit); fid = now (fid .exit); kind = now (kind .exit); «data_place» = now («data_start» .exit); «data_length» = now («data_length» .exit) } ⌝ }
+{
+    let kth = tib_qform::field(dictionary, message, k);
+    *place = kth.place;
+    *fid = kth.fid;
+    *kind = kth.kind;
+    *data_start = kth.data_place;
+    *data_length = kth.data_length;
+    kth.refusal
 }
 
 // Reads a real in fractions. The real is passed by its bits; `hinted` is 0 if it has no hint.
