@@ -41,6 +41,8 @@ use Rattle.tib_real.specs.Widened as wide
 use Rattle.tib_real.specs.FromOctets as fromOctets
 use Rattle.tib_real.specs.InFractions as inFractions
 use Rattle.tib_field.specs.Mark as marks
+use Rattle.tib_field.specs.Header as headers
+use Rattle.tib_field.specs.Steps as steps
 use Rattle.tib_field.specs.Name as names
 use Rattle.tib_field.specs.Fields as fields
 use Rattle.tib_field.specs.Kth as kths
@@ -50,6 +52,11 @@ use Rattle.tib_msg.specs.CheckAndField as msg
 use Rattle.tib_rv_field.specs.Layout as rvLayout
 use Rattle.tib_rv_field.specs.Reading as rvReading
 use Rattle.tib_rv.specs.CheckAndField as rv
+use Rattle.tib_dictionary.specs.Entry as dictionaries
+use Rattle.tib_dictionary.specs.Load as dictionaryLoads
+use Rattle.tib_qform_field.specs.Layout as qformLayout
+use Rattle.tib_qform_field.specs.Reading as qformReading
+use Rattle.tib_qform.specs.CheckAndField as qforms
 use Rattle.wrong_programs.specs.Kinds as kinds
 use Rattle.wrong_programs.specs.Load as load
 use Rattle.wrong_programs.specs.Check as check
@@ -61,6 +68,7 @@ use Rattle.wrong_programs.specs.Show as show
 use Rattle.wrong_programs.specs.Valid as valid
 use Rattle.wrong_programs.specs.Writer as writing
 use Rattle.wrong_programs.specs.Tib as tibs
+use Rattle.wrong_programs.specs.Qform as qformCalls
 use Rattle.wrong_programs.specs.Reals as reals
 
 unfoldable pub hproto : Type 0
@@ -96,11 +104,11 @@ writer = Unit {0}
 
 unfoldable pub tib : Type 0
 unfolding kinds.always kinds.below kinds.octets kinds.word tibs.check tibs.fieldFits tibs.field reals.realFits reals.real reals.fractionsFits
-    reals.fractions onAccepted inOrder octets.bigEndian answers.counts answers.refusal marks.begins names.nameStep names.named names.closes
+    reals.fractions onAccepted inOrder octets.bigEndian answers.counts answers.refusal marks.begins headers.headerOctets headers.headerFault
+    headers.afterHeader headers.readingOf names.nameStep names.named names.closes
     names.afterName fields.placed kths.fieldOf kths.fieldOrAbsent msgLayout.kind msgLayout.hinted msgLayout.sizeWidth msgLayout.isWidth
     msgLayout.sizeAllowed msgLayout.octets msgReading.typeAllowed msgReading.hintAt msgReading.readHint msgReading.valueHint msgReading.withHint
-    msgReading.fromData msgReading.fromSize msgReading.fromType msgReading.nextField msgReading.total msgReading.partsAt msgReading.afterStep
-    msgReading.fieldsFrom msgReading.reading msg.check msg.depth msg.field msg.places msg.shown msg.hintValue msg.realShown rvLayout.depth
+    msgReading.fromData msgReading.fromSize msgReading.fromType msgReading.nextField msgReading.total msgReading.partsAt steps.afterStep steps.fieldsBy msgReading.reading msg.check steps.flatDepth msg.field msg.places msg.shown msg.hintValue msg.realShown rvLayout.depth
     rvLayout.octets rvReading.following rvReading.own rvReading.counted rvReading.countAllowed rvReading.found rvReading.fromCount
     rvReading.fromSize rvReading.fromType rvReading.nextField rvReading.lead rvReading.total rvReading.partsAt rvReading.nestedOf
     rvReading.afterStep rvReading.fieldsFrom rvReading.headerFault rvReading.messageFrom rvReading.reading rv.check rv.count rv.field rv.places
@@ -108,3 +116,15 @@ unfolding kinds.always kinds.below kinds.octets kinds.word tibs.check tibs.field
     inFractions.accepted inFractions.inFractions inFractions.fractionsOf parts.negative parts.exponent parts.fraction parts.finite parts.significand
     parts.units wide.packed wide.widened
 tib = Unit {0}
+
+unfoldable pub qform : Type 0
+unfolding kinds.always kinds.below kinds.octets kinds.word qformCalls.load qformCalls.checkFits qformCalls.check qformCalls.fieldFits
+    qformCalls.field onAccepted octets.bigEndian answers.counts answers.refusal marks.begins headers.headerOctets headers.headerFault
+    headers.afterHeader headers.readingOf fields.placed kths.fieldOf kths.fieldOrAbsent dictionaries.inRange dictionaries.has dictionaries.find
+    dictionaries.orZeros dictionaries.entryWith dictionaries.wordOf dictionaryLoads.formed dictionaryLoads.entryOf dictionaryLoads.continues
+    dictionaryLoads.loadFrom dictionaryLoads.loading dictionaryLoads.dictionaryOf dictionaryLoads.accepted dictionaryLoads.refused
+    dictionaryLoads.result dictionaryLoads.load qformLayout.flagged qformLayout.fid qformLayout.octets qformLayout.fidOf qformReading.dataOctets
+    qformReading.fromData qformReading.nextField qformReading.total qformReading.partsAt steps.afterStep steps.fieldsBy
+    qformReading.reading steps.flatDepth qforms.check qforms.shownBy qforms.shown qforms.places qforms.field qforms.afterLoading qforms.underDictionary
+    qforms.checkOctets qforms.fieldOctets
+qform = Unit {0}

@@ -18,6 +18,11 @@ pub mod TableValues
 pub mod TibMessages
 pub mod TibCheck
 pub mod TibField
+pub mod QformMessages
+pub mod QformLoad
+pub mod QformCheck
+pub mod QformField
+pub mod QformValues
 pub mod Reals
 pub mod Fractions
 pub mod WriterStates

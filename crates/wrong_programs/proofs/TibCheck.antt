@@ -51,6 +51,11 @@ cut-inside : Sample (check tibrv)
 unfolding tib cut-name
 cut-inside = given (message tibrv (holder (cut-name tibrv))) (answers.refusal 3 19) tt refl
 
+-- TibMsg: a type octet with the bit 20 set.
+pub bit-20 : Sample (check tibmsg)
+unfolding tib message
+bit-20 = given (message tibmsg (0 ∷ 0x22 ∷ 0 ∷ [])) (answers.refusal 16 9) tt refl
+
 abbrev refusal : Checked → ℕ
 refusal c = c .refusal
 
@@ -104,6 +109,11 @@ module _ (f : Format) where
 pub depth-not-1 : (d : MessageCall → ℕ) → ((x : MessageCall) → d x ≡ 1 → ⊥) → RuledOut (Invents depth d (accepts-it tibmsg)) (check tibmsg)
 unfolding one
 depth-not-1 d other = invents depth d (accepts-it tibmsg) (one tibmsg) refl (λ (e : 1 ≡ d (one tibmsg .call)). other (one tibmsg .call) (sym e))
+
+-- A type octet of a TibMsg with the bit 20 set is accepted.
+pub bit-20-accepted : RuledOut (Accepts refusal (λ (x : MessageCall). x ≡ bit-20 .call)) (check tibmsg)
+unfolding bit-20
+bit-20-accepted = accepts refusal (λ (x : MessageCall). x ≡ bit-20 .call) bit-20 refl (eqb-false 16 0 refl)
 
 -- It rejects the messages that have one field, which holds a message.
 abbrev holds-one : MessageCall → Type 0

@@ -1,4 +1,4 @@
--- Messages of both Tib formats, of few octets.
+-- Messages of TibMsg and TibrvMsg, of few octets.
 use Prim.Native.Nat.{ℕ, suc, _+_}
 use mathlib.Core.List.{List, [], _∷_, _++_}
 use mathlib.Core.Path.{_≡_}

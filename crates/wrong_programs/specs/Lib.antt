@@ -10,5 +10,6 @@ pub mod Show
 pub mod Valid
 pub mod TableValues
 pub mod Tib
+pub mod Qform
 pub mod Reals
 pub mod Writer

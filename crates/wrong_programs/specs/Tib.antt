@@ -1,4 +1,4 @@
--- The arguments of the calls of the Tib readers, and the answers that their contracts fix, for both formats.
+-- The arguments of the calls of the readers of TibMsg and TibrvMsg, and the answers that their contracts fix.
 use Prim.Native.Nat.{ℕ}
 use mathlib.Core.Bool.{Bool, _&&_}
 use mathlib.Core.List.{List}
