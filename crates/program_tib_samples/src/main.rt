@@ -1,7 +1,10 @@
-// Runs the readers of the Tib formats on the messages of standard input, one to a line. A line says what to do (m and r: check a TibMsg
-// and a TibrvMsg message and show their fields; M and R: ask for the field whose number is the count of fields), then has the octets of
-// the message, and a label. program_lines describes the form of a line. A line that starts with # is ignored.
+// Runs the readers of the Tib formats and of QForm on the messages of standard input, one to a line. A line says what to do (m, r and q:
+// check a TibMsg, a TibrvMsg or a QForm message and show its fields; M, R and Q: ask for the field whose number is the count of fields),
+// then has the octets of the message, and a label. For QForm the octets of the dictionary stand before those of the message. l is as q, with
+// the dictionary loaded first, and shows only the first field. program_lines describes the form of a line. A line that starts with # is
+// ignored. Samples that no line can express run after the last line.
 mod print;
+mod qform;
 
 // Checks a TibMsg message and shows its fields, the reals read in fractions too.
 fn msg(s: &[u8]) {
@@ -57,12 +60,16 @@ fn rv_none(s: &[u8]) {
     program_lines::refusal(f.refusal, f.place);
 }
 
-fn run(what: u8, s: &[u8]) {
+// Runs a line with two words of octets; only the calls for QForm look at the second.
+fn run(what: u8, first: &[u8], second: &[u8]) {
     match what {
-        b'm' => msg(s),
-        b'M' => msg_none(s),
-        b'r' => rv(s),
-        b'R' => rv_none(s),
+        b'm' => msg(first),
+        b'M' => msg_none(first),
+        b'r' => rv(first),
+        b'R' => rv_none(first),
+        b'q' => qform::fields(first, second),
+        b'Q' => qform::none(first, second),
+        b'l' => qform::loaded(first, second),
         _ => program_lines::text(b"not a line"),
     }
 }
@@ -71,10 +78,16 @@ fn sample(line: &[u8]) {
     if line.len() == 0 || line[0] == b'#' {
         return;
     }
-    let mut space = [0u8; 65546];
-    let n = program_lines::octets_in(program_lines::word(line, 1), &mut space);
+    let mut first = [0u8; 65546];
+    let mut second = [0u8; 65546];
+    let m = program_lines::octets_in(program_lines::word(line, 1), &mut first);
+    let n = program_lines::octets_in(program_lines::word(line, 2), &mut second);
     program_lines::label(line);
-    run(line[0], program_lines::front(&space, n));
+    run(
+        line[0],
+        program_lines::front(&first, m),
+        program_lines::front(&second, n),
+    );
     program_lines::text(b"\n");
 }
 
@@ -88,7 +101,8 @@ fn samples(s: &[u8]) {
 }
 
 fn main() {
-    let mut input = [0u8; 16384];
+    let mut input = [0u8; 65536];
     let n = io::read_full(0, &mut input);
     samples(&input[..n]);
+    qform::values();
 }
