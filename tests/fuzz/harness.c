@@ -1,9 +1,9 @@
 /* Calls one entry of the library on one input and looks at what must hold of every answer.
  *
  * An input is: entry (1 octet), revision (2), number (2), first word (2), second word (2), table length (2), table, and the rest is the
- * message. All are big-endian. The entries are numbered as in the enum below. The words are the tag and k of lookup, k of a Tib field,
- * hinted and the hint of fractions (whose real is the first eight octets of the message); for the entries that write, the second word is
- * the room: from ff00 on the message's length and so many octets more. An input that is too short is filled up with zeros. The table's
+ * message. All are big-endian. The entries are numbered as in the enum below. For QForm the table is the dictionary. The words are the tag
+ * and k of lookup, k of a Tib or QForm field, hinted and the hint of fractions (whose real is the first eight octets of the message); for
+ * the entries that write, the second word is the room: from ff00 on the message's length and so many octets more. An input that is too short is filled up with zeros. The table's
  * records are as long as its octets say.
  *
  * Each call is made three times: with buffers of just their size from malloc, for AddressSanitizer; with buffers that end just
@@ -11,6 +11,7 @@
  * that was built without AddressSanitizer, too.
  *
  * The check's answers are also compared with those of bench/plain.c, a separate implementation, and with those under the other revision.
+ * So are both answers for QForm, refused or not, with those of bench/plain.c.
  *
  * Built with -fsanitize=fuzzer it is driven by libFuzzer. Built with -DSTANDALONE it runs the files that it is given, or its
  * standard input.
@@ -37,11 +38,13 @@ enum entry {
     TIBMSG_FIELD,
     TIBRV_CHECK,
     TIBRV_FIELD,
+    QFORM_CHECK,
+    QFORM_FIELD,
     FRACTIONS,
     ENTRIES
 };
 
-static const unsigned result_counts[ENTRIES] = {3, 1, 5, 5, 2, 1, 2, 9, 2, 5, 1};
+static const unsigned result_counts[ENTRIES] = {3, 1, 5, 5, 2, 1, 2, 9, 2, 5, 2, 4, 1};
 
 enum placement { EXACT, BEFORE_A_PAGE, AFTER_A_PAGE, PLACEMENTS };
 
@@ -175,6 +178,8 @@ static uint64_t call(const struct input *in, const uint8_t *t, const uint8_t *m,
         return crudvim_tibmsg_field(m, ml, in->first, p, r, r + 1, r + 2, r + 3, r + 4, r + 5, r + 6, r + 7, r + 8);
     case TIBRV_CHECK: return crudvim_tibrv_check(m, ml, p, r, r + 1);
     case TIBRV_FIELD: return crudvim_tibrv_field(m, ml, in->first, p, r, r + 1, r + 2, r + 3, r + 4);
+    case QFORM_CHECK: return crudvim_qform_check(t, tl, m, ml, p, r, r + 1);
+    case QFORM_FIELD: return crudvim_qform_field(t, tl, m, ml, in->first, p, r, r + 1, r + 2, r + 3);
     case FRACTIONS:
         for (size_t i = 0; i < 8; i++)
             bits = bits << 8 | (i < ml ? m[i] : 0);
@@ -200,6 +205,7 @@ static void check_answer(const struct input *in, const struct answer *answer, co
         HOLDS(answer->results[i] == 0);
     HOLDS(answer->place <= in->message_len || answer->refusal == CRUDVIM_TABLE);
     HOLDS(answer->refusal != CRUDVIM_REPEATED || in->revision == 2);
+    HOLDS(answer->refusal != CRUDVIM_NOT_IN_DICTIONARY || in->entry == QFORM_CHECK || in->entry == QFORM_FIELD);
 }
 
 /* Makes the call with buffers placed so, and puts what was written into `written` (of in->room octets). */
@@ -247,6 +253,19 @@ static void compare_with_plain(const struct input *in, const struct answer *answ
     HOLDS(answer->refusal == refusal && answer->place == place);
     HOLDS(answer->results[0] == fields && answer->results[1] == depth);
     HOLDS(answer->results[2] == shortest);
+}
+
+/* The plain implementation gives the same answer for QForm: to the check, and for the field that is asked for. */
+static void compare_qform_with_plain(const struct input *in, const struct answer *answer)
+{
+    struct answer plain = {0, 0, {0}};
+    uint64_t *r = plain.results;
+    if (in->entry == QFORM_CHECK)
+        plain.refusal = plain_qform_check(in->table, in->table_len, in->message, in->message_len, &plain.place, r, r + 1);
+    else
+        plain.refusal = plain_qform_field(in->table, in->table_len, in->message, in->message_len, in->first, &plain.place, r, r + 1,
+                                          r + 2, r + 3);
+    HOLDS(same_answer(answer, &plain, result_counts[in->entry]));
 }
 
 /* Under revision 1 the marks have no effect: the check gives the same answer, or one that refuses no earlier place where revision 2
@@ -415,6 +434,36 @@ static void after_tib_field(const struct input *in, const struct answer *answer)
     }
 }
 
+/* Every field of an accepted message can be asked for, and none after the last. Each begins where the one before it ends, and the last ends
+ * the message. */
+static void after_qform_check(const struct input *in, const struct answer *answer)
+{
+    struct input field = *in;
+    uint64_t end = 8;
+    HOLDS(answer->results[0] <= in->message_len / 2 && answer->results[1] == 1);
+    field.entry = QFORM_FIELD;
+    /* A message of many fields takes too long. */
+    for (field.first = 0; field.first < answer->results[0] && field.first < 64; field.first++) {
+        struct answer found = ask(&field, NULL);
+        HOLDS(found.refusal == CRUDVIM_ACCEPTED && found.results[2] == end + 2);
+        compare_qform_with_plain(&field, &found);
+        end = found.results[2] + found.results[3] + found.results[3] % 2;
+    }
+    HOLDS(field.first < answer->results[0] || end == in->message_len);
+    field.first = answer->results[0];
+    HOLDS(ask(&field, NULL).refusal == CRUDVIM_ABSENT);
+}
+
+/* The fid and its flags stand in the two octets before the data, and the type is one that a dictionary can have. */
+static void after_qform_field(const struct input *in, const struct answer *answer)
+{
+    const uint64_t *r = answer->results;
+    HOLDS(r[0] <= 16383 && r[1] <= 21);
+    HOLDS(r[2] >= 10 && r[2] <= in->message_len && r[3] + r[3] % 2 <= in->message_len - r[2]);
+    HOLDS(((uint64_t)in->message[r[2] - 2] << 8 | in->message[r[2] - 1]) == (0xc000 | r[0]));
+    HOLDS(r[1] != 15 || r[3] == 9);
+}
+
 static void after_fractions(const struct input *in, const struct answer *answer)
 {
     int64_t whole = (int64_t)answer->results[0];
@@ -441,6 +490,8 @@ static void after(const struct input *in, const struct answer *answer, const uin
     case TIBRV_CHECK: after_tib_check(in, answer); break;
     case TIBMSG_FIELD:
     case TIBRV_FIELD: after_tib_field(in, answer); break;
+    case QFORM_CHECK: after_qform_check(in, answer); break;
+    case QFORM_FIELD: after_qform_field(in, answer); break;
     case FRACTIONS: after_fractions(in, answer); break;
     default: abort();
     }
@@ -513,6 +564,8 @@ int LLVMFuzzerTestOneInput(const uint8_t *octets, size_t length)
         compare_with_plain(&in, &answer);
         compare_revisions(&in, &answer);
     }
+    if (in.entry == QFORM_CHECK || in.entry == QFORM_FIELD)
+        compare_qform_with_plain(&in, &answer);
     if (answer.refusal == CRUDVIM_ACCEPTED)
         after(&in, &answer, written);
     free(written);

@@ -2,7 +2,7 @@
 
 use crate::oracle::lookup::Found;
 use crate::oracle::tib::Span;
-use crate::oracle::{frame, lookup, message, real, shorten, show, tibmsg, tibrv, Refusal};
+use crate::oracle::{frame, lookup, message, qform, real, shorten, show, tibmsg, tibrv, Refusal};
 use std::fmt::Write;
 use std::rc::Rc;
 
@@ -14,6 +14,13 @@ pub struct Hproto {
     pub table: Octets,
     pub revision: u64,
     pub number: u64,
+    pub message: Octets,
+}
+
+/// The inputs that the QForm entries share.
+#[derive(Clone, Debug)]
+pub struct Qform {
+    pub dictionary: Octets,
     pub message: Octets,
 }
 
@@ -29,12 +36,14 @@ pub enum Call {
     TibmsgField { message: Octets, k: u64 },
     TibrvCheck { message: Octets },
     TibrvField { message: Octets, k: u64 },
+    QformCheck(Qform),
+    QformField { on: Qform, k: u64 },
     Fractions { bits: u64, hinted: u64, hint: u64 },
     Show { input: Octets },
 }
 
 /// The entries in the order of their numbers in the counts and in a fuzzer's inputs.
-pub const ENTRIES: [&str; 12] = [
+pub const ENTRIES: [&str; 14] = [
     "check",
     "shorten",
     "lookup",
@@ -45,6 +54,8 @@ pub const ENTRIES: [&str; 12] = [
     "tibmsg_field",
     "tibrv_check",
     "tibrv_field",
+    "qform_check",
+    "qform_field",
     "fractions",
     "show",
 ];
@@ -72,8 +83,10 @@ impl Call {
             Call::TibmsgField { .. } => 7,
             Call::TibrvCheck { .. } => 8,
             Call::TibrvField { .. } => 9,
-            Call::Fractions { .. } => 10,
-            Call::Show { .. } => 11,
+            Call::QformCheck(_) => 10,
+            Call::QformField { .. } => 11,
+            Call::Fractions { .. } => 12,
+            Call::Show { .. } => 13,
         }
     }
 
@@ -89,9 +102,10 @@ impl Call {
     pub fn result_count(&self) -> usize {
         match self {
             Call::Check(_) => 3,
-            Call::FrameRead { .. } | Call::TibmsgCheck { .. } | Call::TibrvCheck { .. } => 2,
+            Call::FrameRead { .. } | Call::TibmsgCheck { .. } | Call::TibrvCheck { .. } | Call::QformCheck(_) => 2,
             Call::Shorten { .. } | Call::FrameWrite { .. } | Call::Fractions { .. } => 1,
             Call::Lookup { .. } | Call::LookupLast { .. } | Call::TibrvField { .. } => 5,
+            Call::QformField { .. } => 4,
             Call::TibmsgField { .. } => 9,
             Call::Show { .. } => 0,
         }
@@ -129,6 +143,8 @@ impl Call {
             Call::TibmsgField { message, k } => tibmsg::kth(message, *k).map(tibmsg_field),
             Call::TibrvCheck { message } => tibrv::check(message).map(pair),
             Call::TibrvField { message, k } => tibrv::kth(message, *k).map(tibrv_field),
+            Call::QformCheck(on) => qform::check(&on.dictionary, &on.message).map(pair),
+            Call::QformField { on, k } => qform::kth(&on.dictionary, &on.message, *k).map(qform_field),
             Call::Fractions { bits, hinted, hint } => real::fractions(*bits, *hinted, *hint).map(|whole| vec![whole as u64]),
             Call::Shorten { .. } | Call::FrameWrite { .. } | Call::Show { .. } => {
                 unreachable!("these have octets to write")
@@ -156,7 +172,7 @@ impl Call {
             Call::Lookup { on, tag, k } => vec![("revision", on.revision), ("number", on.number), ("tag", *tag), ("k", *k)],
             Call::LookupLast { on, tag } => vec![("revision", on.revision), ("number", on.number), ("tag", *tag)],
             Call::FrameWrite { room, .. } => vec![("out_len", *room as u64)],
-            Call::TibmsgField { k, .. } | Call::TibrvField { k, .. } => vec![("k", *k)],
+            Call::TibmsgField { k, .. } | Call::TibrvField { k, .. } | Call::QformField { k, .. } => vec![("k", *k)],
             Call::Fractions { bits, hinted, hint } => {
                 vec![("real_bits", *bits), ("hinted", *hinted), ("hint", *hint)]
             }
@@ -169,6 +185,7 @@ impl Call {
             Call::Check(on) | Call::Shorten { on, .. } | Call::Lookup { on, .. } | Call::LookupLast { on, .. } => {
                 vec![("table", &on.table), ("message", &on.message)]
             }
+            Call::QformCheck(on) | Call::QformField { on, .. } => vec![("dictionary", &on.dictionary), ("message", &on.message)],
             Call::FrameRead { buffer } => vec![("buffer", buffer)],
             Call::FrameWrite { message, .. }
             | Call::TibmsgCheck { message }
@@ -214,6 +231,10 @@ fn tibmsg_field(field: tibmsg::Field) -> Vec<u64> {
 
 fn tibrv_field(field: tibrv::Field) -> Vec<u64> {
     parts(field.name, field.kind, field.data)
+}
+
+fn qform_field(field: qform::Field) -> Vec<u64> {
+    vec![u64::from(field.fid), u64::from(field.kind), field.data.start as u64, field.data.length as u64]
 }
 
 /// What both Tib entries answer of a field: where its name stands, its type, and where its data stand.

@@ -110,6 +110,27 @@ mod c {
             data_start: *mut u64,
             data_length: *mut u64,
         ) -> u64;
+        pub fn crudvim_qform_check(
+            dictionary: *const u8,
+            dictionary_len: usize,
+            message: *const u8,
+            message_len: usize,
+            place: *mut u64,
+            fields: *mut u64,
+            depth: *mut u64,
+        ) -> u64;
+        pub fn crudvim_qform_field(
+            dictionary: *const u8,
+            dictionary_len: usize,
+            message: *const u8,
+            message_len: usize,
+            k: u64,
+            place: *mut u64,
+            fid: *mut u64,
+            type_: *mut u64,
+            data_start: *mut u64,
+            data_length: *mut u64,
+        ) -> u64;
         pub fn crudvim_fractions(real_bits: u64, hinted: u64, hint: u64, place: *mut u64, whole: *mut i64) -> u64;
     }
 }
@@ -235,6 +256,7 @@ fn inputs(call: &Call) -> (Input<'_>, Input<'_>) {
         Call::Check(on) | Call::Shorten { on, .. } | Call::Lookup { on, .. } | Call::LookupLast { on, .. } => {
             (("table", &on.table), ("message", &on.message))
         }
+        Call::QformCheck(on) | Call::QformField { on, .. } => (("dictionary", &on.dictionary), ("message", &on.message)),
         Call::FrameRead { buffer } => (("buffer", buffer), none),
         Call::FrameWrite { message, .. }
         | Call::TibmsgCheck { message }
@@ -257,6 +279,8 @@ fn make(call: &Call, first: &mut Lent, second: &mut Lent, out: &mut Lent, result
         Call::TibmsgField { k, .. } => tibmsg_field(*k, first, results),
         Call::TibrvCheck { .. } => tibrv_check(first, results),
         Call::TibrvField { k, .. } => tibrv_field(*k, first, results),
+        Call::QformCheck(_) => qform_check(first, second, results),
+        Call::QformField { k, .. } => qform_field(*k, first, second, results),
         Call::Fractions { bits, hinted, hint } => fractions(*bits, *hinted, *hint, results),
         Call::Show { .. } => unreachable!("show is a program"),
     }
@@ -388,6 +412,31 @@ fn tibrv_field(k: u64, message: &mut Lent, results: &mut Results) -> u64 {
     let [place, name_start, name_length, type_, data_start, data_length] = results.pointers();
     unsafe {
         c::crudvim_tibrv_field(message.pointer(), message.length, k, place, name_start, name_length, type_, data_start, data_length)
+    }
+}
+
+fn qform_check(dictionary: &mut Lent, message: &mut Lent, results: &mut Results) -> u64 {
+    let [place, fields, depth] = results.pointers();
+    unsafe {
+        c::crudvim_qform_check(dictionary.pointer(), dictionary.length, message.pointer(), message.length, place, fields, depth)
+    }
+}
+
+fn qform_field(k: u64, dictionary: &mut Lent, message: &mut Lent, results: &mut Results) -> u64 {
+    let [place, fid, type_, data_start, data_length] = results.pointers();
+    unsafe {
+        c::crudvim_qform_field(
+            dictionary.pointer(),
+            dictionary.length,
+            message.pointer(),
+            message.length,
+            k,
+            place,
+            fid,
+            type_,
+            data_start,
+            data_length,
+        )
     }
 }
 

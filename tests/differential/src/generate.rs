@@ -5,10 +5,12 @@
 
 pub mod corpus;
 pub mod damage;
+pub mod dictionaries;
 pub mod exhaustive;
 pub mod forms;
 pub mod frames;
 pub mod hproto;
+pub mod qform;
 pub mod reals;
 pub mod repeats;
 pub mod samples;
@@ -56,10 +58,11 @@ pub fn fixed_cases() -> u64 {
 
 fn random(rng: &mut Rng) -> Vec<Call> {
     match rng.below(100) {
-        0..=54 => hproto::random(rng),
-        55..=62 => frames::random(rng),
-        63..=77 => tib::random_tibmsg(rng),
-        78..=91 => tib::random_tibrv(rng),
+        0..=49 => hproto::random(rng),
+        50..=57 => frames::random(rng),
+        58..=70 => tib::random_tibmsg(rng),
+        71..=82 => tib::random_tibrv(rng),
+        83..=92 => qform::random(rng),
         _ => reals::random(rng),
     }
 }

@@ -19,6 +19,10 @@ const PATHS: usize = 24;
 /// The check's number among the entries, and what is added to the depth of a short message for its kind of answer.
 const CHECK: usize = 0;
 const SHORT: usize = 9;
+/// Kinds of answers for a field of QForm whose type is not looked at: it has no data, or the message ends with its padding octet. The
+/// types are below these.
+const EMPTY: usize = 22;
+const PADDED_AT_THE_END: usize = 23;
 
 /// Counts per entry: of each refusal number, and of each kind of accepted answer.
 #[derive(Clone, Default)]
@@ -102,6 +106,11 @@ fn wanted(entry: &str) -> (&'static [usize], &'static [usize]) {
         }
         "tibrv_check" => (&[0, 1, 3, 4, 5, 13, 14, 15, 16], &[1, 2, 3, 4, 5, 6, 7, 8]),
         "tibrv_field" => (&[0, 1, 3, 4, 5, 13, 14, 15, 16, 18], &[0, 1, 3, 5]),
+        "qform_check" => (&[0, 1, 2, 3, 4, 13, 14, 16, 19], &[0, 1, 2]),
+        "qform_field" => (
+            &[0, 1, 2, 3, 4, 13, 14, 16, 18, 19],
+            &[0, 1, 2, 3, 4, 5, 6, 7, 8, 9, 10, 11, 12, 13, 14, 15, 16, 17, 18, 19, 20, 21, 22, 23],
+        ),
         "fractions" => (&[0, 17], &[0, 1, 2]),
         _ => (&[0, 1, 2, 3, 4, 5, 6, 7, 14, 20], &[]),
     }
@@ -117,11 +126,16 @@ fn path(call: &Call, outcome: &Outcome) -> usize {
         Call::Lookup { .. } | Call::LookupLast { .. } => results[0],
         Call::FrameRead { .. } => results[0],
         Call::FrameWrite { message, .. } => results[0] - message.len() as u64,
-        Call::TibmsgCheck { .. } => results[0].min(2),
+        Call::TibmsgCheck { .. } | Call::QformCheck(_) => results[0].min(2),
         Call::TibmsgField { .. } if results[2] == 7 && results[4] == 4 => 22,
         Call::TibmsgField { .. } => 2 * results[2] + results[5],
         Call::TibrvField { .. } if results[2] == 1 => 0,
         Call::TibrvField { .. } => results[3] - results[0] - results[1] - 1,
+        Call::QformField { .. } if results[3] == 0 => EMPTY as u64,
+        Call::QformField { on, .. } if results[2] + results[3] + 1 == on.message.len() as u64 && results[3] % 2 == 1 => {
+            PADDED_AT_THE_END as u64
+        }
+        Call::QformField { .. } => results[1],
         Call::Fractions { .. } => ((results[0] as i64).signum() + 1) as u64,
         Call::Show { .. } => 0,
     };
@@ -135,11 +149,14 @@ fn path_name(entry: usize, index: usize) -> String {
         "shorten" => ["same length", "shorter"][index].to_string(),
         "lookup" | "lookup_last" => ["raw", "uint", "int", "string", "text", "message"][index].to_string(),
         "frame_read" | "frame_write" => format!("prefix of {index}"),
-        "tibmsg_check" => ["no fields", "one field", "more fields"][index].to_string(),
+        "tibmsg_check" | "qform_check" => ["no fields", "one field", "more fields"][index].to_string(),
         "tibmsg_field" if index == 22 => "real of four octets".to_string(),
         "tibmsg_field" => format!("type {}{}", index / 2, ["", " hinted"][index % 2]),
         "tibrv_field" if index == 0 => "message".to_string(),
         "tibrv_field" => format!("size of {index}"),
+        "qform_field" if index == EMPTY => "no data".to_string(),
+        "qform_field" if index == PADDED_AT_THE_END => "padded at the end".to_string(),
+        "qform_field" => format!("type {index}"),
         "fractions" => ["below 0", "0", "above 0"][index].to_string(),
         _ => "shown".to_string(),
     }

@@ -2,6 +2,7 @@
 
 mod hproto;
 mod laws;
+mod qform;
 mod singles;
 mod tables;
 mod tib;

@@ -1,8 +1,9 @@
 //! Small inputs in full: every one of a family is a case of its own, whatever the seed.
 
+use super::samples::records;
 use super::samples::{entries, octets};
-use super::{forms, repeats, short_texts};
-use crate::call::{Call, Hproto};
+use super::{dictionaries, forms, qform, repeats, short_texts};
+use crate::call::{Call, Hproto, Qform};
 use std::sync::OnceLock;
 
 const TWO_OCTETS: u64 = 65_536;
@@ -11,7 +12,7 @@ const TEXTS: u64 = TEXT_LIMITS.pow(4);
 
 type Family = (u64, fn(u64) -> Vec<Call>);
 
-const FAMILIES: [Family; 16] = [
+const FAMILIES: [Family; 23] = [
     (1 + 256 + TWO_OCTETS, short_message),
     (repeats::FORM_PAIRS, repeated),
     (repeats::ORDERS, repeated_by_order),
@@ -28,6 +29,13 @@ const FAMILIES: [Family; 16] = [
     (12 * 256, changed_frame),
     (39 * 256, changed_tibmsg),
     (39 * 256, changed_tibrv),
+    (TWO_OCTETS, qform_fid),
+    (TWO_OCTETS, dictionary_fid),
+    (TWO_OCTETS, dictionary_type_and_size),
+    (dictionaries::FAULTS_AT, dictionary_fault),
+    (qform::CUTS, cut_qform),
+    (24 * 256, changed_dictionary),
+    (26 * 256, changed_qform),
 ];
 
 /// How many cases there are.
@@ -213,6 +221,58 @@ fn changed_tibmsg(number: u64) -> Vec<Call> {
 fn changed_tibrv(number: u64) -> Vec<Call> {
     let message = changed(TIBRV, number);
     vec![Call::TibrvCheck { message: message.clone() }, Call::TibrvField { message, k: 0 }]
+}
+
+fn qform_calls(dictionary: &[u8], message: &[u8], k: u64) -> Vec<Call> {
+    let on = Qform { dictionary: dictionary.into(), message: message.into() };
+    vec![Call::QformCheck(on.clone()), Call::QformField { on, k }]
+}
+
+/// A QForm message with each FID, behind a field and before octets for its data, under a full dictionary.
+fn qform_fid(number: u64) -> Vec<Call> {
+    static FULL: OnceLock<Vec<u8>> = OnceLock::new();
+    let dictionary = FULL.get_or_init(dictionaries::full);
+    let body = [&[0xc0, 0][..], &pair(number), &[0xc0; 8][..2 * (number % 5) as usize]].concat();
+    qform_calls(dictionary, &qform::message(&body), 1)
+}
+
+/// A dictionary with each fid in its two octets, and a message with the field of the same low 14 bits.
+fn dictionary_fid(number: u64) -> Vec<Call> {
+    let [high, low] = pair(number);
+    let dictionary = [&records("5 2 1")[..], &[2, 0, 5, high, low, 9, 0, 2]].concat();
+    qform_calls(&dictionary, &qform::message(&[high | 0xc0, low, 1, 2]), 0)
+}
+
+/// A dictionary with each type and each size below 256, and a message with one field of that size.
+fn dictionary_type_and_size(number: u64) -> Vec<Call> {
+    let [kind, size] = pair(number);
+    let body = [&[0xc0, 3][..], &vec![0x33; usize::from(size) + usize::from(size % 2)]].concat();
+    qform_calls(&[2, 0, 5, 0, 3, kind, 0, size], &qform::message(&body), 0)
+}
+
+/// A full dictionary with one fault, and a message with a field of the faulty record.
+fn dictionary_fault(number: u64) -> Vec<Call> {
+    let (dictionary, record) = dictionaries::fault_at(number);
+    let fid = dictionaries::full_fid(record as u16) | 0xc000;
+    let body = [&fid.to_be_bytes()[..], &[0; 8]].concat();
+    qform_calls(&dictionary, &qform::message(&body), 0)
+}
+
+/// Messages that end at each place of a field, of each of some sizes.
+fn cut_qform(number: u64) -> Vec<Call> {
+    let (dictionary, message) = qform::cut(number);
+    qform_calls(&dictionary, &message, 3)
+}
+
+const DICTIONARY: &str = "0200050001020003 0200053fff010004 02000500070f0009";
+const QFORM: &str = "11 11 11 12 00 00 00 12 c0 01 aa bb cc dd ff ff 01 02 03 04 c0 01 01 02 03 04";
+
+fn changed_dictionary(number: u64) -> Vec<Call> {
+    qform_calls(&changed(DICTIONARY, number), &octets(QFORM), 1)
+}
+
+fn changed_qform(number: u64) -> Vec<Call> {
+    qform_calls(&octets(DICTIONARY), &changed(QFORM, number), 2)
 }
 
 fn pair(number: u64) -> [u8; 2] {

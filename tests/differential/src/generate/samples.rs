@@ -1,7 +1,7 @@
 //! The worked samples of the documents and the fixed limits. What they have to answer is written by hand in the tests; here they
 //! are only inputs.
 
-use super::{frames, hproto, tib};
+use super::{dictionaries, frames, hproto, qform, tib};
 use crate::call::Call;
 use crate::rng::Rng;
 use std::sync::OnceLock;
@@ -12,6 +12,7 @@ pub enum Sample {
     FrameWrite(usize),
     Tibmsg(Vec<u8>),
     Tibrv(Vec<u8>),
+    Qform { dictionary: Vec<u8>, message: Vec<u8> },
     Fractions { bits: u64, hinted: u64, hint: u64 },
     Show(Vec<u8>),
 }
@@ -24,6 +25,7 @@ impl Sample {
             Sample::FrameWrite(size) => write_calls(rng, *size),
             Sample::Tibmsg(message) => tib::tibmsg_calls(rng, message),
             Sample::Tibrv(message) => tib::tibrv_calls(rng, message),
+            Sample::Qform { dictionary, message } => qform::calls(rng, dictionary, message),
             Sample::Fractions { bits, hinted, hint } => vec![Call::Fractions { bits: *bits, hinted: *hinted, hint: *hint }],
             Sample::Show(input) => vec![Call::Show { input: input[..].into() }],
         }
@@ -56,6 +58,11 @@ pub fn all() -> &'static [Sample] {
         samples.extend(TIBMSG.iter().map(|message| Sample::Tibmsg(octets(message))));
         samples.extend(TIBRV.iter().map(|message| Sample::Tibrv(octets(message))));
         samples.extend(depth_limits());
+        for (dictionary, message) in QFORM {
+            samples.push(Sample::Qform { dictionary: records(dictionary), message: octets(message) });
+        }
+        samples.extend(dictionary_limits());
+        samples.extend(qform_limits());
         samples.extend(FRACTIONS.iter().map(fraction_sample));
         samples.extend(SHOW.iter().map(|input| Sample::Show(octets(input))));
         samples
@@ -86,6 +93,19 @@ pub fn entries(text: &str) -> Vec<u8> {
         table.extend(mark.iter().map(|mark| *mark as u8));
     }
     table
+}
+
+/// Dictionary octets from "fid type size" records, all decimal, with commas between them.
+pub fn records(text: &str) -> Vec<u8> {
+    let mut dictionary = Vec::new();
+    for record in text.split(',').filter(|record| !record.trim().is_empty()) {
+        let parts: Vec<u16> = record.split_whitespace().map(|part| part.parse().expect("a number")).collect();
+        let [fid, kind, size] = parts[..] else {
+            panic!("three numbers in {record}");
+        };
+        dictionary.extend(dictionaries::record(fid, kind as u8, size));
+    }
+    dictionary
 }
 
 fn message_sample(table: &[u8], number: u64, message: &[u8]) -> Sample {
@@ -306,6 +326,66 @@ const TIBRV: &[&str] = &[
     "00 00 00 14 99 55 ee aa 00 01 7a 00 00 00 08 99 55 ee aa 00",
 ];
 
+/// Dictionary for the first listing of document 004, and for its message with an example of each type.
+pub const LISTING_DICTIONARY: &str = "4001 9 2, 4002 9 2, 4003 9 2, 4005 9 2";
+pub const LISTING: &str = "11 11 11 12 00 00 00 10 cf a1 00 01 cf a2 8b 4f cf a3 00 00 cf a5 00 00";
+pub const TYPES_DICTIONARY: &str = "2705 2 20, 10701 1 4, 10703 2 4, 10704 17 6, 10716 16 12, 10730 14 8, 10720 15 9, 10728 14 8";
+pub const TYPES: &str = "11 11 11 12 00 00 00 58 \
+    ca 91 41 42 43 2e 4e 00 00 00 00 00 00 00 00 00 00 00 00 00 00 00 \
+    e9 cd 00 00 00 40 \
+    e9 cf 4e 59 53 00 \
+    e9 d0 31 39 3a 33 33 00 \
+    e9 dc 31 38 20 4f 43 54 20 32 30 31 31 00 \
+    e9 ea 40 8f 40 00 00 00 00 00 \
+    e9 e0 3f f2 00 00 00 00 00 00 13 00 \
+    e9 e8 40 24 00 00 00 00 00 00";
+/// Two fids, one of odd size.
+const TRAPS: &str = "1 2 3, 2 1 4";
+
+/// Dictionaries and messages of QForm.
+const QFORM: &[(&str, &str)] = &[
+    (LISTING_DICTIONARY, LISTING),
+    (TYPES_DICTIONARY, TYPES),
+    ("", LISTING),
+    ("4001 9 2, 4002 9 2, 4005 9 2", LISTING),
+    ("4001 9 2, 4002 9 2, 4003 9 2, 4005 9 3", LISTING),
+    ("", ""),
+    ("", "11 11 11 12 00 00 00 00"),
+    ("", "11 11 11 12 00 00 00"),
+    ("", "11 11 11 13 00 00 00 00"),
+    ("", "11 11 11 13 00 00 00"),
+    ("", "11 11 11 12 00 00 00 01"),
+    ("", "11 11 11 13 00 00 00 01"),
+    ("", "11 11 11 12 00 00 00 08"),
+    ("", "11 11 11 12 00 00 00 00 00"),
+    ("", "11 11 11 12 ff ff ff f8"),
+    ("", "11 11 11 12 80 00 00 00"),
+    ("", "12 11 11 11 00 00 00 00"),
+    (TRAPS, "11 11 11 12 00 00 00 05 c0 01 aa bb cc"),
+    (TRAPS, "11 11 11 12 00 00 00 06 c0 01 aa bb cc 00"),
+    (TRAPS, "11 11 11 12 00 00 00 06 c0 01 aa bb cc dd"),
+    (TRAPS, "11 11 11 12 00 00 00 06 80 01 aa bb cc 00"),
+    (TRAPS, "11 11 11 12 00 00 00 06 40 01 aa bb cc 00"),
+    (TRAPS, "11 11 11 12 00 00 00 06 00 01 aa bb cc 00"),
+    (TRAPS, "11 11 11 12 00 00 00 02 80 01"),
+    (TRAPS, "11 11 11 12 00 00 00 02 80 03"),
+    (TRAPS, "11 11 11 12 00 00 00 02 c0 03"),
+    (TRAPS, "11 11 11 12 00 00 00 02 c0 01"),
+    (TRAPS, "11 11 11 12 00 00 00 01 c0"),
+    (TRAPS, "11 11 11 12 00 00 00 01 80"),
+    (TRAPS, "11 11 11 12 00 00 00 07 c0 01 aa bb cc dd c0"),
+    (TRAPS, "11 11 11 12 00 00 00 08 c0 01 aa bb cc dd c0 03"),
+    (TRAPS, "11 11 11 12 00 00 00 0c c0 01 aa bb cc c0 c0 02 01 02 03 04"),
+    (TRAPS, "11 11 11 12 00 00 00 0c c0 02 01 02 03 04 c0 01 aa bb cc 02"),
+    (TRAPS, "11 11 11 12 00 00 00 0b c0 02 01 02 03 04 c0 01 aa bb cc"),
+    (TRAPS, "11 11 11 12 00 00 00 0b c0 01 aa bb cc dd c0 02 01 02 03"),
+    ("0 0 0, 16383 21 0", "11 11 11 12 00 00 00 06 ff ff c0 00 ff ff"),
+    ("16383 2 65535", "11 11 11 12 00 00 00 04 ff ff 00 00"),
+    ("0 2 65534", "11 11 11 12 00 00 00 04 c0 00 00 00"),
+    ("7 15 9", "11 11 11 12 00 00 00 0c c0 07 3f f2 00 00 00 00 00 00 13 00"),
+    ("7 15 9", "11 11 11 12 00 00 00 0b c0 07 3f f2 00 00 00 00 00 00 13"),
+];
+
 const FRACTIONS: &[(u64, u64, u64)] = &[
     (0x400a_0000_0000_0000, 1, 2),
     (0x400a_0000_0000_0000, 1, 1),
@@ -462,6 +542,53 @@ fn large_field_with(tag: u8, contents: &[u8]) -> Vec<u8> {
     octets.extend((contents.len() as u32).to_be_bytes());
     octets.extend(contents);
     octets
+}
+
+/// Dictionaries of 511, 512 and 513 records, with octets behind them, and with faults that two rules refuse.
+fn dictionary_limits() -> Vec<Sample> {
+    let full = dictionaries::full();
+    let more = |record: &[u8]| [&full[..], record].concat();
+    let dictionaries = [
+        full[..full.len() - 8].to_vec(),
+        full.clone(),
+        more(&[2]),
+        more(&[0xff]),
+        more(&dictionaries::record(1, 2, 4)),
+        more(&dictionaries::record(0, 2, 4)),
+        full.repeat(8),
+        records("1 2 3, 2 1 4, 2 1 4, 1 2 3"),
+        records("1 2 3, 16384 1 4, 16384 1 4"),
+        records("5 15 8, 5 15 9"),
+        records("5 22 9, 16384 1 4"),
+        octets("01 00 05 00 00 01 01 00"),
+        octets("02 00 06 00 01 01 00 04 00"),
+    ];
+    let message = octets("11 11 11 12 00 00 00 02 c0 00");
+    dictionaries.into_iter().map(|dictionary| Sample::Qform { dictionary, message: message.clone() }).collect()
+}
+
+/// Messages around the limit of length, with good and with bad dictionaries; and dictionary and message in one buffer.
+fn qform_limits() -> Vec<Sample> {
+    let full_of = |length: usize| -> Vec<u8> { std::iter::repeat_n([0xc0, 7], length / 2).flatten().collect() };
+    let mut messages = vec![full_of(65_528), full_of(65_526), [full_of(65_528), vec![0xc0]].concat(), full_of(65_530)];
+    for size in [65_525u16, 65_526, 65_527, 65_528, 65_534, 65_535] {
+        for length in [65_524, 65_525, 65_526, 65_527, 65_528, 65_534, 65_535, 65_536] {
+            messages.push([&[0xc0, 9][..], &size.to_be_bytes(), &vec![0xc0; length - 2]].concat());
+        }
+    }
+    let mut samples = Vec::new();
+    for body in messages {
+        let size = u16::from_be_bytes([body[2], body[3]]);
+        let dictionary = [dictionaries::record(7, 0, 0), dictionaries::record(9, 2, size)].concat();
+        let message = qform::message(&body);
+        let bad = [&dictionary[..], &[2]].concat();
+        samples.push(Sample::Qform { dictionary: bad, message: message.clone() });
+        samples.push(Sample::Qform { dictionary, message });
+    }
+    for both in [octets("02 00 05 00 01 02 00 04"), octets("11 11 11 12 00 00 00 00")] {
+        samples.push(Sample::Qform { dictionary: both.clone(), message: both });
+    }
+    samples
 }
 
 fn frame_limits() -> Vec<Sample> {

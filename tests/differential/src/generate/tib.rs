@@ -71,7 +71,7 @@ pub fn tibrv_calls(rng: &mut Rng, message: &[u8]) -> Vec<Call> {
 }
 
 /// Every k of few fields and the first beyond them, or some of many.
-fn some_ks(rng: &mut Rng, fields: usize) -> Vec<u64> {
+pub(super) fn some_ks(rng: &mut Rng, fields: usize) -> Vec<u64> {
     let mut ks: Vec<u64> = match fields {
         0..=3 => (0..=fields as u64).collect(),
         _ => (0..3).map(|_| rng.below(fields) as u64).collect(),
@@ -82,7 +82,7 @@ fn some_ks(rng: &mut Rng, fields: usize) -> Vec<u64> {
     ks
 }
 
-fn field_count(rng: &mut Rng) -> usize {
+pub(super) fn field_count(rng: &mut Rng) -> usize {
     match rng.below(10) {
         0 => 0,
         1..=8 => rng.from_to(1, 4),
@@ -91,7 +91,7 @@ fn field_count(rng: &mut Rng) -> usize {
 }
 
 /// Now and then spoils the header or what it announces.
-fn damage_header(rng: &mut Rng, message: &mut Vec<u8>) {
+pub(super) fn damage_header(rng: &mut Rng, message: &mut Vec<u8>) {
     if !rng.chance(8) {
         return;
     }

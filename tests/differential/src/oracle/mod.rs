@@ -3,6 +3,7 @@
 pub mod frame;
 pub mod lookup;
 pub mod message;
+pub mod qform;
 pub mod real;
 pub mod shorten;
 pub mod show;
@@ -11,7 +12,7 @@ pub mod tib;
 pub mod tibmsg;
 pub mod tibrv;
 
-/// The most octets of a message, hproto or Tib.
+/// The most octets of a message, hproto, Tib or QForm.
 pub const MESSAGE_LIMIT: usize = 65_536;
 /// The most octets of the buffer that the frame reader takes.
 pub const FRAME_BUFFER_LIMIT: usize = 65_545;
@@ -32,6 +33,7 @@ pub const NAME: u64 = 15;
 pub const TYPE_SIZE_OR_HINT: u64 = 16;
 pub const NOT_IN_FRACTIONS: u64 = 17;
 pub const ABSENT: u64 = 18;
+pub const NOT_IN_DICTIONARY: u64 = 19;
 pub const REPEATED: u64 = 20;
 
 /// A refusal: its number and the place of the fault.
