@@ -9,7 +9,7 @@
  *   bench --count ROW SIDE [N]   call a row N times (100 if not said). ROW is as a-meter-table-6:check, SIDE is library or plain.
  *                                It is for counting instructions (counts.py), so it compares and times nothing
  *
- * Every call takes the table's octets, so loading the table is part of each of them, on both sides.
+ * Every call takes the octets of its table or dictionary, so loading it is part of each of them, on both sides.
  */
 #define _POSIX_C_SOURCE 200809L
 
@@ -23,18 +23,21 @@
 
 enum {
     LIMIT = 65536,
-    TABLE_ROOM = 65 * 9,
+    TABLE_ROOM = 513 * 8, /* a dictionary and a record more; a table needs less */
     REVISION = 2, /* of every row that does not say another */
     SAMPLES = 31,
     MAX_ROWS = 128,
     SLACK = 16,
     SMALL_FIELDS = 5,
     SMALL_FIELD_MOST = 6,
+    FIDS = 16384,
+    DICTIONARY_MOST = 512,
+    QFORM_FIELDS = 10, /* of a small message */
     UNSET = 77
 };
 
-enum call { CHECK, SHORTEN, TIBMSG, TIBRV };
-static const char *const call_names[] = {"check", "shorten", "tibmsg", "tibrv"};
+enum call { CHECK, SHORTEN, TIBMSG, TIBRV, QFORM, QFORM_FIELD };
+static const char *const call_names[] = {"check", "shorten", "tibmsg", "tibrv", "qform", "qfield"};
 
 enum kind { RAW, UINT, INT, STRING, TEXT, MESSAGE };
 
@@ -49,6 +52,7 @@ struct octets {
     size_t len;
 };
 
+/* For QForm the table is the dictionary, and the number is that of the field that is asked for. */
 struct row {
     char name[40];
     enum call call;
@@ -69,11 +73,14 @@ struct side {
                         uint64_t *);
     uint64_t (*tibmsg)(const uint8_t *, size_t, uint64_t *, uint64_t *, uint64_t *);
     uint64_t (*tibrv)(const uint8_t *, size_t, uint64_t *, uint64_t *, uint64_t *);
+    uint64_t (*qform)(const uint8_t *, size_t, const uint8_t *, size_t, uint64_t *, uint64_t *, uint64_t *);
+    uint64_t (*qform_field)(const uint8_t *, size_t, const uint8_t *, size_t, uint64_t, uint64_t *, uint64_t *, uint64_t *, uint64_t *,
+                            uint64_t *);
 };
 
 static const struct side sides[2] = {
-    {"library", crudvim_check, crudvim_shorten, crudvim_tibmsg_check, crudvim_tibrv_check},
-    {"plain", plain_check, plain_shorten, plain_tibmsg_check, plain_tibrv_check},
+    {"library", crudvim_check, crudvim_shorten, crudvim_tibmsg_check, crudvim_tibrv_check, crudvim_qform_check, crudvim_qform_field},
+    {"plain", plain_check, plain_shorten, plain_tibmsg_check, plain_tibrv_check, plain_qform_check, plain_qform_field},
 };
 
 struct answer {
@@ -82,6 +89,7 @@ struct answer {
     uint64_t first;
     uint64_t second;
     uint64_t shortest;
+    uint64_t data; /* of a QForm field: its start and its length in one number */
 };
 
 static struct row rows[MAX_ROWS];
@@ -590,6 +598,69 @@ static struct octets tibrv_one(size_t total)
     return message;
 }
 
+/* ---- QForm messages ---- */
+
+static void put_dictionary_record(struct octets *to, unsigned fid, unsigned type, unsigned size)
+{
+    put_number(to, 0x020005, 3);
+    put_number(to, fid, 2);
+    put_number(to, type, 1);
+    put_number(to, size, 2);
+}
+
+/* A dictionary of so many records, with fids from all of their range in no order, and sizes from 1 to 8. */
+static struct octets qform_dictionary(size_t records)
+{
+    static uint8_t used[FIDS];
+    struct octets dictionary = room(TABLE_ROOM);
+    memset(used, 0, sizeof used);
+    while (records > 0) {
+        unsigned fid = (unsigned)random_below(FIDS);
+        if (used[fid])
+            continue;
+        used[fid] = 1;
+        put_dictionary_record(&dictionary, fid, 2, 1 + (unsigned)random_below(8));
+        records--;
+    }
+    return dictionary;
+}
+
+static struct octets qform_start(void)
+{
+    struct octets message = room(LIMIT);
+    put_number(&message, 0x11111112, 4);
+    put_number(&message, 0, 4);
+    return message;
+}
+
+/* The field of a record, with its padding octet. */
+static void put_qform_field(struct octets *to, const uint8_t *record)
+{
+    size_t size = (size_t)record[6] << 8 | record[7];
+    put_number(to, 0xc000u | (unsigned)record[3] << 8 | record[4], 2);
+    put_number(to, random_bits(), size + size % 2);
+}
+
+/* Fields of fids that are drawn from the dictionary, until the message is full. */
+static struct octets qform_small(struct octets dictionary, size_t total)
+{
+    struct octets message = qform_start();
+    while (message.len + 10 <= total)
+        put_qform_field(&message, dictionary.data + 8 * random_below(dictionary.len / 8));
+    set_size(&message, 4, message.len - 8);
+    return message;
+}
+
+/* A field of each of the last records. */
+static struct octets qform_last(struct octets dictionary)
+{
+    struct octets message = qform_start();
+    for (size_t i = QFORM_FIELDS; i > 0; i--)
+        put_qform_field(&message, dictionary.data + dictionary.len - 8 * i);
+    set_size(&message, 4, message.len - 8);
+    return message;
+}
+
 /* ---- rows ---- */
 
 static void add(const char *name, enum form form, enum call call, struct octets table, uint64_t number, struct octets message,
@@ -735,6 +806,21 @@ static void add_tib_rows(void)
     add_tib("tibrv-one-64K", TIBRV, tibrv_one(LIMIT));
 }
 
+/* A large message and a small one under a dictionary of 512 records, and the small one under its own ten. The small one's fids stand last in
+ * the dictionary. A field is the last of its message. */
+static void add_qform_rows(void)
+{
+    struct octets full = qform_dictionary(DICTIONARY_MOST);
+    struct octets ten = room(TABLE_ROOM);
+    struct octets small = qform_last(full);
+    put(&ten, full.data + full.len - 8 * QFORM_FIELDS, 8 * QFORM_FIELDS);
+    add("qform-small-64K", SHORT, QFORM, full, 0, qform_small(full, LIMIT), 0);
+    add("qform-ten-fields-512", SHORT, QFORM, full, 0, small, 0);
+    add("qform-ten-fields-10", SHORT, QFORM, ten, 0, small, 0);
+    add("qform-ten-fields-512", SHORT, QFORM_FIELD, full, QFORM_FIELDS - 1, small, 0);
+    add("qform-ten-fields-10", SHORT, QFORM_FIELD, ten, QFORM_FIELDS - 1, small, 0);
+}
+
 /* Names that begin with `length-` or `depth-` are points of the curves. Each point starts with the same random state, so that its
  * fields are those of its neighbours but for the last ones. They have one number in a longer form, too. */
 static void add_curve_rows(struct octets kinds)
@@ -775,6 +861,7 @@ static void add_rows(void)
     add_text_rows(kinds);
     add_single_rows(kinds);
     add_tib_rows();
+    add_qform_rows();
     add_curve_rows(kinds);
 }
 
@@ -782,7 +869,8 @@ static void add_rows(void)
 
 static struct answer ask(const struct side *side, const struct row *row, uint8_t *out)
 {
-    struct answer answer = {UNSET, UNSET, UNSET, 0, UNSET};
+    struct answer answer = {UNSET, UNSET, UNSET, 0, UNSET, 0};
+    uint64_t start = UNSET, length = UNSET;
     const uint8_t *table = row->table.data;
     const uint8_t *message = row->message.data;
     size_t len = row->message.len;
@@ -797,6 +885,14 @@ static struct answer ask(const struct side *side, const struct row *row, uint8_t
         break;
     case TIBMSG: answer.refusal = side->tibmsg(message, len, &answer.place, &answer.first, &answer.second); break;
     case TIBRV: answer.refusal = side->tibrv(message, len, &answer.place, &answer.first, &answer.second); break;
+    case QFORM:
+        answer.refusal = side->qform(table, row->table.len, message, len, &answer.place, &answer.first, &answer.second);
+        break;
+    case QFORM_FIELD:
+        answer.refusal = side->qform_field(table, row->table.len, message, len, row->number, &answer.place, &answer.first,
+                                           &answer.second, &start, &length);
+        answer.data = start << 32 | length;
+        break;
     }
     return answer;
 }
@@ -827,9 +923,9 @@ static void show_difference(const struct row *row, const struct answer answers[2
            row->name, call_names[row->call], row->table.len, (unsigned long long)row->revision, (unsigned long long)row->number,
            row->message.len, row->out_len);
     for (int i = 0; i < 2; i++)
-        printf("  %-8s refusal %llu place %llu results %llu %llu shortest %llu\n", sides[i].name,
+        printf("  %-8s refusal %llu place %llu results %llu %llu shortest %llu data %llx\n", sides[i].name,
                (unsigned long long)answers[i].refusal, (unsigned long long)answers[i].place, (unsigned long long)answers[i].first,
-               (unsigned long long)answers[i].second, (unsigned long long)answers[i].shortest);
+               (unsigned long long)answers[i].second, (unsigned long long)answers[i].shortest, (unsigned long long)answers[i].data);
     printf("  table");
     for (size_t i = 0; i < row->table.len; i++)
         printf(" %02x", row->table.data[i]);
@@ -895,13 +991,15 @@ static void damage(struct octets *octets, size_t most)
     }
 }
 
-/* Puts the message's own length into a Tib header, so that damage behind it is looked at. */
+/* Puts the message's own length into a Tib or QForm header, so that damage behind it is looked at. */
 static void mend_header(struct row *row)
 {
     if (row->call == TIBMSG && row->message.len >= 9)
         set_size(&row->message, 5, row->message.len - 9);
     if (row->call == TIBRV && row->message.len >= 8)
         set_size(&row->message, 0, row->message.len);
+    if ((row->call == QFORM || row->call == QFORM_FIELD) && row->message.len >= 8)
+        set_size(&row->message, 4, row->message.len - 8);
 }
 
 /* Any revision, most often one of the two that there are. */
@@ -1072,6 +1170,7 @@ static void compare_small(size_t times)
     struct octets none = room(0);
     struct octets kinds = kinds_table(MANY);
     struct octets kinds_single = kinds_table(SINGLE);
+    struct octets dictionary = qform_dictionary(6);
     /* Some characters, and the first or last ones of four rows of the grammar of UTF-8. */
     const char *characters = "\xc3\xa9\xe2\x82\xac\xf0\x9f\x94\x8c\xe0\xa0\x80\xed\x9f\xbf\xf0\x90\x80\x80\xf4\x8f\xbf\xbf";
     struct row small[] = {
@@ -1085,6 +1184,8 @@ static void compare_small(size_t times)
         {.name = "tibrv-small", .call = TIBRV, .table = none, .message = tibrv_small(180, 1)},
         {.name = "tibrv-deep-small", .call = TIBRV, .table = none, .message = tibrv_small(480, 8)},
         {.name = "tibrv-too-deep-small", .call = TIBRV, .table = none, .message = tibrv_small(540, 9)},
+        {.name = "qform-small", .call = QFORM, .table = dictionary, .message = qform_small(dictionary, 60)},
+        {.name = "qform-one-field", .call = QFORM, .table = dictionary, .message = qform_small(dictionary, 18)},
     };
     for (size_t i = 0; i < sizeof small / sizeof small[0]; i++) {
         small[i].revision = REVISION;
@@ -1094,11 +1195,16 @@ static void compare_small(size_t times)
             small[i].call = SHORTEN;
             compare_damaged(&small[i], times);
         }
+        if (small[i].call == QFORM) {
+            small[i].call = QFORM_FIELD;
+            compare_damaged(&small[i], times);
+        }
         free(small[i].message.data);
     }
     free(none.data);
     free(kinds.data);
     free(kinds_single.data);
+    free(dictionary.data);
 }
 
 /* Compares the answers to every row. Stops at the first difference. */
@@ -1131,6 +1237,8 @@ static void compare_all(void)
         fail("all accepted messages are short, or none is");
     if (refused_with[CRUDVIM_REPEATED] == 0)
         fail("no message repeats a single field");
+    if (refused_with[CRUDVIM_NOT_IN_DICTIONARY] == 0)
+        fail("no message has a fid that its dictionary has not");
 }
 
 /* A row has to have the form that it says. If it had not, the shortener would copy where it should write, or the reverse. */
@@ -1153,6 +1261,8 @@ static void complete(struct row *row)
     }
     if (row->call == SHORTEN)
         asked.call = CHECK;
+    if (row->call == QFORM_FIELD)
+        asked.call = QFORM;
     struct answer answer = ask(&sides[1], &asked, out);
     row->fields = answer.first;
     if (asked.call == CHECK)

@@ -11,6 +11,8 @@ BEFORE, is the geometric mean of the eight; the least and the greatest are besid
 
 With --no-revision BEFORE is an archive from before the calls took a revision. It is called through functions that leave the revision out,
 which costs it about a dozen instructions a call. The rows whose table has records of length 6, which it would refuse, are left out.
+
+If BEFORE has no reader of QForm, it is lent that of AFTER, and the rows of QForm are left out.
 """
 import math
 import pathlib
@@ -19,7 +21,7 @@ import subprocess
 import sys
 import tempfile
 
-CALLS = ('check', 'shorten', 'tibmsg_check', 'tibrv_check')
+CALLS = ('check', 'shorten', 'tibmsg_check', 'tibrv_check', 'qform_check', 'qform_field')
 PLACEMENTS = 8
 WITHOUT_REVISION = '''
 #include "plain.h"
@@ -38,6 +40,23 @@ uint64_t plain_shorten(const uint8_t *table, size_t table_len, uint64_t revision
 {
     (void)revision;
     return old_shorten(table, table_len, number, message, message_len, out, out_len, place, length);
+}
+'''
+
+WITHOUT_QFORM = '''
+#include "crudvim.h"
+#include "plain.h"
+
+uint64_t plain_qform_check(const uint8_t *dictionary, size_t dictionary_len, const uint8_t *message, size_t message_len,
+                           uint64_t *place, uint64_t *fields, uint64_t *depth)
+{
+    return crudvim_qform_check(dictionary, dictionary_len, message, message_len, place, fields, depth);
+}
+
+uint64_t plain_qform_field(const uint8_t *dictionary, size_t dictionary_len, const uint8_t *message, size_t message_len, uint64_t k,
+                           uint64_t *place, uint64_t *fid, uint64_t *type, uint64_t *data_start, uint64_t *data_length)
+{
+    return crudvim_qform_field(dictionary, dictionary_len, message, message_len, k, place, fid, type, data_start, data_length);
 }
 '''
 
@@ -76,14 +95,18 @@ def main():
         folder = pathlib.Path(name)
         objects = [folder / 'bench.o']
         run('gcc', '-std=c11', '-O3', '-c', 'bench/bench.c', '-o', objects[0])
-        if no_revision:
-            objects.append(folder / 'without_revision.o')
-            run('gcc', '-std=c11', '-O3', '-Ibench', '-x', 'c', '-c', '-', '-o', objects[1], input=WITHOUT_REVISION)
+        no_qform = 'crudvim_qform_check' not in run('nm', before).split()
+        for missing, source in ((no_revision, WITHOUT_REVISION), (no_qform, WITHOUT_QFORM)):
+            if missing:
+                objects.append(folder / f'without_{len(objects)}.o')
+                run('gcc', '-std=c11', '-O3', '-Ibench', '-Iinclude', '-x', 'c', '-c', '-', '-o', objects[-1], input=source)
         copy = in_place_of_plain(before, folder, ('check', 'shorten') if no_revision else ())
         word = '--time-unmarked' if no_revision else '--time'
         runs = [ratios(objects, copy, after, folder, word, k) for k in range(PLACEMENTS)]
     print(f"{'row':28} {'call':8} {'ratio':>7} {'least':>7} {'greatest':>8}")
     for row, call in runs[0]:
+        if no_qform and row.startswith('qform-'):
+            continue
         if any(word in row for word in wanted) if wanted else not re.match(r'(length|depth)-', row):
             values = [found[row, call] for found in runs]
             mean = math.exp(sum(map(math.log, values)) / len(values))

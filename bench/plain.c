@@ -1,4 +1,4 @@
-/* The baseline of the bench: a plain C implementation of the check, the shortener and the two Tib checks.
+/* The baseline of the bench: a plain C implementation of the check, the shortener, the two Tib checks and the QForm reader.
  *
  * It is what a C programmer would write first and keep: one pass of recursion per task, a table that is searched from its start,
  * and a shortener that writes a nested message where it will most likely stand and moves it if its length needs more octets. The
@@ -17,7 +17,14 @@ enum {
     TABLE_LIMIT = 64,
     LAST_REVISION = 2,
     TIBMSG_HEADER = 9,
-    TIBRV_HEADER = 8
+    TIBRV_HEADER = 8,
+    QFORM_HEADER = 8,
+    DICTIONARY_LIMIT = 512,
+    DICTIONARY_RECORD = 8,
+    FIDS = 16384,
+    LAST_TYPE = 21,
+    GROCERY = 15,
+    GROCERY_SIZE = 9
 };
 
 enum kind { RAW, UINT, INT, STRING, TEXT, MESSAGE };
@@ -617,4 +624,119 @@ uint64_t plain_tibrv_check(const uint8_t *message, size_t message_len, uint64_t 
     *fields = refusal == CRUDVIM_ACCEPTED ? walk.fields : 0;
     *depth = refusal == CRUDVIM_ACCEPTED ? walk.depth : 0;
     return refusal;
+}
+
+/* ---- QForm ---- */
+
+/* For each fid, how many pairs of octets its field has, the FID and the padding octet included: 0 if the fid is not in the dictionary,
+ * and else from 1 to 32769. */
+typedef uint16_t pairs_of_fid[FIDS];
+
+/* Reads the dictionary. On a refusal the place is that of the faulty record. */
+static uint64_t load_dictionary(pairs_of_fid pairs, const uint8_t *dictionary, size_t dictionary_len, uint64_t *place)
+{
+    memset(pairs, 0, FIDS * sizeof pairs[0]);
+    for (size_t at = 0; at < dictionary_len; at += DICTIONARY_RECORD) {
+        const uint8_t *record = dictionary + at;
+        *place = at;
+        if (at == DICTIONARY_LIMIT * DICTIONARY_RECORD || dictionary_len - at < DICTIONARY_RECORD)
+            return CRUDVIM_TABLE;
+        unsigned fid = (unsigned)record[3] << 8 | record[4];
+        unsigned type = record[5];
+        unsigned size = (unsigned)record[6] << 8 | record[7];
+        if (record[0] != 2 || record[1] != 0 || record[2] != 5 || fid >= FIDS || pairs[fid] != 0)
+            return CRUDVIM_TABLE;
+        if (type > LAST_TYPE || (type == GROCERY && size != GROCERY_SIZE))
+            return CRUDVIM_TABLE;
+        pairs[fid] = (uint16_t)(1 + (size + 1) / 2);
+    }
+    *place = 0;
+    return CRUDVIM_ACCEPTED;
+}
+
+static uint64_t qform_header(const uint8_t *message, size_t message_len)
+{
+    static const uint8_t magic[4] = {0x11, 0x11, 0x11, 0x12};
+    if (message_len < QFORM_HEADER)
+        return CRUDVIM_CUT;
+    if (memcmp(message, magic, sizeof magic) != 0)
+        return CRUDVIM_MAGIC;
+    return big_endian(message + 4, 4) == message_len - QFORM_HEADER ? CRUDVIM_ACCEPTED : CRUDVIM_SIZE;
+}
+
+/* The size of the field at the front, of which so many octets are left, with its FID and its padding octet. */
+static inline uint64_t qform_field_size(const pairs_of_fid pairs, const uint8_t *field, size_t left, size_t *size)
+{
+    if (left < 2)
+        return CRUDVIM_CUT;
+    unsigned octets = (unsigned)field[0] << 8 | field[1];
+    if (octets < 0xc000)
+        return CRUDVIM_TYPE_SIZE_OR_HINT;
+    *size = 2 * (size_t)pairs[octets - 0xc000];
+    if (*size == 0)
+        return CRUDVIM_NOT_IN_DICTIONARY;
+    return *size > left ? CRUDVIM_PAST_THE_END : CRUDVIM_ACCEPTED;
+}
+
+/* Checks the whole message and counts its fields. On the way it notes where the k-th field stands; at 0 if there is none. */
+static inline uint64_t walk_qform(const uint8_t *dictionary, size_t dictionary_len, const uint8_t *message, size_t message_len,
+                                  uint64_t k, uint64_t *place, uint64_t *fields, size_t *found)
+{
+    pairs_of_fid pairs;
+    *place = 0;
+    if (message_len > MESSAGE_LIMIT)
+        return CRUDVIM_TOO_LONG;
+    uint64_t refusal = load_dictionary(pairs, dictionary, dictionary_len, place);
+    if (refusal == CRUDVIM_ACCEPTED)
+        refusal = qform_header(message, message_len);
+    if (refusal != CRUDVIM_ACCEPTED)
+        return refusal;
+    uint64_t count = 0;
+    size_t at = QFORM_HEADER;
+    while (at < message_len) {
+        size_t size = 0;
+        refusal = qform_field_size(pairs, message + at, message_len - at, &size);
+        if (refusal != CRUDVIM_ACCEPTED) {
+            *place = at;
+            return refusal;
+        }
+        if (count == k)
+            *found = at;
+        count++;
+        at += size;
+    }
+    *fields = count;
+    return CRUDVIM_ACCEPTED;
+}
+
+uint64_t plain_qform_check(const uint8_t *dictionary, size_t dictionary_len, const uint8_t *message, size_t message_len,
+                           uint64_t *place, uint64_t *fields, uint64_t *depth)
+{
+    size_t found;
+    *fields = 0;
+    uint64_t refusal = walk_qform(dictionary, dictionary_len, message, message_len, UINT64_MAX, place, fields, &found);
+    *depth = refusal == CRUDVIM_ACCEPTED;
+    return refusal;
+}
+
+uint64_t plain_qform_field(const uint8_t *dictionary, size_t dictionary_len, const uint8_t *message, size_t message_len, uint64_t k,
+                           uint64_t *place, uint64_t *fid, uint64_t *type, uint64_t *data_start, uint64_t *data_length)
+{
+    uint64_t fields;
+    size_t found = 0;
+    *fid = *type = *data_start = *data_length = 0;
+    uint64_t refusal = walk_qform(dictionary, dictionary_len, message, message_len, k, place, &fields, &found);
+    if (refusal != CRUDVIM_ACCEPTED)
+        return refusal;
+    if (found == 0)
+        return CRUDVIM_ABSENT;
+    const uint8_t *octets = message + found;
+    const uint8_t *record = dictionary;
+    while (record[3] != (octets[0] & 0x3f) || record[4] != octets[1])
+        record += DICTIONARY_RECORD;
+    *fid = big_endian(record + 3, 2);
+    *type = record[5];
+    *data_start = found + 2;
+    *data_length = big_endian(record + 6, 2);
+    return CRUDVIM_ACCEPTED;
 }

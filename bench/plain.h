@@ -15,4 +15,10 @@ uint64_t plain_tibmsg_check(const uint8_t *message, size_t message_len, uint64_t
 
 uint64_t plain_tibrv_check(const uint8_t *message, size_t message_len, uint64_t *place, uint64_t *fields, uint64_t *depth);
 
+uint64_t plain_qform_check(const uint8_t *dictionary, size_t dictionary_len, const uint8_t *message, size_t message_len,
+                           uint64_t *place, uint64_t *fields, uint64_t *depth);
+
+uint64_t plain_qform_field(const uint8_t *dictionary, size_t dictionary_len, const uint8_t *message, size_t message_len, uint64_t k,
+                           uint64_t *place, uint64_t *fid, uint64_t *type, uint64_t *data_start, uint64_t *data_length);
+
 #endif
