@@ -21,6 +21,8 @@ ENTRIES = {
     'text_show': 'show',
     'tib_msg': 'check field',
     'tib_rv': 'check field',
+    'tib_dictionary_index': 'load',
+    'tib_qform': 'check check_loaded field field_loaded',
     'tib_real': 'real fractions',
 }
 DEMANDS = {'1': 'message_calls/Demand1', '2': 'writer_laws/Demand2', '3': 'message_calls/Demand3'}
