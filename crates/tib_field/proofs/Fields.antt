@@ -5,7 +5,7 @@ use mathlib.Core.Path.{_≡_, refl, sym, ap, _∙_}
 use mathlib.Core.List.{List, [], _∷_, _++_, append-assoc}
 use mathlib.Core.Option.{none, some}
 use lib.ListN.{length, getElem?, length-append}
-use Rattle.tib_field.specs.Fields.{Each, joined, placed}
+use Rattle.tib_field.specs.Fields.{Each, joined, placed, KthField}
 
 -- What holds of each field holds of one in the middle.
 pub each-one : {A : Type 0} (P : A → Type 0) (fs : List A) (f : A) (gs : List A) → Each P (fs ++ (f ∷ gs)) → P f
@@ -29,30 +29,29 @@ module _ {A : Type 0} (octets : A → List ℕ) where
 
   -- The field with k fields before it, and the place where it begins.
   pub record Picked (fs : List A) (k at : ℕ) : Type 0 where
-    pub before : List A
-    pub field : A
-    pub after : List A
-    pub divides : fs ≡ before ++ (field ∷ after)
-    pub counted : length before ≡ k
-    pub same : getElem? (placed octets at fs) k ≡ some (at + length (joined octets before), field)
+    pub kth : KthField fs k
+    pub same : getElem? (placed octets at fs) k ≡ some (at + length (joined octets (kth .before)), kth .field)
 
   pub picked : (fs : List A) (k at : ℕ) → k < length fs → Picked fs k at
   unfolding joined placed
   picked [] k at h = absurd (omega arith)
   picked (f ∷ fs) zero at h =
       let e : at ≡ at + 0 = omega arith in
-      record { before = []; field = f; after = fs; divides = refl; counted = refl; same = ap (λ (n : ℕ). some (n, f)) e }
+      record { kth = record { before = []; field = f; after = fs; divides = refl; counted = refl }; same = ap (λ (n : ℕ). some (n, f)) e }
   picked (f ∷ fs) (suc k) at h =
       let p = picked fs k (at + length (octets f)) (omega arith) in
-      let l = length-append (octets f) (joined octets (p .before)) in
-      let e : at + length (octets f) + length (joined octets (p .before)) ≡ at + length (octets f ++ joined octets (p .before)) = omega arith in
+      let l = length-append (octets f) (joined octets (p .kth .before)) in
+      let e : at + length (octets f) + length (joined octets (p .kth .before)) ≡ at + length (octets f ++ joined octets (p .kth .before)) = omega arith in
       record {
-        before = f ∷ p .before;
-        field = p .field;
-        after = p .after;
-        divides = ap (λ (r : List A). f ∷ r) (p .divides);
-        counted = ap suc (p .counted);
-        same = p .same ∙ ap (λ (n : ℕ). some (n, p .field)) e;
+        kth =
+            record {
+              before = f ∷ p .kth .before;
+              field = p .kth .field;
+              after = p .kth .after;
+              divides = ap (λ (r : List A). f ∷ r) (p .kth .divides);
+              counted = ap suc (p .kth .counted);
+            };
+        same = p .same ∙ ap (λ (n : ℕ). some (n, p .kth .field)) e;
       }
 
   pub none-remaining : (fs : List A) (k at : ℕ) → length fs ≤ k → getElem? (placed octets at fs) k ≡ none

@@ -1,5 +1,6 @@
 -- Fields that stand one after the other, over what a format says of a field and the function that gives its octets.
 use Prim.Native.Nat.{ℕ, _+_}
+use mathlib.Core.Path.{_≡_}
 use mathlib.Core.List.{List, [], _∷_, _++_}
 use lib.ListN.{length}
 
@@ -22,3 +23,11 @@ joined octets (f ∷ fs) = octets f ++ joined octets fs
 unfoldable pub placed : {A : Type 0} → (A → List ℕ) → ℕ → List A → List (ℕ × A)
 placed octets at [] = []
 placed octets at (f ∷ fs) = (at, f) ∷ placed octets (at + length (octets f)) fs
+
+-- The k-th of these fields, from 0: the one with k fields before it.
+pub record KthField {A : Type 0} (fs : List A) (k : ℕ) : Type 0 where
+  pub before : List A
+  pub field : A
+  pub after : List A
+  pub divides : fs ≡ before ++ (field ∷ after)
+  pub counted : length before ≡ k

@@ -31,25 +31,21 @@ module _ (s : List ℕ) (fs : List Parts) (w : Whole s fs) where
   told : (k : ℕ) → Picked octets fs k 9 → KthTold s fs k (fieldOrAbsent refusedField shown (getElem? (placed octets 9 fs) k))
   unfolding shown fieldOrAbsent
   told k p =
-      let f = p .field in
-      let front = magic ++ (w .size ++ joined octets (p .before)) in
-      let back = joined octets (p .after) in
-      let j : joined octets fs ≡ joined octets (p .before) ++ (octets f ++ back) = ap (joined octets) (p .divides) ∙ joined-around octets (p .before) f (p .after) in
+      let f = p .kth .field in
+      let front = magic ++ (w .size ++ joined octets (p .kth .before)) in
+      let back = joined octets (p .kth .after) in
+      let j : joined octets fs ≡ joined octets (p .kth .before) ++ (octets f ++ back) = ap (joined octets) (p .kth .divides) ∙ joined-around octets (p .kth .before) f (p .kth .after) in
       let d : s ≡ front ++ (octets f ++ back)
       = w .divides ∙ ap (λ (r : List ℕ). magic ++ (w .size ++ r)) j ∙ sym (simp append-assoc) in
       let u = d ∙ ap (λ (r : List ℕ). front ++ r) (flat f back) in
-      let l = length-append (w .size) (joined octets (p .before)) in
+      let l = length-append (w .size) (joined octets (p .kth .before)) in
       let m = w .width in
-      let at = 9 + length (joined octets (p .before)) in
+      let at = 9 + length (joined octets (p .kth .before)) in
       let n : length front ≡ at = omega arith in
-      let a = each-one Allowed (p .before) f (p .after) (subst (Each Allowed) (p .divides) (w .allowed)) in
+      let a = each-one Allowed (p .kth .before) f (p .kth .after) (subst (Each Allowed) (p .kth .divides) (w .allowed)) in
       let q : KthTold s fs k (shown at f)
       = record {
-        before = p .before;
-        field = f;
-        after = p .after;
-        divides = p .divides;
-        counted = p .counted;
+        kth = p .kth;
         accepted = refl;
         nowhere = refl;
         name = name-stands s front (f .name) (f .octet) (f .size) (f .contents) (f .hint ++ back) at u n;

@@ -2,11 +2,11 @@
 use Prim.Native.Nat.{ℕ, _+_}
 use mathlib.Core.Path.{_≡_}
 use mathlib.Core.Bool.{Bool, true, false}
-use mathlib.Core.List.{List, [], _∷_, _++_}
+use mathlib.Core.List.{List, [], _∷_}
 use lib.ListN.{length}
 use Rattle.octets.specs.Number.{bigEndian}
 use Rattle.tib_field.specs.declared.Field.{Field}
-use Rattle.tib_field.specs.Fields.{joined}
+use Rattle.tib_field.specs.Fields.{joined, KthField}
 use Rattle.tib_field.specs.Stands.{Stands}
 use Rattle.tib_msg_field.specs.Layout.{kind, hinted, Parts, octets}
 use Rattle.tib_msg.specs.CheckAndField.{realShown, field}
@@ -22,17 +22,13 @@ pub data HintTold (kind : ℕ) : List ℕ → Bool → ℕ → ℕ → Type 0 wh
 -- An answer tells the k-th of these fields: the one with k fields before it. Its name, with the closing zero, and its data stand at the
 -- places that the answer gives; the octet before the name is its size, and the type octet and the data's size are between name and data.
 pub record KthTold (s : List ℕ) (fs : List Parts) (k : ℕ) (r : Field) : Type 0 where
-  pub before : List Parts
-  pub field : Parts
-  pub after : List Parts
-  pub divides : fs ≡ before ++ (field ∷ after)
-  pub counted : length before ≡ k
+  pub kth : KthField fs k
   pub accepted : r .refusal ≡ 0
   pub nowhere : r .place ≡ 0
-  pub name : Stands s (field .name) (r .«name_place») (r .«name_length»)
-  pub typed : r .kind ≡ kind (field .octet)
-  pub contents : Stands s (field .contents) (r .«data_place») (r .«data_length»)
-  pub hint : HintTold (r .kind) (field .hint) (r .hinted) (r .«hint_kind») (r .hint)
-  pub real : r .real ≡ realShown (r .kind) (field .contents) (r .hint) (r .hinted)
-  pub named-at : r .«name_place» ≡ 9 + length (joined octets before) + 1
-  pub data-at : r .«data_place» ≡ r .«name_place» + r .«name_length» + 1 + length (field .size)
+  pub name : Stands s (kth .field .name) (r .«name_place») (r .«name_length»)
+  pub typed : r .kind ≡ kind (kth .field .octet)
+  pub contents : Stands s (kth .field .contents) (r .«data_place») (r .«data_length»)
+  pub hint : HintTold (r .kind) (kth .field .hint) (r .hinted) (r .«hint_kind») (r .hint)
+  pub real : r .real ≡ realShown (r .kind) (kth .field .contents) (r .hint) (r .hinted)
+  pub named-at : r .«name_place» ≡ 9 + length (joined octets (kth .before)) + 1
+  pub data-at : r .«data_place» ≡ r .«name_place» + r .«name_length» + 1 + length (kth .field .size)

@@ -1,5 +1,5 @@
 -- The answer for k is the k-th field of the message's division, and the place that it gives is where the field's data stand.
-use Prim.Native.Nat.{ℕ, _+_, _≤_, _<_}
+use Prim.Native.Nat.{ℕ, _+_}
 use native.Mathlib.Omega.{arith}
 use mathlib.Core.Path.{_≡_, refl, sym, ap, _∙_, subst}
 use mathlib.Core.Bool.{true}
@@ -20,7 +20,6 @@ use Rattle.tib_dictionary.specs.declared.Dictionary.{Dictionary}
 use Rattle.tib_dictionary.proofs.Records.{load-exactly}
 use Rattle.tib_qform_field.specs.Layout.{Parts, octets, fidOf, Allowed, magic, Whole}
 use Rattle.tib_qform_field.proofs.Accepted.{accepted-exactly}
-use Rattle.tib_qform.specs.declared.types.Field.{Field}
 use Rattle.tib_qform.specs.CheckAndField.{refusedField, shownBy, shown, places, field, entriesOf, fieldOctets, fieldLoaded}
 use Rattle.tib_qform.specs.KthTold.{KthTold, IsKth}
 use Rattle.tib_qform.proofs.Calls.{good, valid-entries}
@@ -29,26 +28,22 @@ module _ (es : List Entry) (s : List ℕ) (fs : List Parts) (w : Whole es s fs) 
   told : (k : ℕ) → Picked octets fs k 8 → KthTold es s fs k (fieldOrAbsent refusedField (shown es) (getElem? (placed octets 8 fs) k))
   unfolding shown shownBy fieldOrAbsent entryWith orZeros octets
   told k p =
-      let f = p .field in
-      let front = magic ++ (w .size ++ joined octets (p .before)) in
-      let back = joined octets (p .after) in
+      let f = p .kth .field in
+      let front = magic ++ (w .size ++ joined octets (p .kth .before)) in
+      let back = joined octets (p .kth .after) in
       let lead = f .high ∷ f .low ∷ [] in
-      let j : joined octets fs ≡ joined octets (p .before) ++ (octets f ++ back) = ap (joined octets) (p .divides) ∙ joined-around octets (p .before) f (p .after) in
+      let j : joined octets fs ≡ joined octets (p .kth .before) ++ (octets f ++ back) = ap (joined octets) (p .kth .divides) ∙ joined-around octets (p .kth .before) f (p .kth .after) in
       let d : s ≡ front ++ (octets f ++ back) = w .divides ∙ ap (λ (r : List ℕ). magic ++ (w .size ++ r)) j ∙ sym (simp append-assoc) in
       let u : s ≡ front ++ lead ++ (f .contents ++ (f .padding ++ back)) = d ∙ sym (simp append-assoc) in
-      let l = length-append (w .size) (joined octets (p .before)) in
+      let l = length-append (w .size) (joined octets (p .kth .before)) in
       let m = w .width in
-      let at = 8 + length (joined octets (p .before)) in
+      let at = 8 + length (joined octets (p .kth .before)) in
       let n : length (front ++ lead) ≡ at + 2 = length-append front lead ∙ omega arith in
-      let a = each-one (Allowed es) (p .before) f (p .after) (subst (Each (Allowed es)) (p .divides) (w .allowed)) in
+      let a = each-one (Allowed es) (p .kth .before) f (p .kth .after) (subst (Each (Allowed es)) (p .kth .divides) (w .allowed)) in
       let e : entryWith es (fidOf f) ≡ a .entry = ap orZeros (a .known) in
       let q : KthTold es s fs k (shownBy at (fidOf f) (a .entry))
       = record {
-        before = p .before;
-        field = f;
-        after = p .after;
-        divides = p .divides;
-        counted = p .counted;
+        kth = p .kth;
         accepted = refl;
         nowhere = refl;
         numbered = refl;

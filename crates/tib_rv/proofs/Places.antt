@@ -49,12 +49,12 @@ module _ (s : List ℕ) (fields : Fields) (w : Whole s fields) where
       → KthTold s fields k (fieldOrAbsent refusedField shown (getElem? (placed octets 8 (outermost fields)) k))
   unfolding shown message fieldOrAbsent
   told k p =
-      let f = p .field in
-      let before = joinedParts octets (p .before) in
-      let back = joinedParts octets (p .after) in
+      let f = p .kth .field in
+      let before = joinedParts octets (p .kth .before) in
+      let back = joinedParts octets (p .kth .after) in
       let front = w .size ++ (magic ++ before) in
       let j : joined fields ≡ before ++ (octets f ++ back)
-      = outermost-joined fields ∙ ap (joinedParts octets) (p .divides) ∙ joined-around octets (p .before) f (p .after) in
+      = outermost-joined fields ∙ ap (joinedParts octets) (p .kth .divides) ∙ joined-around octets (p .kth .before) f (p .kth .after) in
       let d : s ≡ front ++ (octets f ++ back)
       = w .divides ∙ ap (λ (r : List ℕ). w .size ++ (magic ++ r)) j ∙ sym (simp append-assoc) in
       let u = d ∙ ap (λ (r : List ℕ). front ++ r) (flat f back) in
@@ -65,15 +65,11 @@ module _ (s : List ℕ) (fields : Fields) (w : Whole s fields) where
       let c = data-stands s front (f .name) (f .octet) (f .size) (f .contents) back at u n in
       let b = c .inside in
       let v = w .withinLimit in
-      let h = each-one (λ (x : Parts). x .octet ≡ 1 → Holder x 8) (p .before) f (p .after)
-      (subst (Each (λ (x : Parts). x .octet ≡ 1 → Holder x 8)) (p .divides) (all-hold fields 8 (w .allowed) (w .shallow))) in
+      let h = each-one (λ (x : Parts). x .octet ≡ 1 → Holder x 8) (p .kth .before) f (p .kth .after)
+      (subst (Each (λ (x : Parts). x .octet ≡ 1 → Holder x 8)) (p .kth .divides) (all-hold fields 8 (w .allowed) (w .shallow))) in
       let q : KthTold s fields k (shown at f)
       = record {
-        before = p .before;
-        field = f;
-        after = p .after;
-        divides = p .divides;
-        counted = p .counted;
+        kth = p .kth;
         accepted = refl;
         nowhere = refl;
         name = name-stands s front (f .name) (f .octet) (f .size) (f .contents) back at u n;
