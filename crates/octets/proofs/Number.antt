@@ -3,17 +3,18 @@ use Prim.Native.Nat.{ℕ, zero, suc, _+_, _*_, _/_, _%_, _^_, _≤_, _<_}
 use native.Mathlib.Nat.{pow-le-pow-right, pow-suc, mul-comm, suc-inj, mod-eq-of-lt, lt-of-lt-of-le, lt-of-le-of-lt}
 use native.Mathlib.Omega.{arith}
 use mathlib.Core.Path.{_≡_, refl, sym, ap, ap₂, _∙_}
-use mathlib.Core.Bool.{Bool, true, false, cond}
+use mathlib.Core.Bool.{Bool, true, false, cond, _&&_}
 use mathlib.Core.List.{List, [], _∷_, _++_}
 use lib.ListN.{length, getD, take, drop, length-append, take-append-drop}
 use lib.Arith.{digits-div, digits-mod, mod-mul, digits-lt}
 use lib.Pow.{pow-add}
-use lib.Dec.{leb}
-use borrow.Author.Tests.{leb-true, leb-false, le-leb}
+use lib.Dec.{leb, ltb}
+use borrow.Author.Tests.{leb-true, leb-false, le-leb, ltb-true}
 use Rattle.octets.specs.declared.Least.{Least}
 use Rattle.octets.specs.Number.{Octets, bigEndian, octetsOf, width, widthWithin, leastUint}
 use Rattle.octets.specs.internal.Least.{uintWidthBits}
 use Rattle.octets.specs.internal.Bounded.{unsigned}
+use Rattle.octets.proofs.Bools.{and-left, and-right}
 
 pub power-positive : (n : ℕ) → 0 < 256 ^ n
 power-positive zero = omega arith
@@ -28,6 +29,16 @@ two-to-eights zero = refl
 two-to-eights (suc n) =
     let e : 8 * suc n ≡ 8 * n + 8 = omega arith in
     rw (e, pow-add 2 (8 * n) 8, two-to-eights n, pow-suc 256 n)
+
+-- Whether all numbers of a list are octets, as a test that computes.
+unfoldable pub allBelow256 : List ℕ → Bool
+allBelow256 [] = true
+allBelow256 (x ∷ s) = ltb x 256 && allBelow256 s
+
+pub are-octets : (s : List ℕ) → allBelow256 s ≡ true → Octets s
+unfolding allBelow256 Octets
+are-octets [] e = tt
+are-octets (x ∷ s) e = (ltb-true x 256 (and-left (ltb x 256) (allBelow256 s) e), are-octets s (and-right (ltb x 256) (allBelow256 s) e))
 
 pub octets-append : (s t : List ℕ) → Octets s → Octets t → Octets (s ++ t)
 unfolding Octets

@@ -4,18 +4,19 @@ use Prim.Native.Nat.{ℕ, _≤_, _<_}
 use native.Mathlib.Omega.{arith}
 use native.Mathlib.Decide.{ℕ-discrete}
 use mathlib.Core.Path.{_≡_, refl, sym, _∙_, ap, ap₂, subst}
-use mathlib.Core.Bool.{Bool, true, false, _&&_}
+use mathlib.Core.Bool.{Bool, true, false}
 use mathlib.Core.List.{List, [], _∷_}
 use mathlib.Core.Logic.{_⊎_, inl, inr, ⊎-elim}
 use lib.ListN.{length, take, drop, getD}
 use lib.Seq.{sets}
-use lib.Dec.{leb, ltb, T}
+use lib.Dec.{leb, ltb}
 use borrow.Author.Tests.{leb-true, leb-false, ltb-true, ltb-false, eqb-false}
 use Rattle.reading.specs.Reading.{messageLimit, lastNumber}
 use Rattle.reading.specs.Checks.{refusal}
 use Rattle.reading.specs.declared.Checked.{Checked}
 use Rattle.octets.specs.Number.{Octets}
 use Rattle.octets.proofs.Bools.{same-test}
+use Rattle.octets.proofs.Number.{allBelow256, are-octets}
 use Rattle.table.specs.Load.{load}
 use Rattle.table.specs.Schema.{Schema, isRevision, schema}
 use Rattle.message.specs.ReadTheSame.{HasCut, IsShortest, OthersMore}
@@ -27,7 +28,6 @@ use Rattle.message_calls.specs.ShortAlready.{ShortAlready}
 use Rattle.message_calls.proofs.Demand1.{demand-1}
 use Rattle.message_calls.proofs.Demand3.{demand-3}
 use Rattle.message_calls.proofs.ShortAlready.{short-already}
-use Rattle.wrong_programs.specs.Kinds as kinds
 use Rattle.wrong_programs.proofs.RulingOut.{differ-at}
 use Rattle.wrong_programs.proofs.Computing.{hproto}
 use Rattle.wrong_programs.proofs.Witnesses.{uints, only-marked}
@@ -212,18 +212,9 @@ accepted : (load uints .refusal ≡ 0) × (isRevision 2 ≡ true) × (checkOctet
 unfolding hproto
 accepted = (refl, refl, refl)
 
--- Numbers that pass the test are octets.
-are-octets : (s : List ℕ) → T (kinds.octets s) → Octets s
-unfolding kinds.octets kinds.below Octets
-are-octets [] w = tt
-are-octets (x ∷ s) w = go (ltb x 256) refl w (are-octets s)
-  where
-    go : (t : Bool) → ltb x 256 ≡ t → T (t && kinds.below 256 s) → (T (kinds.octets s) → Octets s) → (x < 256) × Octets s
-    go true e w f = (ltb-true x 256 e, f w)
-
 in-range : Octets uints × Octets long
-unfolding hproto
-in-range = (are-octets uints tt, are-octets long tt)
+unfolding hproto allBelow256
+in-range = (are-octets uints refl, are-octets long refl)
 
 pub copies-its-input : (check : List ℕ → ℕ → ℕ → List ℕ → Checked) (shorten : List ℕ → ℕ → ℕ → List ℕ → List ℕ → Shortened)
     → Demand3Holds check shorten (λ table revision n s out. sets out 0 s) → ⊥
@@ -242,8 +233,8 @@ unfolding hproto
 by-revision = (refl, refl)
 
 marked-in-range : Octets (only-marked 1 1) × Octets twice
-unfolding hproto
-marked-in-range = (are-octets (only-marked 1 1) tt, are-octets twice tt)
+unfolding hproto allBelow256
+marked-in-range = (are-octets (only-marked 1 1) refl, are-octets twice refl)
 
 pub revision-ignored : (check : List ℕ → ℕ → List ℕ → Checked) → Demand1Holds (λ table revision n s. check table n s) → ⊥
 revision-ignored check meets =
