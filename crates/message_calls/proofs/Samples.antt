@@ -29,9 +29,9 @@ use Rattle.message_calls.specs.Calls.{withTable, checkOctets, shortOctet
 use Rattle.message_calls.specs.Samples as samples
 
 -- The definitions that the check's answer is made of. A proof that unfolds this computes it.
-unfoldable checked : Type 0
+unfoldable pub checked : Type 0
 unfolding samples.line samples.marked samples.messages samples.threeKinds samples.singleUint
-    withTable checks.check checks.checkUnder checks.treeCounts answers.counts answers.refusal
+    withTable checkOctets checks.check checks.checkUnder checks.treeCounts answers.counts answers.refusal
     loads.load loads.loadFrom loads.accepted loads.refused loads.tableOf loads.wordsBefore loads.faulty loads.wellFormed loads.announced
     loads.recordSize loads.placeAt loads.recordAt loads.wordOf loads.wordAt loads.inRange loads.seen loads.pair
     valids.valid valids.allInRange valids.allZero distinct
@@ -39,6 +39,7 @@ unfolding samples.line samples.marked samples.messages samples.threeKinds sample
     readings.reading readings.messageFrom readings.fieldsFrom readings.afterStep readings.step readings.stepFrom readings.stepByKind
     readings.tooDeep among repeats readings.tagAt readings.tagOf onAccepted inOrder trees.tree trees.value trees.fields trees.depth
     numbers.bigEndian controls.control controls.controlOf controls.following controls.coded
+    texts.text texts.textAfter texts.after texts.within grammar
 checked = Unit {0}
 
 -- What holds under revision 1 and under revision 2 holds under every revision.
@@ -51,8 +52,8 @@ either P one two revision e = go (eqb revision 1) refl e
     go false is h = subst P (sym (eqb-true revision 2 h)) two
 
 computed : samples.Hold (samples.samples 1) × samples.Hold (samples.samples 2) × samples.Hold samples.singleSamples
-unfolding checked checkOctets samples.Hold samples.samples samples.singleSamples samples.accepts samples.refuses samples.refusesNumber samples.shown
-    samples.person2 samples.nestedSingle texts.text texts.textAfter texts.after texts.within grammar
+unfolding checked samples.Hold samples.samples samples.singleSamples samples.accepts samples.refuses samples.refusesNumber samples.shown
+    samples.person2 samples.nestedSingle
 computed = (
   (refl, (refl, (refl, (refl, (refl, (refl, (refl, (refl, (refl, (refl, (refl, (refl, (refl, (refl, (refl, (refl, (refl, (refl, (refl, (refl, (refl, tt))))))))))))))))))))),
   (refl, (refl, (refl, (refl, (refl, (refl, (refl, (refl, (refl, (refl, (refl, (refl, (refl, (refl, (refl, (refl, (refl, (refl, (refl, (refl, (refl, tt))))))))))))))))))))),
