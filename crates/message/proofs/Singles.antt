@@ -77,31 +77,32 @@ tags-of-tree sc n (nested tag part inside rest) = ap (λ (ts : List ℕ). tag �
 
 -- ---- where fewer tags are single
 
+-- A field that repeats none also repeats none if fewer tags are single.
+pub once-fewer : (sc fewer : Schema) → ((n tag : ℕ) → sc .single n tag ≡ false → fewer .single n tag ≡ false)
+    → (n : ℕ) (others : List ℕ) (tag : ℕ) → repeats sc n others tag ≡ false → repeats fewer n others tag ≡ false
+unfolding repeats
+once-fewer sc fewer less n others tag h = go (sc .single n tag) refl h
+  where
+    go : (t : Bool) → sc .single n tag ≡ t → t && among tag others ≡ false → fewer .single n tag && among tag others ≡ false
+    go true e k = rw k (and-false (fewer .single n tag))
+    go false e k = rw (less n tag e) refl
+
 -- With the same kinds and no more single tags, the cuts that were good still are.
 module _ (sc fewer : Schema) (same : (n tag : ℕ) → fewer .means n tag ≡ sc .means n tag)
     (less : (n tag : ℕ) → sc .single n tag ≡ false → fewer .single n tag ≡ false) where
-  -- A field that repeats none also repeats none if fewer tags are single.
-  once-fewer : (n : ℕ) (others : List ℕ) (tag : ℕ) → repeats sc n others tag ≡ false → repeats fewer n others tag ≡ false
-  unfolding repeats
-  once-fewer n others tag h = go (sc .single n tag) refl h
-    where
-      go : (t : Bool) → sc .single n tag ≡ t → t && among tag others ≡ false → fewer .single n tag && among tag others ≡ false
-      go true e k = rw k (and-false (fewer .single n tag))
-      go false e k = rw (less n tag e) refl
-
-  -- So what is allowed stays allowed,
+  -- What is allowed stays allowed,
   allowed-fewer : (cut : Cut) (n : ℕ) → Allowed sc n cut → Allowed fewer n cut
   unfolding Allowed
   allowed-fewer end n a = tt
   allowed-fewer (leaf tag part contents rest) n a = (
     record { whole = a .0 .whole; allowed = rw (same n tag) (a .0 .allowed) },
     allowed-fewer rest n (a .1),
-    once-fewer n (tags rest) tag (a .2),
+    once-fewer sc fewer less n (tags rest) tag (a .2),
   )
   allowed-fewer (nested tag part inside rest) n a = (
     (a .0 .0, record { whole = a .0 .1 .whole; allowed = same n tag ∙ a .0 .1 .allowed }, allowed-fewer inside (a .0 .0) (a .0 .2)),
     allowed-fewer rest n (a .1),
-    once-fewer n (tags rest) tag (a .2),
+    once-fewer sc fewer less n (tags rest) tag (a .2),
   )
 
   -- and a good cut good.
