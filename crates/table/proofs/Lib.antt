@@ -9,3 +9,4 @@ pub mod FaultyTables
 pub mod Schemas
 pub mod Masks
 pub mod Orders
+pub mod LeftOut

@@ -15,11 +15,11 @@ use Rattle.table.specs.Repeat.{distinct}
 use Rattle.table.proofs.Repeat.{seen-at}
 
 -- Whether an entry is for a message number and a tag.
-abbrev isFor : ℕ → ℕ → Entry → Bool
+abbrev pub isFor : ℕ → ℕ → Entry → Bool
 isFor n t e = eqb (e .number) n && eqb (e .tag) t
 
 -- Words whose entries are for the same number and tag have the same pair.
-same-pair : (v w n t : ℕ) → isFor n t (entry v) ≡ true → isFor n t (entry w) ≡ true → pair v ≡ pair w
+pub same-pair : (v w n t : ℕ) → isFor n t (entry v) ≡ true → isFor n t (entry w) ≡ true → pair v ≡ pair w
 unfolding pair entry
 same-pair v w n t e f =
     let a = eqb-true (v / 1099511627776) n (and-left (eqb (v / 1099511627776) n) (eqb (v / 16777216 % 65536) t) e) in

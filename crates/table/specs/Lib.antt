@@ -6,3 +6,4 @@ pub mod Repeat
 pub mod Valid
 pub mod Records
 pub mod FaultyTable
+pub mod LeftOut
