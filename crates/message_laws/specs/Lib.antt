@@ -1,0 +1,5 @@
+pub mod Paths
+pub mod OldTables
+pub mod Swapped
+pub mod Swaps
+pub mod Samples
