@@ -1,0 +1,5 @@
+pub mod Checks
+pub mod Paths
+pub mod Trimmed
+pub mod FieldsKept
+pub mod OldTables
