@@ -6,3 +6,4 @@ pub mod OldTables
 pub mod FieldBefore
 pub mod Swapped
 pub mod Swaps
+pub mod Samples
