@@ -1,17 +1,19 @@
 -- The samples hold: each side of each equation computes to the same.
 use Prim.Native.Nat.{ℕ}
 use native.Mathlib.Omega.{arith}
-use mathlib.Core.Path.{_≡_, refl, sym, subst}
+use mathlib.Core.Path.{_≡_, refl, sym, ap, subst}
 use mathlib.Core.Bool.{true, true≢false}
 use mathlib.Core.List.{List, [], _∷_}
 use mathlib.Core.Option.{Option, none, some}
+use lib.ListN.{length}
 use Rattle.octets.proofs.Number.{allBelow256, are-octets}
 use Rattle.table.specs.Entry.{entries}
 use Rattle.table.specs.LeftOut as leaving
-use Rattle.table.specs.LeftOut.{hasEntry}
+use Rattle.table.specs.LeftOut.{LeftOut, hasEntry}
 use Rattle.table.specs.Load.{load}
 use Rattle.message.specs.Cut.{end, joined}
 use Rattle.message.specs.Items as items
+use Rattle.table.proofs.LeftOut.{left-fewer}
 use Rattle.message_calls.proofs.Samples.{checked}
 use Rattle.message_laws.specs.Paths.{Field, follow, fieldAt}
 use Rattle.message_laws.specs.OldTables.{Older, Remain}
@@ -34,6 +36,16 @@ tables =
       old-loads = refl;
       left-out = leaving.stays _ _ _ (leaving.goes _ _ _ (leaving.stays _ _ _ (leaving.goes _ _ _ (leaving.stays _ _ _ (leaving.goes _ _ _ leaving.none)))));
     }
+
+order-kept : (l r : List ℕ) → LeftOut l r → l ≡ 1 ∷ 2 ∷ [] → r ≡ 2 ∷ 1 ∷ [] → ⊥
+order-kept l r leaving.none p q = let z : _≡_ {A = ℕ} 0 1 = cc in absurd (omega arith)
+order-kept l r (leaving.stays x xs ys s) p q = let z : _≡_ {A = ℕ} 1 2 = cc in absurd (omega arith)
+order-kept l r (leaving.goes x xs ys s) p q =
+    let one : xs ≡ 2 ∷ [] = cc in
+    let few = left-fewer xs ys s in
+    let a = ap length one in
+    let b = ap length q in
+    absurd (omega (arith, few, a, b))
 
 -- The field at a path has an entry in the old table, if there is a field.
 unfoldable Known : Option Field → Type 0
@@ -67,6 +79,7 @@ old-table-sample =
         refl,
         (refl, refl, (refl, refl, (refl, refl, (refl, refl, (refl, refl, (refl, refl, (refl, refl, (refl, refl, (refl, refl, (refl, refl, tt)))))))))),
       );
+      order-kept = λ s. order-kept (1 ∷ 2 ∷ []) (2 ∷ 1 ∷ []) s refl refl;
       first-remains = first-remains;
       second-does-not = second-does-not;
       new-refuses = refl;

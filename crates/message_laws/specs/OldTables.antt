@@ -52,7 +52,7 @@ pub record FieldsUnderOld (es : List Entry) (newAt oldAt : List ℕ → Option F
   -- contents, and so with the same value (law `field-in-tree`). Otherwise the field or one of its parents is raw.
   pub kept-or-raw : (path : List ℕ) (f : Field) → newAt path ≡ some f
       → (Remain es newAt path × (oldAt path ≡ some f)) ⊎ ((Remain es newAt path → ⊥) × RawOnPath newAt oldAt path)
-  -- Every field under the old table is one of these.
+  -- The old table adds no field. Each field under it is one of these, as it was or raw.
   pub no-more : (path : List ℕ) (f : Field) → oldAt path ≡ some f → (g : Field) × (newAt path ≡ some g) × ((f ≡ g) ⊎ (f ≡ asRaw g))
 
 -- How a message that is accepted under the new table is read under the old one.

@@ -5,6 +5,7 @@ use mathlib.Core.List.{List, [], _∷_, _++_}
 use mathlib.Core.Option.{Option, none, some}
 use Rattle.reading.specs.Reading.{Reading, accepted, refused}
 use Rattle.table.specs.Entry.{entries}
+use Rattle.table.specs.LeftOut.{LeftOut}
 use Rattle.table.specs.Load.{load}
 use Rattle.table.specs.Schema.{Schema, schema}
 use Rattle.table.specs.declared.Meaning.{Meaning}
@@ -91,6 +92,8 @@ pub record OldTableSample : Type 0 where
   pub new-check : checkOctets newTable 1 0 message ≡ record { refusal = 0; place = 0; fields = 9; depth = 2 }
   pub old-check : checkOctets oldTable 1 0 message ≡ record { refusal = 0; place = 0; fields = 8; depth = 2 }
   pub fields-hold : Hold fields
+  -- Leaving out does not change the order.
+  pub order-kept : LeftOut {A = ℕ} (1 ∷ 2 ∷ []) (2 ∷ 1 ∷ []) → ⊥
   -- The old table has the entries of the uint in the first message and of its parent. For the uint in the second message, that of the parent is
   -- missing.
   pub first-remains : Remain (entries (load oldTable .table)) (readAt newTable) (2 ∷ 0 ∷ [])

@@ -99,7 +99,8 @@ module _ (revision : ℕ) (fs : List Entry) (n t : ℕ) where
 
 -- ---- leaving out entries of a table gives a table
 
-left-fewer : (ws us : List ℕ) → LeftOut ws us → length us ≤ length ws
+-- At most as many are left.
+pub left-fewer : (ws us : List ℕ) → LeftOut ws us → length us ≤ length ws
 left-fewer ws us none = omega arith
 left-fewer ws us (stays w l rest s) = let h = left-fewer l rest s in omega arith
 left-fewer ws us (goes w l rest s) = let h = left-fewer l rest s in omega arith
