@@ -11,7 +11,8 @@ use lib.Ieee.Fits.{and-l, and-r}
 use borrow.Author.Tests.{lt-ltb}
 use Rattle.tib_real.specs.declared.types.Real.{Real}
 use Rattle.tib_real.specs.Parts.{eight, negative, finite, units}
-use Rattle.tib_real.specs.InFractions.{scaled, countable, signed, refused, accepted, inFractions, fractionsOf}
+use Rattle.tib_real.specs.WholeNumber.{signed, refused, accepted}
+use Rattle.tib_real.specs.InFractions.{scaled, countable, inFractions, fractionsOf}
 use Rattle.tib_real.proofs.Hints.{good-hint}
 use Rattle.tib_real.specs.Reads.{Reads}
 

@@ -6,7 +6,8 @@ use lib.Dec.{leb}
 use borrow.Author.Tests.{le-leb, lt-leb}
 use Rattle.tib_real.specs.declared.types.Real.{Real}
 use Rattle.tib_real.proofs.Flags.{and-false}
-use Rattle.tib_real.specs.InFractions.{refused, inFractions, fractionsOf}
+use Rattle.tib_real.specs.WholeNumber.{refused}
+use Rattle.tib_real.specs.InFractions.{inFractions, fractionsOf}
 
 module _ (r : Real) where
   pub no-hint : r .hinted ≡ false → refused ≡ fractionsOf r

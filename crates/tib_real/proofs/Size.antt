@@ -9,7 +9,8 @@ use lib.Pow.{pow-add, pow-pos, pow-mono, shl-lt}
 use borrow.Author.Tests.{ne-eqb, eq-eqb, lt-ltb, le-ltb}
 use Rattle.tib_real.specs.Parts.{eight, negative, exponent, fraction, finite, significand, units}
 use Rattle.tib_real.proofs.Flags.{and-false}
-use Rattle.tib_real.specs.InFractions.{scaled, countable, signed, refused, accepted, inFractions}
+use Rattle.tib_real.specs.WholeNumber.{signed, refused, accepted}
+use Rattle.tib_real.specs.InFractions.{scaled, countable, inFractions}
 
 pub power-grows : (i j : ℕ) → i ≤ j → 2 ^ i ≤ 2 ^ j
 power-grows i j h = pow-mono h

@@ -14,7 +14,7 @@ use lib.Ieee.Exact.{HasValue}
 use lib.Ieee.Fits.{down-pos}
 use lib.Ieee.Nearest.{div-same}
 use borrow.Author.Tests.{ne-eqb, eq-eqb, eqb-true, eqb-false}
-use Rattle.tib_real.specs.InFractions.{signed}
+use Rattle.tib_real.specs.WholeNumber.{signed}
 use Rattle.tib_real.proofs.Flags.{and-also, or-true, or-left}
 
 -- ---- it can be truncated

@@ -1,14 +1,15 @@
 // Reads the reals of the Tib formats from four or eight octets, and reads a real in fractions.
 pub mod types;
 
-use types::Fractions;
 use types::Real;
+use types::WholeNumber;
 ghost use mathlib.Core.Path.{_≡_};
 ghost use Prim.Native.Nat.{_<_, _≤_, _^_};
 ghost use lib.Ieee.{binary64, ofBits};
 ghost use Rattle.tib_real.specs.Widened.{widened};
 ghost use Rattle.tib_real.specs.FromOctets.{withBits, realOf};
-ghost use Rattle.tib_real.specs.InFractions.{refused as refused-answer, inFractions, fractionsOf};
+ghost use Rattle.tib_real.specs.WholeNumber.{refused as refused-answer};
+ghost use Rattle.tib_real.specs.InFractions.{inFractions, fractionsOf};
 
 // Returns the value of these bits. The language makes no not-a-number from bits, so a division without a result makes it.
 fn value(bits: u64) -> f64
@@ -59,11 +60,11 @@ pub fn real(s: &[u8], hint: u64, hinted: bool) -> Real
     with_bits(0, 0, false)
 }
 
-// Returns the refusal of a real that cannot be read in fractions.
-fn refused() -> Fractions
+// Returns the refusal of a real that cannot be read in fractions, or in decimals.
+pub fn refused() -> WholeNumber
     ensures { λ r. ⌜ r ≡ refused-answer ⌝ }
 {
-    Fractions {
+    WholeNumber {
         refusal: reading::NOT_IN_FRACTIONS,
         place: 0,
         value: 0,
@@ -72,7 +73,7 @@ fn refused() -> Fractions
 
 // Internal: callers have already rejected other hints. With an exponent of 1076 - h or more the product's size is 2^53 or more, or the bits
 // are no number. With a smaller exponent the product is exact.
-fn in_fractions(bits: u64, h: u64) -> Fractions
+fn in_fractions(bits: u64, h: u64) -> WholeNumber
     requires { ⌜ (1 ≤ h) × (h ≤ 8) ⌝ }
     ensures { λ r. ⌜ r ≡ inFractions bits h ⌝ }
 {
@@ -82,7 +83,7 @@ fn in_fractions(bits: u64, h: u64) -> Fractions
     let product = f64::from_bits(bits) * ((1u64 << h) as f64);
     let whole = std::num::truncating_f64_to_i64(product);
     if whole as f64 == product {
-        return Fractions {
+        return WholeNumber {
             refusal: 0,
             place: 0,
             value: whole,
@@ -92,7 +93,7 @@ fn in_fractions(bits: u64, h: u64) -> Fractions
 }
 
 // Reads a real in fractions. It uses the bits and ignores the value beside them.
-pub fn fractions(r: Real) -> Fractions
+pub fn fractions(r: Real) -> WholeNumber
     ensures { λ a. ⌜ a ≡ fractionsOf r ⌝ }
 {
     let h = r.hint;

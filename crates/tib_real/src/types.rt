@@ -8,8 +8,8 @@ pub struct Real {
     pub hinted: bool,
 }
 
-// The result of reading a real in fractions: a refusal and its place, or 0 and the whole number.
-pub struct Fractions {
+// The result of reading a real as a whole number, in fractions or in decimals: a refusal and its place, or 0 and the number.
+pub struct WholeNumber {
     pub refusal: u64,
     pub place: u64,
     pub value: i64,

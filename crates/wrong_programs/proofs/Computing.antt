@@ -40,6 +40,7 @@ use Rattle.tib_real.specs.Parts as parts
 use Rattle.tib_real.specs.Widened as wide
 use Rattle.tib_real.specs.FromOctets as fromOctets
 use Rattle.tib_real.specs.InFractions as inFractions
+use Rattle.tib_real.specs.WholeNumber as wholeNumber
 use Rattle.tib_field.specs.Mark as marks
 use Rattle.tib_field.specs.Header as headers
 use Rattle.tib_field.specs.Steps as steps
@@ -112,8 +113,8 @@ unfolding kinds.always kinds.below kinds.octets kinds.word tibs.check tibs.field
     rvLayout.octets rvReading.following rvReading.own rvReading.counted rvReading.countAllowed rvReading.found rvReading.fromCount
     rvReading.fromSize rvReading.fromType rvReading.nextField rvReading.lead rvReading.total rvReading.partsAt rvReading.nestedOf
     rvReading.afterStep rvReading.fieldsFrom rvReading.headerFault rvReading.messageFrom rvReading.reading rv.check rv.count rv.field rv.places
-    rv.shown rv.outermost fromOctets.withBits fromOctets.realOf inFractions.scaled inFractions.countable inFractions.signed inFractions.refused
-    inFractions.accepted inFractions.inFractions inFractions.fractionsOf parts.negative parts.exponent parts.fraction parts.finite parts.significand
+    rv.shown rv.outermost fromOctets.withBits fromOctets.realOf inFractions.scaled inFractions.countable wholeNumber.signed wholeNumber.refused
+    wholeNumber.accepted inFractions.inFractions inFractions.fractionsOf parts.negative parts.exponent parts.fraction parts.finite parts.significand
     parts.units wide.packed wide.widened
 tib = Unit {0}
 

@@ -4,8 +4,9 @@ use mathlib.Core.Path.{_≡_, refl}
 use mathlib.Core.Bool.{true}
 use lib.IntN.{ℤ, pos}
 use borrow.Author.Tests.{eqb-false}
-use Rattle.tib_real.specs.InFractions.{accepted, refused, inFractions}
-use Rattle.tib_real.specs.declared.types.Fractions.{Fractions}
+use Rattle.tib_real.specs.InFractions.{inFractions}
+use Rattle.tib_real.specs.WholeNumber.{accepted, refused}
+use Rattle.tib_real.specs.declared.types.WholeNumber.{WholeNumber}
 use Rattle.wrong_programs.specs.Kinds.{RuledOut, Rejects, Accepts, Invents, SeesOnly, always, due}
 use Rattle.wrong_programs.specs.Reals.{FractionsInput, FractionsCall, fractions}
 use Rattle.wrong_programs.proofs.RulingOut.{Sample, given, rejects, accepts, invents, sees-only, pos-differ}
@@ -35,10 +36,10 @@ minus-zero : Sample fractions
 unfolding tib
 minus-zero = given (hinted 0x8000000000000000 1) (accepted (pos 0)) tt refl
 
-abbrev refusal : Fractions → ℕ
+abbrev refusal : WholeNumber → ℕ
 refusal a = a .refusal
 
-abbrev number : Fractions → ℤ
+abbrev number : WholeNumber → ℤ
 number a = a .value
 
 -- The contract accepts the call.

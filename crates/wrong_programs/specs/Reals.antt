@@ -5,7 +5,7 @@ use mathlib.Core.List.{List}
 use Rattle.tib_real.specs.FromOctets.{withBits, realOf}
 use Rattle.tib_real.specs.InFractions.{fractionsOf}
 use Rattle.tib_real.specs.declared.types.Real.{Real}
-use Rattle.tib_real.specs.declared.types.Fractions.{Fractions}
+use Rattle.tib_real.specs.declared.types.WholeNumber.{WholeNumber}
 use Rattle.wrong_programs.specs.Kinds.{Given, octets, word}
 
 -- A real that octets hold.
@@ -37,5 +37,5 @@ abbrev pub FractionsCall : Type 0
 FractionsCall = Given fractionsFits
 
 -- The contract of tib_real::fractions, and of crudvim_fractions, where `hinted` is a number and every number but 0 counts as true.
-unfoldable pub fractions : FractionsCall → Fractions
+unfoldable pub fractions : FractionsCall → WholeNumber
 fractions x = fractionsOf (withBits (x .value .bits) (x .value .hint) (x .value .hinted))

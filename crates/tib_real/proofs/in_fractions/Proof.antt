@@ -10,7 +10,8 @@ use mir.Syntax.{w64}
 use mir.Val.{toZ, ofZ}
 use mir.ValLaws.{toZ-ofZ}
 use Rattle.tib_real.specs.Parts.{eight, negative, exponent}
-use Rattle.tib_real.specs.InFractions.{scaled, signed, accepted}
+use Rattle.tib_real.specs.WholeNumber.{signed, accepted}
+use Rattle.tib_real.specs.InFractions.{scaled}
 use Rattle.tib_real.proofs.Masks.{eight-exponent, eight-number}
 use Rattle.tib_real.proofs.Size.{too-large, not-whole, scaled-below, quotient-below, whole}
 use Rattle.tib_real.proofs.Product.{product, product-value, power-fits}

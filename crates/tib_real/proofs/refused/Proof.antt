@@ -1,6 +1,6 @@
 -- `tib_real::refused` meets its contract.
 use mathlib.Core.Path.{refl}
-use Rattle.tib_real.specs.InFractions.{refused as answer}
+use Rattle.tib_real.specs.WholeNumber.{refused as answer}
 use Rattle.tib_real.proofs.refused.Statement.{statement}
 use Rattle.tib_real.proofs.refused.Tie as tie
 
