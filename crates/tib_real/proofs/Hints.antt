@@ -1,27 +1,34 @@
--- Which hints a real is read in fractions with.
-use Prim.Native.Nat.{_≤_, _<_}
-use mathlib.Core.Path.{_≡_}
-use mathlib.Core.Bool.{true, false}
-use lib.Dec.{leb}
-use borrow.Author.Tests.{le-leb, lt-leb}
+-- What a hint within limits says, and what one outside of them.
+use Prim.Native.Nat.{ℕ, _≤_}
+use mathlib.Core.Path.{_≡_, sym, subst}
+use mathlib.Core.Bool.{true, _&&_}
+use lib.Dec.{T, leb, leb→le}
+use lib.Ieee.Bits.{is-true}
+use lib.Ieee.Fits.{and-l, and-r}
+use borrow.Author.Tests.{le-leb}
 use Rattle.tib_real.specs.declared.types.Real.{Real}
-use Rattle.tib_real.proofs.Flags.{and-false}
-use Rattle.tib_real.specs.WholeNumber.{refused}
-use Rattle.tib_real.specs.InFractions.{inFractions, fractionsOf}
+use Rattle.tib_real.specs.WholeNumber.{hintWithin}
 
-module _ (r : Real) where
-  pub no-hint : r .hinted ≡ false → refused ≡ fractionsOf r
-  unfolding fractionsOf
-  no-hint e = rw e
+-- The parts of the test.
+pub record Within (least most : ℕ) (r : Real) : Type 0 where
+  pub hinted : r .hinted ≡ true
+  pub notBelow : least ≤ r .hint
+  pub notAbove : r .hint ≤ most
 
-  pub small-hint : r .hint < 1 → refused ≡ fractionsOf r
-  unfolding fractionsOf
-  small-hint h = rw (lt-leb 1 (r .hint) h, and-false (r .hinted))
+pub within : (least most : ℕ) (r : Real) → hintWithin least most r ≡ true → Within least most r
+unfolding hintWithin
+within least most r e =
+    let t : T (hintWithin least most r) = subst T (sym e) tt in
+    let h = r .hinted in
+    let a = leb least (r .hint) in
+    let b = leb (r .hint) most in
+    let l = and-l (h && a) b t in
+    record {
+      hinted = is-true h (and-l h a l);
+      notBelow = leb→le least (r .hint) (and-r h a l);
+      notAbove = leb→le (r .hint) most (and-r (h && a) b t);
+    }
 
-  pub large-hint : 8 < r .hint → refused ≡ fractionsOf r
-  unfolding fractionsOf
-  large-hint h = rw (lt-leb (r .hint) 8 h, and-false (leb 1 (r .hint)), and-false (r .hinted))
-
-  pub good-hint : r .hinted ≡ true → 1 ≤ r .hint → r .hint ≤ 8 → inFractions (r .bits) (r .hint) ≡ fractionsOf r
-  unfolding fractionsOf
-  good-hint e h k = rw (e, le-leb 1 (r .hint) h, le-leb (r .hint) 8 k)
+pub within-limits : (least most : ℕ) (r : Real) → Within least most r → hintWithin least most r ≡ true
+unfolding hintWithin
+within-limits least most r w = rw (w .hinted, le-leb least (r .hint) (w .notBelow), le-leb (r .hint) most (w .notAbove))

@@ -8,12 +8,12 @@ use Rattle.octets.specs.Number.{bigEndian}
 use Rattle.tib_real.specs.Parts.{negative, exponent, fraction, finite, significand, units}
 use Rattle.tib_real.specs.Widened.{packed, normalized, widened}
 use Rattle.tib_real.specs.FromOctets.{withBits, realOf}
-use Rattle.tib_real.specs.WholeNumber.{signed, accepted, refused}
+use Rattle.tib_real.specs.WholeNumber.{hintWithin, signed, accepted, refused}
 use Rattle.tib_real.specs.InFractions.{scaled, countable, inFractions, fractionsOf}
 
 -- 3.25 with the hint 2.
 pub sample : fractionsOf (realOf (0x40 ∷ 0x0a ∷ 0 ∷ 0 ∷ 0 ∷ 0 ∷ 0 ∷ 0 ∷ []) 2 true) ≡ accepted (pos 13)
-unfolding fractionsOf realOf withBits bigEndian inFractions countable scaled signed negative exponent fraction finite significand units
+unfolding fractionsOf hintWithin realOf withBits bigEndian inFractions countable scaled signed negative exponent fraction finite significand units
 sample = refl
 
 -- A not-a-number of four octets.

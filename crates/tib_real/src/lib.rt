@@ -8,7 +8,7 @@ ghost use Prim.Native.Nat.{_<_, _≤_, _^_};
 ghost use lib.Ieee.{binary64, ofBits};
 ghost use Rattle.tib_real.specs.Widened.{widened};
 ghost use Rattle.tib_real.specs.FromOctets.{withBits, realOf};
-ghost use Rattle.tib_real.specs.WholeNumber.{refused as refused-answer};
+ghost use Rattle.tib_real.specs.WholeNumber.{hintWithin, refused as refused-answer};
 ghost use Rattle.tib_real.specs.InFractions.{inFractions, fractionsOf};
 
 // Returns the value of these bits. The language makes no not-a-number from bits, so a division without a result makes it.
@@ -60,6 +60,13 @@ pub fn real(s: &[u8], hint: u64, hinted: bool) -> Real
     with_bits(0, 0, false)
 }
 
+// Returns whether a real has a hint, and one from `least` to `most`.
+pub fn hint_within(r: Real, least: u64, most: u64) -> bool
+    ensures { λ w. ⌜ w ≡ hintWithin least most r ⌝ }
+{
+    r.hinted & (least <= r.hint) & (r.hint <= most)
+}
+
 // Returns the refusal of a real that cannot be read in fractions, or in decimals.
 pub fn refused() -> WholeNumber
     ensures { λ r. ⌜ r ≡ refused-answer ⌝ }
@@ -96,15 +103,8 @@ fn in_fractions(bits: u64, h: u64) -> WholeNumber
 pub fn fractions(r: Real) -> WholeNumber
     ensures { λ a. ⌜ a ≡ fractionsOf r ⌝ }
 {
-    let h = r.hint;
-    if !r.hinted {
+    if !hint_within(r, 1, 8) {
         return refused();
     }
-    if h < 1 {
-        return refused();
-    }
-    if 8 < h {
-        return refused();
-    }
-    in_fractions(r.bits, h)
+    in_fractions(r.bits, r.hint)
 }

@@ -1,45 +1,35 @@
 -- `tib_real::fractions` meets its contract.
-use native.Mathlib.Omega.{arith}
-use mathlib.Core.Path.{_∙_}
-use Rattle.tib_real.proofs.Hints.{no-hint, small-hint, large-hint, good-hint}
+use mathlib.Core.Path.{_≡_, sym, _∙_}
+use mathlib.Core.Bool.{true}
 use borrow.Author.Tests.{not-true, not-false}
 use borrow.Author.Needs.{needs}
+use Rattle.tib_real.specs.WholeNumber.{hintWithin}
+use Rattle.tib_real.specs.InFractions.{fractionsOf}
+use Rattle.tib_real.proofs.Hints.{within}
 use Rattle.tib_real.proofs.fractions.Statement.{statement}
 use Rattle.tib_real.proofs.fractions.Tie as tie
+
+-- The hint is within the limits.
+hint : (c : tie.Else1) → hintWithin 1 8 (c .before .before .args .r) ≡ true
+hint c = sym (c .before .hint-within .ensures) ∙ not-false _ (c .if1 .left)
+
+hint-within-requires : tie.Need-hint-within-requires
+hint-within-requires c κs = search needs
 
 refused-requires : tie.Need-refused-requires
 refused-requires c κs = search needs
 
 returns : tie.Need-returns
-returns c = c .refused .ensures ∙ no-hint (c .before .before .before .args .r) (not-true _ (c .before .if1 .taken))
-
-refused-requires-2 : tie.Need-refused-requires-2
-refused-requires-2 c κs = search needs
-
-returns-2 : tie.Need-returns-2
-returns-2 c = c .refused2 .ensures ∙ small-hint (c .before .before .before .before .args .r) (omega arith)
-
-refused-requires-3 : tie.Need-refused-requires-3
-refused-requires-3 c κs = search needs
-
-returns-3 : tie.Need-returns-3
-returns-3 c = c .refused3 .ensures ∙ large-hint (c .before .before .before .before .before .args .r) (omega arith)
+unfolding fractionsOf
+returns c = let e = sym (c .before .before .hint-within .ensures) ∙ not-true _ (c .before .if1 .taken) in rw e (c .refused .ensures)
 
 in-fractions-requires : tie.Need-in-fractions-requires
-in-fractions-requires c κs = search needs
+in-fractions-requires c κs = let w = within 1 8 (c .before .before .args .r) (hint c) in (w .notBelow, w .notAbove)
 
-returns-4 : tie.Need-returns-4
-returns-4 c = c .in-fractions .ensures ∙ good-hint (c .before .before .before .before .before .args .r) (not-false _ (c .before .before .before .if1 .left)) (omega arith) (omega arith)
+returns-2 : tie.Need-returns-2
+unfolding fractionsOf
+returns-2 c = rw (hint (c .before)) (c .in-fractions .ensures)
 
 pub fractions-spec : {M : Type 1} → statement M
 fractions-spec =
-    tie.close
-    (tie.spec
-    refused-requires
-    returns
-    refused-requires-2
-    returns-2
-    refused-requires-3
-    returns-3
-    in-fractions-requires
-    returns-4)
+    tie.close (tie.spec hint-within-requires refused-requires returns in-fractions-requires returns-2)

@@ -1,0 +1,11 @@
+pub mod Nearest
+pub mod Rounding
+pub mod Shifts
+pub mod ByShift
+pub mod Capped
+pub mod TwoParts
+pub mod Exponents
+pub mod Powers
+pub mod InRange
+pub mod Exactly
+pub mod Samples

@@ -1,0 +1,4 @@
+pub mod Nearest
+pub mod InDecimals
+pub mod Reads
+pub mod internal
