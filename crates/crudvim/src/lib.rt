@@ -9,6 +9,7 @@ ghost use Rattle.tib_rv.specs.CheckAndField.{check as tibrv-check, field as tib
 ghost use Rattle.tib_qform.specs.CheckAndField.{checkOctets as qform-check, fieldOctets as qform-field};
 ghost use Rattle.tib_real.specs.FromOctets.{withBits};
 ghost use Rattle.tib_real.specs.InFractions.{fractionsOf};
+ghost use Rattle.tib_decimals.specs.InDecimals.{decimalsOf};
 ghost use Rattle.crudvim.specs.Fields.{flag as flag-of, flagged, parts, hint as hint-of};
 
 // Checks a message.
@@ -301,4 +302,22 @@ pub extern "C" fn crudvim_fractions(
     let value = fractions.value;
     *whole = value;
     fractions.refusal
+}
+
+// Reads a real in decimals. The real is passed by its bits; `hinted` is 0 if it has no hint.
+#[no_mangle]
+pub extern "C" fn crudvim_decimals(
+    real_bits: u64,
+    hinted: u64,
+    hint: u64,
+    place: &mut u64,
+    whole: &mut i64,
+) -> u64
+    ensures { λ r. ⌜ decimalsOf (withBits «real_bits» hint (flagged hinted)) ≡ record { refusal = r; place = now (place .exit); value = now (whole .exit) } ⌝ }
+{
+    let decimals = tib_decimals::decimals(tib_real::with_bits(real_bits, hint, hinted != 0));
+    *place = decimals.place;
+    let value = decimals.value;
+    *whole = value;
+    decimals.refusal
 }

@@ -41,6 +41,7 @@ split n d p = go (ltb (2 * (n % d)) d) refl (ltb d (2 * (n % d))) refl
   where
     whole : n ≡ n / d * d + n % d
     whole = sym (div-add-mod' n d)
+
     go : (a : Bool) → ltb (2 * (n % d)) d ≡ a → (b : Bool) → ltb d (2 * (n % d)) ≡ b → Split n d
     go true e b f = below (n / d) (n % d) whole (ltb-true (2 * (n % d)) d e)
     go false e true f = above (n / d) (n % d) whole (mod-lt n p) (ltb-true d (2 * (n % d)) f)
@@ -104,6 +105,7 @@ nearest-scaled n d c p l = go (split n d p)
   where
     parts : (q r : ℕ) → n ≡ q * d + r → n * c ≡ q * (d * c) + r * c
     parts q r e = rw e (add-mul (q * d) r c ∙ ap (λ (x : ℕ). x + r * c) (mul-assoc q d c))
+
     go : Split n d → nearest (n * c) (d * c) ≡ nearest n d
     go (below q r e h) =
         rw (parts q r e, below-half q (r * c) (d * c) (rw (← mul-assoc 2 r c) (mul-lt-mul-of-pos-right h l)), e, below-half q r d h)
@@ -118,6 +120,7 @@ nearest-plus a n d p z = go (split n d p)
   where
     parts : (q r : ℕ) → n ≡ q * d + r → a * d + n ≡ (a + q) * d + r
     parts q r e = let k = add-mul a q d in omega arith
+
     go : Split n d → nearest (a * d + n) d ≡ a + nearest n d
     go (below q r e h) = rw (parts q r e, below-half (a + q) r d h, e, below-half q r d h)
     go (just q r e h) = rw (parts q r e, just-half (a + q) r d p h, e, just-half q r d p h) (omega arith)
@@ -135,6 +138,7 @@ nearest-at-least k n d p h = go (split n d p)
         let s : k * d < (q + 1) * d = omega arith in
         let t = lt-of-mul-lt-mul-right d s in
         omega arith
+
     go : Split n d → k ≤ nearest n d
     go (below q r e s) = let l = least q r e (omega arith) in rw (e, below-half q r d s) l
     go (just q r e s) = let l = least q r e (omega arith) in rw (e, just-half q r d p s) (omega arith)
@@ -145,8 +149,10 @@ nearest-at-most k n d p h = go (split n d p)
   where
     most : (q r : ℕ) → n ≡ q * d + r → q ≤ k
     most q r e = let s : q * d ≤ k * d = omega arith in le-of-mul-le-mul-right s p
+
     less : (q r : ℕ) → n ≡ q * d + r → 0 < r → q < k
     less q r e l = let s : q * d < k * d = omega arith in lt-of-mul-lt-mul-right d s
+
     go : Split n d → nearest n d ≤ k
     go (below q r e s) = let l = most q r e in rw (e, below-half q r d s) l
     go (just q r e s) = let l = less q r e (omega arith) in rw (e, just-half q r d p s) (omega arith)

@@ -57,7 +57,8 @@ fn small(high: u64, low: u64, t: u64) -> u64
     requires { ⌜ (high < 2 ^ 43) × (low < 2 ^ 32) × (2 ≤ t) × (t ≤ 44) ⌝ }
     ensures { λ r. ⌜ r ≡ nearest (high * 2 ^ 32 + low) (2 ^ (t + 30)) ⌝ }
 {
-    rounded((high << 2) + ((low >> 31) << 1) + some(low & 0x7fff_ffff), t)
+    let folded = (high << 2) + ((low >> 31) << 1) + some(low & 0x7fff_ffff);
+    rounded(folded, t)
 }
 
 // Returns high * 2^42 + low * 2^10 over 2^t, rounded, or TOO_LARGE. The high part is a multiple of 2^(t + 1), so only the low part is rounded.
@@ -137,7 +138,9 @@ fn in_decimals(bits: u64, k: u64) -> WholeNumber
     if e == 0x7ff {
         return tib_real::refused();
     }
-    answer(bits >> 63 == 1, size(significand(bits), power_of_five(k), numbers::larger(e, 1) + k))
+    let m = significand(bits);
+    let f = power_of_five(k);
+    answer(bits >> 63 == 1, size(m, f, numbers::larger(e, 1) + k))
 }
 
 // Reads a real in decimals: the whole number nearest to it times 10^k, a tie to the even one, where k is the hint less 16. It uses the bits

@@ -5,14 +5,14 @@ use borrow.Author.Needs.{needs}
 use Rattle.tib_decimals.proofs.small.Statement.{statement}
 use Rattle.tib_decimals.proofs.small.Tie as tie
 
-add-rounded : tie.Need-add-rounded
-add-rounded c = search needs
+add-folded : tie.Need-add-folded
+add-folded c = search needs
 
 some-requires : tie.Need-some-requires
 some-requires c κs = search needs
 
-add-rounded-2 : tie.Need-add-rounded-2
-add-rounded-2 c = search needs
+add-folded-2 : tie.Need-add-folded-2
+add-folded-2 c = search needs
 
 rounded-requires : tie.Need-rounded-requires
 rounded-requires c κs = search needs
@@ -23,4 +23,4 @@ returns c =
     rw (c .before .some .ensures) at (c .rounded .ensures) ∙ small-is (s .args .high) (s .args .low) (s .args .t) (s .pre .1) (s .pre .0) (s .pre .2)
 
 pub small-spec : {M : Type 1} → statement M
-small-spec = tie.close (tie.spec add-rounded some-requires add-rounded-2 rounded-requires returns)
+small-spec = tie.close (tie.spec add-folded some-requires add-folded-2 rounded-requires returns)
