@@ -317,7 +317,7 @@ pub extern "C" fn crudvim_decimals(
 {
     let decimals = tib_decimals::decimals(tib_real::with_bits(real_bits, hint, hinted != 0));
     *place = decimals.place;
-    let value = decimals.value;
-    *whole = value;
+    let nearest = decimals.value;
+    *whole = nearest;
     decimals.refusal
 }

@@ -6,7 +6,7 @@
 mod print;
 mod qform;
 
-// Checks a TibMsg message and shows its fields, the reals read in fractions too.
+// Checks a TibMsg message and shows its fields, the reals read in fractions and in decimals too.
 fn msg(s: &[u8]) {
     let c = tib_msg::check(s);
     if c.refusal != 0 {

@@ -1,6 +1,7 @@
 // Prints the fields that the readers return.
 use tib_field::Field;
 use tib_real::types::Real;
+use tib_real::types::WholeNumber;
 
 // Prints the bits of a value, or `nan`: the language does not give the bits of a not-a-number.
 fn value(v: f64) {
@@ -11,19 +12,25 @@ fn value(v: f64) {
     }
 }
 
-// Prints a real: its value, its bits, and its value in fractions.
+// Prints a whole number, or the refusal.
+fn whole_number(a: WholeNumber) {
+    if a.refusal == 0 {
+        program_lines::signed(a.value);
+    } else {
+        program_lines::refusal(a.refusal, a.place);
+    }
+}
+
+// Prints a real: its value, its bits, and its value in fractions and in decimals.
 pub fn real(r: Real) {
     program_lines::text(b" real ");
     value(r.value);
     program_lines::text(b" ");
     io::print_hex(1, r.bits, 16);
     program_lines::text(b" in fractions ");
-    let a = tib_real::fractions(r);
-    if a.refusal == 0 {
-        program_lines::signed(a.value);
-    } else {
-        program_lines::refusal(a.refusal, a.place);
-    }
+    whole_number(tib_real::fractions(r));
+    program_lines::text(b" in decimals ");
+    whole_number(tib_decimals::decimals(r));
 }
 
 fn hint(f: Field) {

@@ -41,6 +41,8 @@ use Rattle.tib_real.specs.Widened as wide
 use Rattle.tib_real.specs.FromOctets as fromOctets
 use Rattle.tib_real.specs.InFractions as inFractions
 use Rattle.tib_real.specs.WholeNumber as wholeNumber
+use Rattle.tib_decimals.specs.Nearest as nearests
+use Rattle.tib_decimals.specs.InDecimals as inDecimals
 use Rattle.tib_field.specs.Mark as marks
 use Rattle.tib_field.specs.Header as headers
 use Rattle.tib_field.specs.Steps as steps
@@ -104,8 +106,8 @@ unfolding hproto writing.stateFits writing.startFits writing.intFits writing.Val
 writer = Unit {0}
 
 unfoldable pub tib : Type 0
-unfolding kinds.always kinds.below kinds.octets kinds.word tibs.check tibs.fieldFits tibs.field reals.realFits reals.real reals.fractionsFits
-    reals.fractions onAccepted inOrder octets.bigEndian answers.counts answers.refusal marks.begins headers.headerOctets headers.headerFault
+unfolding kinds.always kinds.below kinds.octets kinds.word tibs.check tibs.fieldFits tibs.field reals.realFits reals.real reals.hintedFits
+    reals.fractions reals.decimals onAccepted inOrder octets.bigEndian answers.counts answers.refusal marks.begins headers.headerOctets headers.headerFault
     headers.afterHeader headers.readingOf names.nameStep names.named names.closes
     names.afterName fields.placed kths.fieldOf kths.fieldOrAbsent msgLayout.kind msgLayout.hinted msgLayout.sizeWidth msgLayout.isWidth
     msgLayout.sizeAllowed msgLayout.octets msgReading.typeAllowed msgReading.hintAt msgReading.readHint msgReading.valueHint msgReading.withHint
@@ -113,8 +115,8 @@ unfolding kinds.always kinds.below kinds.octets kinds.word tibs.check tibs.field
     rvLayout.octets rvReading.following rvReading.own rvReading.counted rvReading.countAllowed rvReading.found rvReading.fromCount
     rvReading.fromSize rvReading.fromType rvReading.nextField rvReading.lead rvReading.total rvReading.partsAt rvReading.nestedOf
     rvReading.afterStep rvReading.fieldsFrom rvReading.headerFault rvReading.messageFrom rvReading.reading rv.check rv.count rv.field rv.places
-    rv.shown rv.outermost fromOctets.withBits fromOctets.realOf inFractions.scaled inFractions.countable wholeNumber.signed wholeNumber.refused
-    wholeNumber.accepted inFractions.inFractions inFractions.fractionsOf parts.negative parts.exponent parts.fraction parts.finite parts.significand
+    rv.shown rv.outermost fromOctets.withBits fromOctets.realOf inFractions.scaled inFractions.countable wholeNumber.hintWithin wholeNumber.signed wholeNumber.refused
+    wholeNumber.accepted inDecimals.scaled inDecimals.rounded inDecimals.inRange inDecimals.answer inDecimals.inDecimals inDecimals.decimalsOf nearests.nearest inFractions.inFractions inFractions.fractionsOf parts.negative parts.exponent parts.fraction parts.finite parts.significand
     parts.units wide.packed wide.widened
 tib = Unit {0}
 

@@ -8,11 +8,11 @@ use Rattle.tib_real.specs.InFractions.{inFractions}
 use Rattle.tib_real.specs.WholeNumber.{accepted, refused}
 use Rattle.tib_real.specs.declared.types.WholeNumber.{WholeNumber}
 use Rattle.wrong_programs.specs.Kinds.{RuledOut, Rejects, Accepts, Invents, SeesOnly, always, due}
-use Rattle.wrong_programs.specs.Reals.{FractionsInput, FractionsCall, fractions}
+use Rattle.wrong_programs.specs.Reals.{HintedReal, HintedCall, fractions}
 use Rattle.wrong_programs.proofs.RulingOut.{Sample, given, rejects, accepts, invents, sees-only, pos-differ}
 use Rattle.wrong_programs.proofs.Computing.{tib}
 
-abbrev hinted : ℕ → ℕ → FractionsInput
+abbrev hinted : ℕ → ℕ → HintedReal
 hinted bits hint = record { bits = bits; hint = hint; hinted = true }
 
 -- 3.25 with the hints 2 and 3; 1 with the hints 2 and 0; minus zero.
@@ -43,11 +43,11 @@ abbrev number : WholeNumber → ℤ
 number a = a .value
 
 -- The contract accepts the call.
-abbrev accepts-it : FractionsCall → Type 0
+abbrev accepts-it : HintedCall → Type 0
 accepts-it = due fractions refusal 0
 
 -- It rejects all reals, or all but zero.
-abbrev not-zero : FractionsCall → Type 0
+abbrev not-zero : HintedCall → Type 0
 not-zero x = x .value .bits % 2 ^ 63 ≡ 0 → ⊥
 
 pub rejects-all : RuledOut (Rejects refusal not-zero) fractions
@@ -55,7 +55,7 @@ unfolding quarters
 rejects-all = rejects refusal not-zero quarters (eqb-false 0x400a000000000000 0 refl) refl
 
 -- It rejects minus zero.
-abbrev is-minus-zero : FractionsCall → Type 0
+abbrev is-minus-zero : HintedCall → Type 0
 is-minus-zero x = x .value .bits ≡ 0x8000000000000000
 
 pub rejects-minus-zero : RuledOut (Rejects refusal is-minus-zero) fractions
@@ -63,7 +63,7 @@ unfolding minus-zero
 rejects-minus-zero = rejects refusal is-minus-zero minus-zero refl refl
 
 -- It accepts the hint 0 for a real that is whole.
-abbrev whole-with-hint-0 : FractionsCall → Type 0
+abbrev whole-with-hint-0 : HintedCall → Type 0
 whole-with-hint-0 x = (x .value .hinted ≡ true) × (x .value .hint ≡ 0) × (inFractions (x .value .bits) 0 .refusal ≡ 0)
 
 pub accepts-hint-0 : RuledOut (Accepts refusal whole-with-hint-0) fractions
@@ -71,23 +71,23 @@ unfolding hint-0
 accepts-hint-0 = accepts refusal whole-with-hint-0 hint-0 (refl, refl, refl) (eqb-false 17 0 refl)
 
 -- Every answer is 0.
-pub answers-0 : RuledOut (Invents number (λ (x : FractionsCall). pos 0) always) fractions
+pub answers-0 : RuledOut (Invents number (λ (x : HintedCall). pos 0) always) fractions
 unfolding quarters
-answers-0 = invents number (λ (x : FractionsCall). pos 0) always quarters tt (pos-differ 13 0 refl)
+answers-0 = invents number (λ (x : HintedCall). pos 0) always quarters tt (pos-differ 13 0 refl)
 
 -- The answer is the same each time, or is made from the hint, or from the bits.
-pub bits-ignored : RuledOut (SeesOnly (λ (x : FractionsCall). x .value .hint) number accepts-it) fractions
+pub bits-ignored : RuledOut (SeesOnly (λ (x : HintedCall). x .value .hint) number accepts-it) fractions
 unfolding quarters one
-bits-ignored = sees-only (λ (x : FractionsCall). x .value .hint) number accepts-it quarters one refl refl refl (pos-differ 13 4 refl)
+bits-ignored = sees-only (λ (x : HintedCall). x .value .hint) number accepts-it quarters one refl refl refl (pos-differ 13 4 refl)
 
-pub hint-ignored : RuledOut (SeesOnly (λ (x : FractionsCall). x .value .bits) number accepts-it) fractions
+pub hint-ignored : RuledOut (SeesOnly (λ (x : HintedCall). x .value .bits) number accepts-it) fractions
 unfolding quarters eighths
-hint-ignored = sees-only (λ (x : FractionsCall). x .value .bits) number accepts-it quarters eighths refl refl refl (pos-differ 13 26 refl)
+hint-ignored = sees-only (λ (x : HintedCall). x .value .bits) number accepts-it quarters eighths refl refl refl (pos-differ 13 26 refl)
 
 -- The product is by 2 ^ (h + 1): where the number should be 13, it is twice that.
-abbrev thirteen : FractionsCall → Type 0
+abbrev thirteen : HintedCall → Type 0
 thirteen = due fractions number (pos 13)
 
-pub next-power : RuledOut (Invents number (λ (x : FractionsCall). pos 26) thirteen) fractions
+pub next-power : RuledOut (Invents number (λ (x : HintedCall). pos 26) thirteen) fractions
 unfolding quarters
-next-power = invents number (λ (x : FractionsCall). pos 26) thirteen quarters refl (pos-differ 13 26 refl)
+next-power = invents number (λ (x : HintedCall). pos 26) thirteen quarters refl (pos-differ 13 26 refl)

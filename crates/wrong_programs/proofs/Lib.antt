@@ -25,6 +25,7 @@ pub mod QformField
 pub mod QformValues
 pub mod Reals
 pub mod Fractions
+pub mod Decimals
 pub mod WriterStates
 pub mod Puts
 pub mod Nesting

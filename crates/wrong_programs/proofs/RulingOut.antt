@@ -4,7 +4,7 @@ use mathlib.Core.Path.{_≡_, sym, _∙_, ap}
 use mathlib.Core.Bool.{Bool, false}
 use mathlib.Core.List.{List}
 use lib.ListN.{getD}
-use lib.IntN.{pos}
+use lib.IntN.{pos, negsuc}
 use lib.Dec.{T, eqb}
 use borrow.Author.Tests.{eqb-false}
 use Rattle.wrong_programs.specs.Kinds.{RuledOut, Rejects, Accepts, AcceptsSome, Invents, Changes, SeesOnly, Follows, Given, due}
@@ -74,3 +74,6 @@ differ-at {a} {b} i d e = eqb-false (getD a i 0) (getD b i 0) d (ap (λ (s : Lis
 
 pub pos-differ : (m n : ℕ) → eqb m n ≡ false → pos m ≡ pos n → ⊥
 pos-differ m n d e = eqb-false m n d cc
+
+pub neg-differ : (m n : ℕ) → eqb m n ≡ false → negsuc m ≡ negsuc n → ⊥
+neg-differ m n d e = eqb-false m n d cc
