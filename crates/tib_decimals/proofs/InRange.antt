@@ -1,40 +1,34 @@
--- The functions `answer` and `in_decimals`: which sizes are in range, and which bits are a number's.
-use Prim.Native.Nat.{ℕ, _+_, _/_, _^_, _≤_, _<_, max}
+-- The functions `with_sign`, `answer` and `in_decimals`: which sizes are in range, and what bits stand for.
+use Prim.Native.Nat.{ℕ, zero, suc, _+_, _/_, _^_, _≤_, _<_}
 use native.Mathlib.Omega.{arith}
 use mathlib.Core.Path.{_≡_, refl, sym, ap, _∙_}
 use mathlib.Core.Bool.{Bool, true, false}
 use lib.Arith.{lt-of-le-ne}
-use lib.Bits.{mask-lt}
+use lib.Bits.{bitAnd, and-mask, mask-lt}
 use lib.Dec.{eqb, leb}
-use lib.IntN.{ℤ, pos, negℤ}
-use borrow.Author.Tests.{leb-true, leb-false, eq-eqb, ne-eqb, le-leb, lt-ltb, le-ltb}
-use Rattle.tib_real.specs.Parts.{eight, negative, exponent, finite, significand}
+use borrow.Author.Tests.{leb-true, leb-false, eqb-true, eqb-false, eq-eqb, ne-eqb, le-leb, lt-leb, lt-ltb, le-ltb}
+use Rattle.tib_real.specs.Parts.{eight, negative, exponent, fraction, finite}
 use Rattle.tib_real.specs.WholeNumber.{signed, refused, accepted}
 use Rattle.tib_real.proofs.Masks.{eight-exponent}
 use Rattle.tib_decimals.specs.InDecimals.{rounded, inRange, answer, inDecimals}
 use Rattle.tib_decimals.specs.internal.Sizes.{capped, sizeOf}
 use Rattle.tib_decimals.proofs.Capped.{out-of-range, capped-answer}
-use Rattle.tib_decimals.proofs.Powers.{size-is}
+use Rattle.tib_decimals.proofs.Exponents.{far-up, far-down}
+use Rattle.tib_decimals.proofs.Powers.{normal, factors, normal-size, subnormal-size}
 
--- ---- answers
+-- ---- a sign, 1 or 0, and a size
 
-pub too-large : (minus : Bool) (n : ℕ) → 2 ^ 63 < n → refused ≡ answer minus n
-unfolding answer
-too-large minus n h = rw (out-of-range minus n h)
-
-pub below-zero : (n : ℕ) → n ≤ 2 ^ 63 → accepted (negℤ (pos n)) ≡ answer true n
-unfolding answer inRange signed
-below-zero n h = rw (le-leb n (2 ^ 63) h)
-
-pub just-out-of-range : (n : ℕ) → n ≡ 2 ^ 63 → refused ≡ answer false n
+pub too-large : (sign n : ℕ) → sign ≤ 1 → 2 ^ 63 + sign ≤ n → refused ≡ answer (eqb sign 1) n
 unfolding answer inRange
-just-out-of-range n h = rw (le-ltb n (2 ^ 63) (omega arith))
+too-large zero n s h = rw (le-ltb n (2 ^ 63) (omega arith))
+too-large (suc zero) n s h = rw (lt-leb n (2 ^ 63) (omega arith))
+too-large (suc (suc sign)) n s h = absurd (omega arith)
 
-pub above-zero : (n : ℕ) → n < 2 ^ 63 → accepted (pos n) ≡ answer false n
-unfolding answer inRange signed
-above-zero n h = rw (lt-ltb n (2 ^ 63) h)
-
--- ---- the sign
+pub in-range : (sign n : ℕ) → sign ≤ 1 → n < 2 ^ 63 + sign → accepted (signed (eqb sign 1) n) ≡ answer (eqb sign 1) n
+unfolding answer inRange
+in-range zero n s h = rw (lt-ltb n (2 ^ 63) (omega arith))
+in-range (suc zero) n s h = rw (le-leb n (2 ^ 63) (omega arith))
+in-range (suc (suc sign)) n s h = absurd (omega arith)
 
 pub sign-is : (b : ℕ) → b < 2 ^ 64 → eqb (b / 2 ^ 63) 1 ≡ negative eight b
 unfolding negative
@@ -44,19 +38,44 @@ sign-is b h = go (leb (2 ^ 63) b) refl
     go true e = let k = leb-true (2 ^ 63) b e in eq-eqb (b / 2 ^ 63) 1 (omega arith)
     go false e = let k = leb-false (2 ^ 63) b e in ne-eqb (b / 2 ^ 63) 1 (λ x. omega arith)
 
--- ---- all bits
+-- ---- the parts of bits, as the machine takes them
 
 pub exponent-below : (b : ℕ) → exponent eight b < 2048
 exponent-below b = rw (← eight-exponent b) (mask-lt (b / 2 ^ 52) 11)
 
-pub no-number : (b k : ℕ) → exponent eight b ≡ 2047 → refused ≡ inDecimals b k
-unfolding inDecimals finite
-no-number b k e = rw e
+pub fraction-is : (b : ℕ) → bitAnd b 0xfffffffffffff ≡ fraction eight b
+unfolding fraction
+fraction-is b = and-mask b 52
 
-pub number : (b k : ℕ) → b < 2 ^ 64 → (exponent eight b ≡ 2047 → ⊥)
-    → answer (eqb (b / 2 ^ 63) 1) (capped (sizeOf (significand eight b) (5 ^ k) (max (exponent eight b) 1 + k))) ≡ inDecimals b k
-unfolding inDecimals finite
-number b k h n =
-    let l = exponent-below b in
-    let f = lt-ltb (exponent eight b) 2047 (lt-of-le-ne (omega arith) n) in
-    rw (f, sign-is b h, size-is b k) (capped-answer (negative eight b) (rounded b k))
+-- ---- all bits
+
+module _ (b k : ℕ) (h : 1 ≤ k) (l : k ≤ 9) where
+  abbrev size : ℕ
+  size = sizeOf (normal b k) (5 ^ k) (exponent eight b + k)
+
+  -- An infinity or a not-a-number.
+  no-number : (minus : Bool) → exponent eight b ≡ 2047 → answer minus size ≡ inDecimals b k
+  unfolding answer inDecimals finite
+  no-number minus e =
+      let f = far-up (normal b k) (5 ^ k) (exponent eight b + k) (factors b k h l) (omega arith) in
+      rw (out-of-range minus size f, e)
+
+  number : (exponent eight b ≡ 2047 → ⊥) → size ≡ rounded b k → answer (negative eight b) size ≡ inDecimals b k
+  unfolding inDecimals finite
+  number n e =
+      let x = exponent-below b in
+      rw (lt-ltb (exponent eight b) 2047 (lt-of-le-ne (omega arith) n), e)
+
+  all-bits : answer (negative eight b) size ≡ inDecimals b k
+  all-bits = go (eqb (exponent eight b) 2047) refl (eqb (exponent eight b) 0) refl
+    where
+      go : (p : Bool) → eqb (exponent eight b) 2047 ≡ p → (q : Bool) → eqb (exponent eight b) 0 ≡ q → answer (negative eight b) size ≡ inDecimals b k
+      go true e q f = no-number (negative eight b) (eqb-true (exponent eight b) 2047 e)
+      go false e true f =
+          let z = eqb-true (exponent eight b) 0 f in
+          let s = far-down (normal b k) (5 ^ k) (exponent eight b + k) (factors b k h l) (omega arith) in
+          number (eqb-false (exponent eight b) 2047 e) (s ∙ sym (subnormal-size b k l z))
+      go false e false f = number (eqb-false (exponent eight b) 2047 e) (normal-size b k (eqb-false (exponent eight b) 0 f))
+
+  pub bits-answer : b < 2 ^ 64 → answer (eqb (b / 2 ^ 63) 1) (capped size) ≡ inDecimals b k
+  bits-answer x = rw (sign-is b x, capped-answer (negative eight b) size) all-bits

@@ -1,7 +1,6 @@
 pub mod Nearest
 pub mod Rounding
 pub mod Shifts
-pub mod ByShift
 pub mod Capped
 pub mod TwoParts
 pub mod Exponents

@@ -114,18 +114,6 @@ nearest-scaled n d c p l = go (split n d p)
     go (above q r e k h) =
         rw (parts q r e, above-half q (r * c) (d * c) (mul-lt-mul-of-pos-right k l) (rw (← mul-assoc 2 r c) (mul-lt-mul-of-pos-right h l)), e, above-half q r d k h)
 
--- An even whole number more.
-pub nearest-plus : (a n d : ℕ) → 0 < d → a % 2 ≡ 0 → nearest (a * d + n) d ≡ a + nearest n d
-nearest-plus a n d p z = go (split n d p)
-  where
-    parts : (q r : ℕ) → n ≡ q * d + r → a * d + n ≡ (a + q) * d + r
-    parts q r e = let k = add-mul a q d in omega arith
-
-    go : Split n d → nearest (a * d + n) d ≡ a + nearest n d
-    go (below q r e h) = rw (parts q r e, below-half (a + q) r d h, e, below-half q r d h)
-    go (just q r e h) = rw (parts q r e, just-half (a + q) r d p h, e, just-half q r d p h) (omega arith)
-    go (above q r e k h) = rw (parts q r e, above-half (a + q) r d k h, e, above-half q r d k h) (omega arith)
-
 pub nearest-zero : (n d : ℕ) → 2 * n < d → nearest n d ≡ 0
 nearest-zero n d h = ap (λ (x : ℕ). nearest x d) (omega arith) ∙ below-half 0 n d h
 

@@ -1,78 +1,96 @@
 -- Rounding a product of two parts, high * 2 ^ 32 + low: the functions `small` and `large`.
-use Prim.Native.Nat.{ℕ, _+_, _*_, _-_, _/_, _%_, _^_, _≤_, _<_, min}
-use native.Mathlib.Nat.{mul-assoc, mul-left-comm, mul-le-mul-right, mul-lt-mul-of-pos-right}
+use Prim.Native.Nat.{ℕ, _+_, _*_, _-_, _/_, _%_, _^_, _≤_, _<_}
+use native.Mathlib.Nat.{mul-assoc, mul-le-mul-right, mul-lt-mul-of-pos-right, mul-add-div-right, div-div-eq-div-mul, div-le-self}
 use native.Mathlib.Omega.{arith}
 use mathlib.Core.Path.{_≡_, sym, ap, _∙_}
-use lib.Bits.{bitAnd, and-mask}
+use lib.Bits.{bitAnd, mask-lt}
 use lib.Pow.{pow-pos}
+use Rattle.tib_real.proofs.Size.{power-grows}
 use Rattle.tib_decimals.specs.Nearest.{nearest}
-use Rattle.tib_decimals.proofs.Nearest.{nearest-plus, nearest-at-most}
-use Rattle.tib_decimals.proofs.Rounding.{rounding-rest}
-use Rattle.tib_decimals.proofs.Shifts.{power-split, one-shifted}
+use Rattle.tib_decimals.proofs.Shifts.{power-split, one-shifted, last-bit, half, half-is, half-bounds, rounding-shift}
 
-module _ (high low t : ℕ) (b : low < 2 ^ 32) where
+module _ (high low t : ℕ) (a : high < 2 ^ 52) (b : low < 2 ^ 32) (p : 0 < t) where
   abbrev product : ℕ
   product = high * 2 ^ 32 + low
 
-  -- ---- a quotient below 2 ^ 45
+  -- ---- the quotient by 2 ^ (t + 32)
 
-  quotient : product / 2 ^ 31 ≡ 2 * high + low / 2 ^ 31
-  quotient = omega arith
+  -- First the quotient by 2 ^ 32, then that by 2 ^ t.
+  quotient-in-two : (n : ℕ) → n / 2 ^ (t + 32) ≡ n / 2 ^ 32 / 2 ^ t
+  quotient-in-two n = ap (λ (x : ℕ). n / x) (power-split 32 t (t + 32) (omega arith)) ∙ sym (div-div-eq-div-mul n (2 ^ 32) (2 ^ t))
 
-  rest : product % 2 ^ 31 ≡ low % 2 ^ 31
-  rest = omega arith
+  abbrev pub odd : ℕ
+  odd = bitAnd (high / 2 ^ t) 1
 
-  -- The high part, two bits of the low part, the second of which stands for all that follow it.
-  abbrev pub folded : ℕ
-  folded = high * 2 ^ 2 % 2 ^ 64 + low / 2 ^ 31 * 2 ^ 1 % 2 ^ 64 + min (bitAnd low 0x7fffffff) 1
+  abbrev pub carry : ℕ
+  carry = (low + 0xffffffff + odd) / 2 ^ 32
 
-  folded-is : high < 2 ^ 43 → folded ≡ 2 * (product / 2 ^ 31) + min (product % 2 ^ 31) 1
-  folded-is a = rw (quotient, rest, and-mask low 31) (omega arith)
+  odd-is : product / 2 ^ (t + 32) % 2 ≡ odd
+  odd-is =
+      let e : product / 2 ^ 32 ≡ high = omega arith in
+      rw (quotient-in-two product, e) (sym (last-bit (high / 2 ^ t)))
 
-  pub small-is : high < 2 ^ 43 → 2 ≤ t → nearest folded (2 ^ t) ≡ nearest product (2 ^ (t + 30))
-  small-is a p =
-      let e = 2 ^ (t - 2) in
-      let f : 2 ^ t ≡ 2 * (2 * e) = power-split 2 (t - 2) t (omega arith) ∙ omega arith in
-      let g : 2 ^ (t + 30) ≡ 2 * e * 2 ^ 31 = power-split 32 (t - 2) (t + 30) (omega arith) ∙ omega arith in
-      rw (folded-is a, f, g) (rounding-rest (2 ^ 31) e (pow-pos 31) (pow-pos (t - 2)) product)
+  -- Above the low 32 bits, the sum is that of the high parts and the carry.
+  sum-high : (n o : ℕ) → 0 < n → (product + (2 ^ 32 * n - 1) + o) / 2 ^ 32 ≡ high + (n - 1) + (low + 0xffffffff + o) / 2 ^ 32
+  sum-high n o l = omega arith
 
-  -- ---- a quotient from the high part on
+  pub small-is : t ≤ 52 → (high + (half t - 1) + carry) / 2 ^ t ≡ nearest product (2 ^ (t + 32))
+  small-is h =
+      let e = rounding-shift product (t + 32) (omega arith) in
+      let f = power-split 32 (t - 1) (t + 32 - 1) (omega arith) in
+      rw (half-is t (omega arith)) (rw (odd-is, f, quotient-in-two, sum-high (2 ^ (t - 1)) odd (pow-pos (t - 1))) at e)
 
-  abbrev whole : ℕ
-  whole = high * 2 ^ (42 - t)
+  pub odd-below : odd < 2
+  odd-below = mask-lt (high / 2 ^ t) 1
 
-  abbrev rounded : ℕ
-  rounded = nearest (product * 2 ^ 10) (2 ^ t)
+  -- ---- the quotient by 2 ^ t
 
-  module _ (p : 0 < t) (q : t ≤ 41) where
-    whole-power : whole * 2 ^ t ≡ high * 2 ^ 42
-    whole-power = mul-assoc high (2 ^ (42 - t)) (2 ^ t) ∙ ap (λ (x : ℕ). high * x) (sym (power-split (42 - t) t 42 (omega arith)))
+  module _ (q : t ≤ 32) where
+    abbrev whole : ℕ
+    whole = high * 2 ^ (32 - t)
 
-    whole-even : whole % 2 ≡ 0
-    whole-even =
-        let e : whole ≡ 2 * (high * 2 ^ (41 - t)) =
-        ap (λ (x : ℕ). high * x) (power-split 1 (41 - t) (42 - t) (omega arith)) ∙ mul-left-comm high 2 (2 ^ (41 - t)) in
+    abbrev rounded : ℕ
+    rounded = nearest product (2 ^ t)
+
+    product-whole : product ≡ whole * 2 ^ t + low
+    product-whole =
+        let e = mul-assoc high (2 ^ (32 - t)) (2 ^ t) ∙ ap (λ (x : ℕ). high * x) (sym (power-split (32 - t) t 32 (omega arith))) in
         omega arith
 
-    large-is : rounded ≡ whole + nearest (low * 2 ^ 10) (2 ^ t)
+    -- Only the low part is rounded.
+    large-is : whole + (low + (half t - 1) + (whole + low / 2 ^ t) % 2) / 2 ^ t ≡ rounded
     large-is =
-        let e : product * 2 ^ 10 ≡ whole * 2 ^ t + low * 2 ^ 10 = rw whole-power (omega arith) in
-        rw e (nearest-plus whole (low * 2 ^ 10) (2 ^ t) (pow-pos t) whole-even)
-
-    low-below : nearest (low * 2 ^ 10) (2 ^ t) ≤ 2 ^ 42
-    low-below = let e = pow-pos t in nearest-at-most (2 ^ 42) (low * 2 ^ 10) (2 ^ t) (pow-pos t) (omega arith)
+        let e = rounding-shift product t p in
+        let f : product / 2 ^ t ≡ whole + low / 2 ^ t = rw product-whole (mul-add-div-right (pow-pos t) whole low) in
+        let o = (whole + low / 2 ^ t) % 2 in
+        let g : product + (2 ^ (t - 1) - 1) + o ≡ whole * 2 ^ t + (low + (2 ^ (t - 1) - 1) + o) = omega (arith, product-whole) in
+        rw (half-is t (omega arith)) (rw (f, g, mul-add-div-right (pow-pos t) whole (low + (2 ^ (t - 1) - 1) + o)) at e)
 
     -- The greatest high part with which the result may be in range, as the machine makes it.
-    limit : 2 ^ 63 ≡ 1 * 2 ^ (21 + t) % 2 ^ 64 * 2 ^ (42 - t)
-    limit = rw (one-shifted (21 + t) (omega arith)) (power-split (21 + t) (42 - t) 63 (omega arith))
+    limit : 2 ^ 63 ≡ 1 * 2 ^ (31 + t) % 2 ^ 64 * 2 ^ (32 - t)
+    limit = rw (one-shifted (31 + t) (omega arith)) (power-split (31 + t) (32 - t) 63 (omega arith))
 
-    pub above-limit : 1 * 2 ^ (21 + t) % 2 ^ 64 < high → 2 ^ 63 < rounded
-    above-limit h = let m = mul-lt-mul-of-pos-right h (pow-pos (42 - t)) in omega (arith, limit, large-is)
+    pub above-limit : 1 * 2 ^ (31 + t) % 2 ^ 64 < high → 2 ^ 63 < rounded
+    above-limit h = let m = mul-lt-mul-of-pos-right h (pow-pos (32 - t)) in omega (arith, limit, large-is)
 
-    pub within-limit : high ≤ 1 * 2 ^ (21 + t) % 2 ^ 64 → (r : ℕ) → r ≡ nearest (low * 2 ^ 10 % 2 ^ 64) (2 ^ t)
-        → (whole % 2 ^ 64 + r ≡ rounded) × (rounded < 2 ^ 64)
-    within-limit h r e =
-        let m = mul-le-mul-right (2 ^ (42 - t)) h in
-        let n : low * 2 ^ 10 % 2 ^ 64 ≡ low * 2 ^ 10 = omega arith in
-        let f : r ≡ nearest (low * 2 ^ 10) (2 ^ t) = rw n at e in
-        (omega (arith, limit, large-is), omega (arith, limit, large-is, low-below))
+    pub whole-below : high ≤ 1 * 2 ^ (31 + t) % 2 ^ 64 → whole ≤ 2 ^ 63
+    whole-below h = let m = mul-le-mul-right (2 ^ (32 - t)) h in omega (arith, limit)
+
+    -- The sums of the code: none is too large, and the last is the result.
+    pub quotient-below : low / 2 ^ t ≤ low
+    quotient-below = div-le-self low (2 ^ t)
+
+    abbrev pub last : ℕ
+    last = bitAnd (whole % 2 ^ 64 + low / 2 ^ t) 1
+
+    pub last-below : last < 2
+    last-below = mask-lt (whole % 2 ^ 64 + low / 2 ^ t) 1
+
+    pub within-limit : high ≤ 1 * 2 ^ (31 + t) % 2 ^ 64
+        → (whole % 2 ^ 64 + (low + (half t - 1) + last) / 2 ^ t ≡ rounded) × (rounded < 2 ^ 64)
+    within-limit h =
+        let w = whole-below h in
+        let e : whole % 2 ^ 64 ≡ whole = omega arith in
+        let s = div-le-self (low + (half t - 1) + (whole + low / 2 ^ t) % 2) (2 ^ t) in
+        let g = half-bounds t (omega arith) in
+        (rw (e, last-bit (whole + low / 2 ^ t)) large-is, omega (arith, large-is))

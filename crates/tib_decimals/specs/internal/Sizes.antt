@@ -10,10 +10,10 @@ capped n = min n (2 ^ 63 + 1)
 unfoldable pub sizeOf : ℕ → ℕ → ℕ → ℕ
 sizeOf m f e = nearest (m * f * 2 ^ (e - 1)) (2 ^ 1074)
 
--- The range of the factors. Only a real with a small exponent has a small significand.
+-- The ranges of the three.
 pub record Factors (m f e : ℕ) : Type 0 where
+  pub normal : 2 ^ 52 ≤ m
   pub significand : m < 2 ^ 53
-  pub normal : 1085 ≤ e → 2 ^ 52 ≤ m
   pub least : 4 ≤ f
   pub most : f < 2 ^ 21
   pub positive : 0 < e
