@@ -9,7 +9,8 @@
  *   bench --count ROW SIDE [N]   call a row N times (100 if not said). ROW is as a-meter-table-6:check, SIDE is library or plain.
  *                                It is for counting instructions (counts.py), so it compares and times nothing
  *
- * Every call takes the octets of its table or dictionary, so loading it is part of each of them, on both sides.
+ * Every call takes the octets of its table or dictionary, so loading it is part of each of them, on both sides. A call for decimals takes one
+ * real. A row has many reals, and its calls take them in turn.
  */
 #define _POSIX_C_SOURCE 200809L
 
@@ -33,11 +34,14 @@ enum {
     FIDS = 16384,
     DICTIONARY_MOST = 512,
     QFORM_FIELDS = 10, /* of a small message */
+    REALS = 16384, /* of a row. Of 4096 the processor still learns the signs. counts.py has this number, too */
+    TENTHS = 17,
+    DECIMAL_HINTS = 9,
     UNSET = 77
 };
 
-enum call { CHECK, SHORTEN, TIBMSG, TIBRV, QFORM, QFORM_FIELD };
-static const char *const call_names[] = {"check", "shorten", "tibmsg", "tibrv", "qform", "qfield"};
+enum call { CHECK, SHORTEN, TIBMSG, TIBRV, QFORM, QFORM_FIELD, DECIMALS };
+static const char *const call_names[] = {"check", "shorten", "tibmsg", "tibrv", "qform", "qfield", "decimals"};
 
 enum kind { RAW, UINT, INT, STRING, TEXT, MESSAGE };
 
@@ -52,7 +56,18 @@ struct octets {
     size_t len;
 };
 
-/* For QForm the table is the dictionary, and the number is that of the field that is asked for. */
+/* What a call for decimals takes. */
+struct real {
+    uint64_t bits;
+    uint64_t hinted;
+    uint64_t hint;
+};
+
+/* The reals of the four rows, then others for the comparison. */
+enum reals { PRICES, LARGE, TINY, RANDOM, MIDDLE, TIES, ENDS, OUTERMOST, KINDS_OF_REALS };
+
+/* For QForm the table is the dictionary, and the number is that of the field that is asked for. For decimals there are only reals, REALS
+ * of them, and the number is that of the one that is asked for. */
 struct row {
     char name[40];
     enum call call;
@@ -63,6 +78,7 @@ struct row {
     size_t out_len;
     uint64_t fields;
     enum form form;
+    const struct real *reals;
 };
 
 struct side {
@@ -76,11 +92,13 @@ struct side {
     uint64_t (*qform)(const uint8_t *, size_t, const uint8_t *, size_t, uint64_t *, uint64_t *, uint64_t *);
     uint64_t (*qform_field)(const uint8_t *, size_t, const uint8_t *, size_t, uint64_t, uint64_t *, uint64_t *, uint64_t *, uint64_t *,
                             uint64_t *);
+    uint64_t (*decimals)(uint64_t, uint64_t, uint64_t, uint64_t *, int64_t *);
 };
 
 static const struct side sides[2] = {
-    {"library", crudvim_check, crudvim_shorten, crudvim_tibmsg_check, crudvim_tibrv_check, crudvim_qform_check, crudvim_qform_field},
-    {"plain", plain_check, plain_shorten, plain_tibmsg_check, plain_tibrv_check, plain_qform_check, plain_qform_field},
+    {"library", crudvim_check, crudvim_shorten, crudvim_tibmsg_check, crudvim_tibrv_check, crudvim_qform_check, crudvim_qform_field,
+     crudvim_decimals},
+    {"plain", plain_check, plain_shorten, plain_tibmsg_check, plain_tibrv_check, plain_qform_check, plain_qform_field, plain_decimals},
 };
 
 struct answer {
@@ -661,6 +679,55 @@ static struct octets qform_last(struct octets dictionary)
     return message;
 }
 
+/* ---- reals ---- */
+
+static uint64_t bits_of(double value)
+{
+    uint64_t bits;
+    memcpy(&bits, &value, sizeof bits);
+    return bits;
+}
+
+/* The number by which a hint multiplies: 10 for tenths. */
+static double scale_of(uint64_t hint)
+{
+    double scale = 1;
+    for (; hint >= TENTHS; hint--)
+        scale *= 10;
+    return scale;
+}
+
+/* Of either sign, with an exponent field from `least` to below `bound`. */
+static uint64_t random_real(size_t least, size_t bound)
+{
+    uint64_t bits = random_bits() & 0x800fffffffffffff;
+    return bits | (uint64_t)(least + random_below(bound - least)) << 52;
+}
+
+/* A real for a row, or one that only the comparison has. */
+static struct real make_real(enum reals kind)
+{
+    struct real real = {0, 1, TENTHS + random_below(DECIMAL_HINTS)};
+    double scale = scale_of(real.hint);
+    switch (kind) {
+    case PRICES: /* from 50.00 to 149.99, in hundredths to ten-thousandths */
+        real.hint = TENTHS + 1 + random_below(3);
+        real.bits = bits_of((double)(5000 + random_below(10000)) / 100);
+        break;
+    case LARGE: /* the whole number is from 2^62 to 2^63 in size */
+        real.bits = bits_of((double)((uint64_t)1 << 62 | random_bits() >> 2) / scale);
+        real.bits |= random_bits() & (uint64_t)1 << 63;
+        break;
+    case TINY: real.bits = random_real(0, 992); break; /* below 2^-31 in size, and so below half a billionth */
+    case RANDOM: real.bits = random_bits(); break;
+    case MIDDLE: real.bits = random_real(985, 1090); break; /* most are neither out of range nor rounded to 0 */
+    case TIES: real.bits = bits_of((double)(random_up_to_bits(53) | 1) / (double)(4 << (real.hint - TENTHS))); break;
+    case ENDS: real.bits = bits_of((random_below(2) ? 0x1p63 : 0x1p64) / scale); break;
+    default: real.bits = random_below(2) ? 0 : 0x7ff0000000000000; break; /* zero and infinity */
+    }
+    return real;
+}
+
 /* ---- rows ---- */
 
 static void add(const char *name, enum form form, enum call call, struct octets table, uint64_t number, struct octets message,
@@ -821,6 +888,28 @@ static void add_qform_rows(void)
     add("qform-ten-fields-10", SHORT, QFORM_FIELD, ten, QFORM_FIELDS - 1, small, 0);
 }
 
+static void add_reals(const char *name, enum reals kind)
+{
+    struct real *reals = malloc(REALS * sizeof *reals);
+    if (reals == NULL)
+        fail("no memory");
+    for (size_t i = 0; i < REALS; i++)
+        reals[i] = make_real(kind);
+    add(name, SHORT, DECIMALS, room(0), 0, room(0), 0);
+    rows[row_count - 1].reals = reals;
+}
+
+/* Of random bits about half are refused, and most of the others are rounded to 0. */
+#define RANDOM_REALS "decimals-random"
+
+static void add_decimal_rows(void)
+{
+    add_reals("decimals-prices", PRICES);
+    add_reals("decimals-large", LARGE);
+    add_reals("decimals-tiny", TINY);
+    add_reals(RANDOM_REALS, RANDOM);
+}
+
 /* Names that begin with `length-` or `depth-` are points of the curves. Each point starts with the same random state, so that its
  * fields are those of its neighbours but for the last ones. They have one number in a longer form, too. */
 static void add_curve_rows(struct octets kinds)
@@ -862,6 +951,7 @@ static void add_rows(void)
     add_single_rows(kinds);
     add_tib_rows();
     add_qform_rows();
+    add_decimal_rows();
     add_curve_rows(kinds);
 }
 
@@ -893,14 +983,37 @@ static struct answer ask(const struct side *side, const struct row *row, uint8_t
                                            &answer.second, &start, &length);
         answer.data = start << 32 | length;
         break;
+    case DECIMALS: {
+        const struct real *real = &row->reals[row->number];
+        int64_t whole = UNSET;
+        answer.refusal = side->decimals(real->bits, real->hinted, real->hint, &answer.place, &whole);
+        answer.first = (uint64_t)whole;
+        break;
+    }
     }
     return answer;
+}
+
+/* Reads the reals of a row in turn. A call takes a few nanoseconds, so `ask` would be a large part of its time. */
+static uint64_t repeat_reals(const struct side *side, const struct row *row, size_t times)
+{
+    uint64_t sum = 0;
+    for (size_t i = 0; i < times; i++) {
+        const struct real *real = &row->reals[i % REALS];
+        uint64_t place;
+        int64_t whole;
+        sum += side->decimals(real->bits, real->hinted, real->hint, &place, &whole);
+        sum += (uint64_t)whole;
+    }
+    return sum;
 }
 
 /* Kept out of the callers so that each side's calls are made by the same instructions. */
 __attribute__((noinline)) static uint64_t repeat(const struct side *side, const struct row *row, uint8_t *out, size_t times)
 {
     uint64_t sum = 0;
+    if (row->call == DECIMALS)
+        return repeat_reals(side, row, times);
     for (size_t i = 0; i < times; i++) {
         struct answer answer = ask(side, row, out);
         sum += answer.refusal + answer.first;
@@ -926,6 +1039,11 @@ static void show_difference(const struct row *row, const struct answer answers[2
         printf("  %-8s refusal %llu place %llu results %llu %llu shortest %llu data %llx\n", sides[i].name,
                (unsigned long long)answers[i].refusal, (unsigned long long)answers[i].place, (unsigned long long)answers[i].first,
                (unsigned long long)answers[i].second, (unsigned long long)answers[i].shortest, (unsigned long long)answers[i].data);
+    if (row->call == DECIMALS) {
+        const struct real *real = &row->reals[row->number];
+        printf("  real %016llx hinted %llu hint %llu\n", (unsigned long long)real->bits, (unsigned long long)real->hinted,
+               (unsigned long long)real->hint);
+    }
     printf("  table");
     for (size_t i = 0; i < row->table.len; i++)
         printf(" %02x", row->table.data[i]);
@@ -1145,6 +1263,30 @@ static void compare_random_tib(size_t times)
     }
 }
 
+/* Any of the reals or a neighbour, of either sign; some with no hint or another one. */
+static struct real random_call(void)
+{
+    static const uint64_t hints[] = {0, 1, 8, 16, 26, (uint64_t)1 << 32 | TENTHS, (uint64_t)1 << 63 | TENTHS, UINT64_MAX};
+    struct real real = make_real((enum reals)random_below(KINDS_OF_REALS));
+    real.bits += random_below(3);
+    real.bits = (real.bits - 1) ^ (random_bits() & (uint64_t)1 << 63);
+    if (random_below(16) == 0)
+        real.hinted = random_below(2) ? 0 : random_bits();
+    if (random_below(16) == 0)
+        real.hint = hints[random_below(sizeof hints / sizeof hints[0])];
+    return real;
+}
+
+static void compare_random_reals(size_t times)
+{
+    struct real real;
+    struct row row = {.name = "random-real", .call = DECIMALS, .reals = &real};
+    for (size_t i = 0; i < times; i++) {
+        real = random_call();
+        compare(&row);
+    }
+}
+
 static void compare_random(size_t times)
 {
     static const size_t singles[] = {0, 2, 8, 16};
@@ -1207,26 +1349,37 @@ static void compare_small(size_t times)
     free(dictionary.data);
 }
 
-/* Compares the answers to every row. Stops at the first difference. */
-static void compare_rows(void)
+/* Compares the answers to a row, or to each of its reals. Only of random reals may some be refused. */
+static void compare_row(const struct row *row)
 {
-    for (size_t i = 0; i < row_count; i++) {
-        struct answer answer = compare(&rows[i]);
-        if (answer.refusal != CRUDVIM_ACCEPTED)
-            fail_row(&rows[i], "is refused");
+    struct row asked = *row;
+    for (size_t left = row->call == DECIMALS ? REALS : 1; left > 0; left--) {
+        struct answer answer = compare(&asked);
+        if (answer.refusal != CRUDVIM_ACCEPTED && strcmp(row->name, RANDOM_REALS) != 0)
+            fail_row(row, "is refused");
+        asked.number++;
     }
 }
 
-/* Compares the answers to every row, to 3000 damaged forms of a small one and fewer of a large one, to small forms and to random
- * messages. */
+/* Compares the answers to every row. Stops at the first difference. */
+static void compare_rows(void)
+{
+    for (size_t i = 0; i < row_count; i++)
+        compare_row(&rows[i]);
+}
+
+/* Compares the answers to every row, to 3000 damaged forms of a small message and fewer of a large one, to small forms, and to random
+ * messages and reals. */
 static void compare_all(void)
 {
     compare_rows();
     for (size_t i = 0; i < row_count; i++)
-        compare_damaged(&rows[i], rows[i].message.len < 1024 ? 3000 : rows[i].message.len < 20000 ? 300 : 100);
+        if (rows[i].call != DECIMALS)
+            compare_damaged(&rows[i], rows[i].message.len < 1024 ? 3000 : rows[i].message.len < 20000 ? 300 : 100);
     compare_small(20000);
     compare_random(20000);
     compare_random_tib(20000);
+    compare_random_reals(400000);
     printf("answers compared: %llu, all alike; by refusal:", (unsigned long long)compared);
     for (int i = 0; i < 32; i++)
         if (refused_with[i] > 0)
@@ -1239,6 +1392,8 @@ static void compare_all(void)
         fail("no message repeats a single field");
     if (refused_with[CRUDVIM_NOT_IN_DICTIONARY] == 0)
         fail("no message has a fid that its dictionary has not");
+    if (refused_with[CRUDVIM_NOT_IN_FRACTIONS] == 0)
+        fail("no real is refused");
 }
 
 /* A row has to have the form that it says. If it had not, the shortener would copy where it should write, or the reverse. */
@@ -1255,6 +1410,8 @@ static void complete(struct row *row)
 {
     static uint8_t out[LIMIT];
     struct row asked = *row;
+    if (row->call == DECIMALS)
+        return;
     if (row->call == SHORTEN && row->out_len == 0) {
         asked.out_len = row->message.len;
         row->out_len = ask(&sides[1], &asked, out).first;

@@ -12,7 +12,7 @@ BEFORE, is the geometric mean of the eight; the least and the greatest are besid
 With --no-revision BEFORE is an archive from before the calls took a revision. It is called through functions that leave the revision out,
 which costs it about a dozen instructions a call. The rows whose table has records of length 6, which it would refuse, are left out.
 
-If BEFORE has no reader of QForm, it is lent that of AFTER, and the rows of QForm are left out.
+If BEFORE has no reader of QForm, it is lent that of AFTER, and the rows of QForm are left out. The same holds for decimals.
 """
 import math
 import pathlib
@@ -21,7 +21,7 @@ import subprocess
 import sys
 import tempfile
 
-CALLS = ('check', 'shorten', 'tibmsg_check', 'tibrv_check', 'qform_check', 'qform_field')
+CALLS = ('check', 'shorten', 'tibmsg_check', 'tibrv_check', 'qform_check', 'qform_field', 'decimals')
 PLACEMENTS = 8
 WITHOUT_REVISION = '''
 #include "plain.h"
@@ -60,6 +60,16 @@ uint64_t plain_qform_field(const uint8_t *dictionary, size_t dictionary_len, con
 }
 '''
 
+WITHOUT_DECIMALS = '''
+#include "crudvim.h"
+#include "plain.h"
+
+uint64_t plain_decimals(uint64_t real_bits, uint64_t hinted, uint64_t hint, uint64_t *place, int64_t *whole)
+{
+    return crudvim_decimals(real_bits, hinted, hint, place, whole);
+}
+'''
+
 
 def run(*words, **more):
     return subprocess.run([str(word) for word in words], check=True, capture_output=True, text=True, **more).stdout
@@ -95,8 +105,9 @@ def main():
         folder = pathlib.Path(name)
         objects = [folder / 'bench.o']
         run('gcc', '-std=c11', '-O3', '-c', 'bench/bench.c', '-o', objects[0])
-        no_qform = 'crudvim_qform_check' not in run('nm', before).split()
-        for missing, source in ((no_revision, WITHOUT_REVISION), (no_qform, WITHOUT_QFORM)):
+        names = run('nm', before).split()
+        no_qform, no_decimals = 'crudvim_qform_check' not in names, 'crudvim_decimals' not in names
+        for missing, source in ((no_revision, WITHOUT_REVISION), (no_qform, WITHOUT_QFORM), (no_decimals, WITHOUT_DECIMALS)):
             if missing:
                 objects.append(folder / f'without_{len(objects)}.o')
                 run('gcc', '-std=c11', '-O3', '-Ibench', '-Iinclude', '-x', 'c', '-c', '-', '-o', objects[-1], input=source)
@@ -105,7 +116,7 @@ def main():
         runs = [ratios(objects, copy, after, folder, word, k) for k in range(PLACEMENTS)]
     print(f"{'row':28} {'call':8} {'ratio':>7} {'least':>7} {'greatest':>8}")
     for row, call in runs[0]:
-        if no_qform and row.startswith('qform-'):
+        if no_qform and row.startswith('qform-') or no_decimals and row.startswith('decimals-'):
             continue
         if any(word in row for word in wanted) if wanted else not re.match(r'(length|depth)-', row):
             values = [found[row, call] for found in runs]

@@ -14,6 +14,8 @@ import subprocess
 import sys
 import tempfile
 
+REALS = 16384  # of a row of decimals, as in bench.c: one call for each
+
 
 def instructions(bench, row, side, calls):
     with tempfile.TemporaryDirectory() as folder:
@@ -29,8 +31,7 @@ def instructions(bench, row, side, calls):
         return int(found.group(1))
 
 
-def per_call(bench, row, side, octets):
-    calls = 100 if octets < 2000 else 4
+def per_call(bench, row, side, calls):
     return (instructions(bench, row, side, calls) - instructions(bench, row, side, 0)) / calls
 
 
@@ -47,7 +48,8 @@ def main():
         if not (any(word in name for word in wanted) if wanted else not curve):
             continue
         octets, fields = int(octets), int(fields)
-        counts = [per_call(bench, f'{name}:{call}', side, octets) for side in ('library', 'plain')]
+        calls = REALS if call == 'decimals' else 100 if octets < 2000 else 4
+        counts = [per_call(bench, f'{name}:{call}', side, calls) for side in ('library', 'plain')]
         field = ' '.join(f'{count / fields:9.1f}' if fields else f"{'-':>9}" for count in counts)
         octet = ' '.join(f'{count / octets:8.3f}' if octets else f"{'-':>8}" for count in counts)
         print(f'{name:28} {call:8} {octets:7} {fields:7} {counts[0]:10.0f} {counts[1]:10.0f}'

@@ -1,4 +1,5 @@
-/* The baseline of the bench: a plain C implementation of the check, the shortener, the two Tib checks and the QForm reader.
+/* The baseline of the bench: a plain C implementation of the check, the shortener, the two Tib checks, the QForm reader and the reading of
+ * reals in decimals.
  *
  * It is what a C programmer would write first and keep: one pass of recursion per task, a table that is searched from its start,
  * and a shortener that writes a nested message where it will most likely stand and moves it if its length needs more octets. The
@@ -24,7 +25,9 @@ enum {
     FIDS = 16384,
     LAST_TYPE = 21,
     GROCERY = 15,
-    GROCERY_SIZE = 9
+    GROCERY_SIZE = 9,
+    TENTHS = 17, /* the hints of decimals: from tenths to billionths */
+    BILLIONTHS = 25
 };
 
 enum kind { RAW, UINT, INT, STRING, TEXT, MESSAGE };
@@ -738,5 +741,54 @@ uint64_t plain_qform_field(const uint8_t *dictionary, size_t dictionary_len, con
     *type = record[5];
     *data_start = found + 2;
     *data_length = big_endian(record + 6, 2);
+    return CRUDVIM_ACCEPTED;
+}
+
+/* ---- reals in decimals ---- */
+
+__extension__ typedef unsigned __int128 uint128;
+
+/* The whole number nearest to product / 2^down, of two the even one. The product is below 2^85, and down is from 2 to 85. An answer over
+ * 2^63 only says that the number is over 2^63. The first bit of the rest is a half, and the last one stands for all that are cut off. */
+static inline uint64_t nearest(uint128 product, unsigned down)
+{
+    const uint64_t half = (uint64_t)1 << 63;
+    uint64_t high = (uint64_t)(product >> 64);
+    uint64_t low = (uint64_t)product;
+    uint64_t whole, rest;
+    if (down <= 64) {
+        if (product >> down > half)
+            return UINT64_MAX;
+        whole = (uint64_t)(product >> down);
+        rest = low << (64 - down);
+    } else {
+        whole = high >> (down - 64);
+        rest = high << (128 - down) | (low != 0);
+    }
+    return whole + (rest > half - (whole & 1));
+}
+
+/* With e the exponent field and s the significand, shifted so that its leading one is bit 63, the real is s * 2^(e - 1086) in size. So 10^k
+ * times that is s * 5^k * 2^(e + k - 1086). It is below a half if e + k is below 1001, also for zero and for a significand without a
+ * leading one, where e is 0. From 1085 on it is above 2^64, or the real is infinite or not a number. */
+uint64_t plain_decimals(uint64_t real_bits, uint64_t hinted, uint64_t hint, uint64_t *place, int64_t *whole)
+{
+    static const uint32_t fives[] = {1, 5, 25, 125, 625, 3125, 15625, 78125, 390625, 1953125};
+    *place = 0;
+    *whole = 0;
+    if (hinted == 0 || hint < TENTHS || hint > BILLIONTHS)
+        return CRUDVIM_NOT_IN_FRACTIONS;
+    unsigned k = (unsigned)hint - (TENTHS - 1);
+    unsigned exponent = ((unsigned)(real_bits >> 52) & 0x7ff) + k;
+    if (exponent >= 1085)
+        return CRUDVIM_NOT_IN_FRACTIONS;
+    if (exponent < 1001)
+        return CRUDVIM_ACCEPTED;
+    uint64_t negative = real_bits >> 63;
+    uint64_t significand = real_bits << 11 | (uint64_t)1 << 63;
+    uint64_t size = nearest((uint128)significand * fives[k], 1086 - exponent);
+    if (size > (uint64_t)INT64_MAX + negative)
+        return CRUDVIM_NOT_IN_FRACTIONS;
+    *whole = (int64_t)(negative ? -size : size);
     return CRUDVIM_ACCEPTED;
 }

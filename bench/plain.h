@@ -21,4 +21,6 @@ uint64_t plain_qform_check(const uint8_t *dictionary, size_t dictionary_len, con
 uint64_t plain_qform_field(const uint8_t *dictionary, size_t dictionary_len, const uint8_t *message, size_t message_len, uint64_t k,
                            uint64_t *place, uint64_t *fid, uint64_t *type, uint64_t *data_start, uint64_t *data_length);
 
+uint64_t plain_decimals(uint64_t real_bits, uint64_t hinted, uint64_t hint, uint64_t *place, int64_t *whole);
+
 #endif

@@ -50,7 +50,7 @@ def bars(rows, left, top, width):
     for at, (name, call, _, _, _, ratio) in enumerate(rows):
         y = top + 22 + at * height
         x = middle + math.log2(ratio) * unit
-        label = name if name.startswith('tib') else f'{name} {call}'
+        label = name if name.startswith(('tib', 'decimals')) else f'{name} {call}'
         pieces.append(text(start - 8, y + 10, label, 'end'))
         color = LIBRARY if ratio <= 1 else PLAIN
         pieces.append(f'<rect x="{min(x, middle):.1f}" y="{y + 1}" width="{abs(x - middle):.1f}" '

@@ -65,7 +65,7 @@ static inline const char *crudvim_refusal_text(uint64_t refusal)
     case CRUDVIM_SIZE: return "announced size is not the buffer's";
     case CRUDVIM_NAME: return "malformed name";
     case CRUDVIM_TYPE_SIZE_OR_HINT: return "bad type, size, hint or flag";
-    case CRUDVIM_NOT_IN_FRACTIONS: return "real not readable in fractions";
+    case CRUDVIM_NOT_IN_FRACTIONS: return "real not readable in fractions or decimals";
     case CRUDVIM_ABSENT: return "no such occurrence";
     case CRUDVIM_NOT_IN_DICTIONARY: return "fid not in the dictionary";
     case CRUDVIM_REPEATED: return "repeat of a single field";
@@ -160,6 +160,12 @@ uint64_t crudvim_qform_field(const uint8_t *dictionary, size_t dictionary_len, c
  * 17 at 0 where there is no hint (hinted is 0; any other number means that there is one) or it is not from 1 to 8, or the product is
  * not whole or not below 2^53 in size. */
 uint64_t crudvim_fractions(uint64_t real_bits, uint64_t hinted, uint64_t hint, uint64_t *place, int64_t *whole);
+
+/* Reads a real, given in the same way, in decimals: *whole is the whole number nearest to the real times 10 to the power of the hint
+ * less 16. Hint 17 gives whole tenths, and hint 25 whole billionths. Of two whole numbers equally near it is the even one. Refused
+ * with 17 at 0 where there is no hint or it is not from 17 to 25, the real is infinite or not a number, or *whole would not be from
+ * -2^63 to 2^63 - 1. */
+uint64_t crudvim_decimals(uint64_t real_bits, uint64_t hinted, uint64_t hint, uint64_t *place, int64_t *whole);
 
 #ifdef __cplusplus
 }
