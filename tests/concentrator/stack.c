@@ -42,6 +42,7 @@ static const uint8_t qform[] = {0x11, 0x11, 0x11, 0x12, 0, 0, 0, 8, 0xc0, 1, 'k'
 static void *qform_check(void *x) { crudvim_qform_check(dictionary, sizeof dictionary, qform, sizeof qform, &a, &b, &c); return x; }
 static void *qform_field(void *x) { crudvim_qform_field(dictionary, sizeof dictionary, qform, sizeof qform, 1, &a, &b, &c, &d, &e); return x; }
 static void *fractions(void *x) { crudvim_fractions(0x400a000000000000, 1, 2, &a, &s); return x; }
+static void *decimals(void *x) { crudvim_decimals(0x4005666666666666, 1, 18, &a, &s); return x; }
 
 static uint8_t *stack;
 
@@ -134,7 +135,7 @@ int main(int argc, char **argv)
         {"crudvim_frame_read", frame_read, 0}, {"crudvim_frame_write", frame_write, 0}, {"crudvim_lookup", lookup, 0},
         {"crudvim_lookup_last", lookup_last, 0}, {"crudvim_tibmsg_check", tibmsg_check, 0}, {"crudvim_tibmsg_field", tibmsg_field, 0},
         {"crudvim_tibrv_check", tibrv_check, 0}, {"crudvim_tibrv_field", tibrv_field, 0}, {"crudvim_qform_check", qform_check, 1},
-        {"crudvim_qform_field", qform_field, 1}, {"crudvim_fractions", fractions, 0}};
+        {"crudvim_qform_field", qform_field, 1}, {"crudvim_fractions", fractions, 0}, {"crudvim_decimals", decimals, 0}};
     size_t limits[2] = {argc > 1 ? strtoul(argv[1], NULL, 10) : STACK, argc > 2 ? strtoul(argv[2], NULL, 10) : STACK};
     int failed = 0;
     fill_nest();

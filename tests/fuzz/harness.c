@@ -2,16 +2,16 @@
  *
  * An input is: entry (1 octet), revision (2), number (2), first word (2), second word (2), table length (2), table, and the rest is the
  * message. All are big-endian. The entries are numbered as in the enum below. For QForm the table is the dictionary. The words are the tag
- * and k of lookup, k of a Tib or QForm field, hinted and the hint of fractions (whose real is the first eight octets of the message); for
- * the entries that write, the second word is the room: from ff00 on the message's length and so many octets more. An input that is too short is filled up with zeros. The table's
- * records are as long as its octets say.
+ * and k of lookup, k of a Tib or QForm field, hinted and the hint of fractions and decimals (whose real is the first eight octets of the
+ * message); for the entries that write, the second word is the room: from ff00 on the message's length and so many octets more. An input
+ * that is too short is filled up with zeros. The table's records are as long as its octets say.
  *
  * Each call is made three times: with buffers of just their size from malloc, for AddressSanitizer; with buffers that end just
  * before a page that cannot be touched; and with buffers that start just after one. The pages find a stray access in an archive
  * that was built without AddressSanitizer, too.
  *
  * The check's answers are also compared with those of bench/plain.c, a separate implementation, and with those under the other revision.
- * So are both answers for QForm, refused or not, with those of bench/plain.c.
+ * So are both answers for QForm and those in decimals, refused or not, with those of bench/plain.c.
  *
  * Built with -fsanitize=fuzzer it is driven by libFuzzer. Built with -DSTANDALONE it runs the files that it is given, or its
  * standard input.
@@ -41,10 +41,11 @@ enum entry {
     QFORM_CHECK,
     QFORM_FIELD,
     FRACTIONS,
+    DECIMALS,
     ENTRIES
 };
 
-static const unsigned result_counts[ENTRIES] = {3, 1, 5, 5, 2, 1, 2, 9, 2, 5, 2, 4, 1};
+static const unsigned result_counts[ENTRIES] = {3, 1, 5, 5, 2, 1, 2, 9, 2, 5, 2, 4, 1, 1};
 
 enum placement { EXACT, BEFORE_A_PAGE, AFTER_A_PAGE, PLACEMENTS };
 
@@ -159,11 +160,20 @@ static int same(const uint8_t *one, const uint8_t *other, size_t length)
     return length == 0 || memcmp(one, other, length) == 0;
 }
 
+/* The real that stands in the first eight octets of a message. */
+static uint64_t real_bits(const uint8_t *message, size_t message_len)
+{
+    uint64_t bits = 0;
+    for (size_t i = 0; i < 8; i++)
+        bits = bits << 8 | (i < message_len ? message[i] : 0);
+    return bits;
+}
+
 /* The call of the input's entry, on the given octets. */
 static uint64_t call(const struct input *in, const uint8_t *t, const uint8_t *m, uint8_t *out, uint64_t *p, uint64_t *r)
 {
     size_t tl = in->table_len, ml = in->message_len;
-    uint64_t rev = in->revision, n = in->number, bits = 0;
+    uint64_t rev = in->revision, n = in->number;
     switch (in->entry) {
     case CHECK: return crudvim_check(t, tl, rev, n, m, ml, p, r, r + 1, r + 2);
     case SHORTEN: return crudvim_shorten(t, tl, rev, n, m, ml, out, in->room, p, r);
@@ -180,10 +190,8 @@ static uint64_t call(const struct input *in, const uint8_t *t, const uint8_t *m,
     case TIBRV_FIELD: return crudvim_tibrv_field(m, ml, in->first, p, r, r + 1, r + 2, r + 3, r + 4);
     case QFORM_CHECK: return crudvim_qform_check(t, tl, m, ml, p, r, r + 1);
     case QFORM_FIELD: return crudvim_qform_field(t, tl, m, ml, in->first, p, r, r + 1, r + 2, r + 3);
-    case FRACTIONS:
-        for (size_t i = 0; i < 8; i++)
-            bits = bits << 8 | (i < ml ? m[i] : 0);
-        return crudvim_fractions(bits, in->first, in->second, p, (int64_t *)r);
+    case FRACTIONS: return crudvim_fractions(real_bits(m, ml), in->first, in->second, p, (int64_t *)r);
+    case DECIMALS: return crudvim_decimals(real_bits(m, ml), in->first, in->second, p, (int64_t *)r);
     default: abort();
     }
 }
@@ -266,6 +274,16 @@ static void compare_qform_with_plain(const struct input *in, const struct answer
         plain.refusal = plain_qform_field(in->table, in->table_len, in->message, in->message_len, in->first, &plain.place, r, r + 1,
                                           r + 2, r + 3);
     HOLDS(same_answer(answer, &plain, result_counts[in->entry]));
+}
+
+/* The plain implementation gives the same answer in decimals. */
+static void compare_decimals_with_plain(const struct input *in, const struct answer *answer)
+{
+    uint64_t place;
+    int64_t whole;
+    uint64_t refusal = plain_decimals(real_bits(in->message, in->message_len), in->first, in->second, &place, &whole);
+    HOLDS(answer->refusal == refusal && answer->place == place);
+    HOLDS((int64_t)answer->results[0] == whole);
 }
 
 /* Under revision 1 the marks have no effect: the check gives the same answer, or one that refuses no earlier place where revision 2
@@ -468,13 +486,28 @@ static void after_fractions(const struct input *in, const struct answer *answer)
 {
     int64_t whole = (int64_t)answer->results[0];
     HOLDS(whole > -((int64_t)1 << 53) && whole < (int64_t)1 << 53);
-    uint64_t bits = 0;
+    uint64_t bits = real_bits(in->message, in->message_len);
     double real;
-    for (size_t i = 0; i < 8; i++)
-        bits = bits << 8 | (i < in->message_len ? in->message[i] : 0);
     memcpy(&real, &bits, sizeof real);
     HOLDS(in->second >= 1 && in->second <= 8);
     HOLDS((double)whole / (double)(1u << in->second) == real);
+}
+
+/* The answer has the sign of the real or is 0, and the real with the other sign has the opposite answer. No answer is -2^63. */
+static void after_decimals(const struct input *in, const struct answer *answer)
+{
+    int64_t whole = (int64_t)answer->results[0];
+    uint64_t bits = real_bits(in->message, in->message_len);
+    uint8_t opposite[8];
+    struct input other = *in;
+    HOLDS(in->second >= 17 && in->second <= 25);
+    HOLDS(bits >> 63 == 1 ? whole <= 0 : whole >= 0);
+    for (size_t i = 0; i < 8; i++)
+        opposite[i] = (uint8_t)((bits ^ (uint64_t)1 << 63) >> (8 * (7 - i)));
+    other.message = opposite;
+    other.message_len = 8;
+    struct answer opposite_answer = ask(&other, NULL);
+    HOLDS(opposite_answer.refusal == CRUDVIM_ACCEPTED && (int64_t)opposite_answer.results[0] == -whole);
 }
 
 static void after(const struct input *in, const struct answer *answer, const uint8_t *written)
@@ -493,6 +526,7 @@ static void after(const struct input *in, const struct answer *answer, const uin
     case QFORM_CHECK: after_qform_check(in, answer); break;
     case QFORM_FIELD: after_qform_field(in, answer); break;
     case FRACTIONS: after_fractions(in, answer); break;
+    case DECIMALS: after_decimals(in, answer); break;
     default: abort();
     }
 }
@@ -566,6 +600,8 @@ int LLVMFuzzerTestOneInput(const uint8_t *octets, size_t length)
     }
     if (in.entry == QFORM_CHECK || in.entry == QFORM_FIELD)
         compare_qform_with_plain(&in, &answer);
+    if (in.entry == DECIMALS)
+        compare_decimals_with_plain(&in, &answer);
     if (answer.refusal == CRUDVIM_ACCEPTED)
         after(&in, &answer, written);
     free(written);

@@ -2,7 +2,7 @@
 
 use crate::oracle::lookup::Found;
 use crate::oracle::tib::Span;
-use crate::oracle::{frame, lookup, message, qform, real, shorten, show, tibmsg, tibrv, Refusal};
+use crate::oracle::{decimals, frame, lookup, message, qform, real, shorten, show, tibmsg, tibrv, Refusal};
 use std::fmt::Write;
 use std::rc::Rc;
 
@@ -39,11 +39,12 @@ pub enum Call {
     QformCheck(Qform),
     QformField { on: Qform, k: u64 },
     Fractions { bits: u64, hinted: u64, hint: u64 },
+    Decimals { bits: u64, hinted: u64, hint: u64 },
     Show { input: Octets },
 }
 
 /// The entries in the order of their numbers in the counts and in a fuzzer's inputs.
-pub const ENTRIES: [&str; 14] = [
+pub const ENTRIES: [&str; 15] = [
     "check",
     "shorten",
     "lookup",
@@ -57,6 +58,7 @@ pub const ENTRIES: [&str; 14] = [
     "qform_check",
     "qform_field",
     "fractions",
+    "decimals",
     "show",
 ];
 
@@ -86,7 +88,8 @@ impl Call {
             Call::QformCheck(_) => 10,
             Call::QformField { .. } => 11,
             Call::Fractions { .. } => 12,
-            Call::Show { .. } => 13,
+            Call::Decimals { .. } => 13,
+            Call::Show { .. } => 14,
         }
     }
 
@@ -103,7 +106,7 @@ impl Call {
         match self {
             Call::Check(_) => 3,
             Call::FrameRead { .. } | Call::TibmsgCheck { .. } | Call::TibrvCheck { .. } | Call::QformCheck(_) => 2,
-            Call::Shorten { .. } | Call::FrameWrite { .. } | Call::Fractions { .. } => 1,
+            Call::Shorten { .. } | Call::FrameWrite { .. } | Call::Fractions { .. } | Call::Decimals { .. } => 1,
             Call::Lookup { .. } | Call::LookupLast { .. } | Call::TibrvField { .. } => 5,
             Call::QformField { .. } => 4,
             Call::TibmsgField { .. } => 9,
@@ -146,6 +149,7 @@ impl Call {
             Call::QformCheck(on) => qform::check(&on.dictionary, &on.message).map(pair),
             Call::QformField { on, k } => qform::kth(&on.dictionary, &on.message, *k).map(qform_field),
             Call::Fractions { bits, hinted, hint } => real::fractions(*bits, *hinted, *hint).map(|whole| vec![whole as u64]),
+            Call::Decimals { bits, hinted, hint } => decimals::decimals(*bits, *hinted, *hint).map(|whole| vec![whole as u64]),
             Call::Shorten { .. } | Call::FrameWrite { .. } | Call::Show { .. } => {
                 unreachable!("these have octets to write")
             }
@@ -173,7 +177,7 @@ impl Call {
             Call::LookupLast { on, tag } => vec![("revision", on.revision), ("number", on.number), ("tag", *tag)],
             Call::FrameWrite { room, .. } => vec![("out_len", *room as u64)],
             Call::TibmsgField { k, .. } | Call::TibrvField { k, .. } | Call::QformField { k, .. } => vec![("k", *k)],
-            Call::Fractions { bits, hinted, hint } => {
+            Call::Fractions { bits, hinted, hint } | Call::Decimals { bits, hinted, hint } => {
                 vec![("real_bits", *bits), ("hinted", *hinted), ("hint", *hint)]
             }
             _ => vec![],
@@ -193,7 +197,7 @@ impl Call {
             | Call::TibrvCheck { message }
             | Call::TibrvField { message, .. } => vec![("message", message)],
             Call::Show { input } => vec![("input", input)],
-            Call::Fractions { .. } => vec![],
+            Call::Fractions { .. } | Call::Decimals { .. } => vec![],
         }
     }
 }

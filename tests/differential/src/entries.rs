@@ -132,6 +132,7 @@ mod c {
             data_length: *mut u64,
         ) -> u64;
         pub fn crudvim_fractions(real_bits: u64, hinted: u64, hint: u64, place: *mut u64, whole: *mut i64) -> u64;
+        pub fn crudvim_decimals(real_bits: u64, hinted: u64, hint: u64, place: *mut u64, whole: *mut i64) -> u64;
     }
 }
 
@@ -263,7 +264,7 @@ fn inputs(call: &Call) -> (Input<'_>, Input<'_>) {
         | Call::TibmsgField { message, .. }
         | Call::TibrvCheck { message }
         | Call::TibrvField { message, .. } => (("message", message), none),
-        Call::Fractions { .. } | Call::Show { .. } => (none, none),
+        Call::Fractions { .. } | Call::Decimals { .. } | Call::Show { .. } => (none, none),
     }
 }
 
@@ -282,6 +283,7 @@ fn make(call: &Call, first: &mut Lent, second: &mut Lent, out: &mut Lent, result
         Call::QformCheck(_) => qform_check(first, second, results),
         Call::QformField { k, .. } => qform_field(*k, first, second, results),
         Call::Fractions { bits, hinted, hint } => fractions(*bits, *hinted, *hint, results),
+        Call::Decimals { bits, hinted, hint } => decimals(*bits, *hinted, *hint, results),
         Call::Show { .. } => unreachable!("show is a program"),
     }
 }
@@ -443,4 +445,9 @@ fn qform_field(k: u64, dictionary: &mut Lent, message: &mut Lent, results: &mut 
 fn fractions(bits: u64, hinted: u64, hint: u64, results: &mut Results) -> u64 {
     let [place, whole] = results.pointers();
     unsafe { c::crudvim_fractions(bits, hinted, hint, place, whole.cast()) }
+}
+
+fn decimals(bits: u64, hinted: u64, hint: u64, results: &mut Results) -> u64 {
+    let [place, whole] = results.pointers();
+    unsafe { c::crudvim_decimals(bits, hinted, hint, place, whole.cast()) }
 }

@@ -5,6 +5,7 @@
 
 pub mod corpus;
 pub mod damage;
+pub mod decimals;
 pub mod dictionaries;
 pub mod exhaustive;
 pub mod forms;
@@ -63,6 +64,6 @@ fn random(rng: &mut Rng) -> Vec<Call> {
         58..=70 => tib::random_tibmsg(rng),
         71..=82 => tib::random_tibrv(rng),
         83..=92 => qform::random(rng),
-        _ => reals::random(rng),
+        _ => [reals::random(rng), decimals::random(rng)].concat(),
     }
 }

@@ -1,6 +1,7 @@
 //! Makes the calls of cases through C, compares them with the oracle and counts what was reached.
 
 use crate::call::{hex, Call, Outcome, ENTRIES};
+use crate::oracle::decimals::{rounding, Rounding};
 use crate::rng::Rng;
 use crate::{entries, generate};
 use std::io::Write;
@@ -23,6 +24,23 @@ const SHORT: usize = 9;
 /// types are below these.
 const EMPTY: usize = 22;
 const PADDED_AT_THE_END: usize = 23;
+/// Kinds of answers in decimals. Down and up are those of the size.
+const DECIMALS: [&str; 14] = [
+    "above 0 exact",
+    "above 0 down",
+    "above 0 up",
+    "above 0 tie down",
+    "above 0 tie up",
+    "0",
+    "0 from above",
+    "below 0 exact",
+    "below 0 down",
+    "below 0 up",
+    "below 0 tie down",
+    "below 0 tie up",
+    "minus 0",
+    "0 from below",
+];
 
 /// Counts per entry: of each refusal number, and of each kind of accepted answer.
 #[derive(Clone, Default)]
@@ -112,6 +130,7 @@ fn wanted(entry: &str) -> (&'static [usize], &'static [usize]) {
             &[0, 1, 2, 3, 4, 5, 6, 7, 8, 9, 10, 11, 12, 13, 14, 15, 16, 17, 18, 19, 20, 21, 22, 23],
         ),
         "fractions" => (&[0, 17], &[0, 1, 2]),
+        "decimals" => (&[0, 17], &[0, 1, 2, 3, 4, 5, 6, 7, 8, 9, 10, 11, 12, 13]),
         _ => (&[0, 1, 2, 3, 4, 5, 6, 7, 14, 20], &[]),
     }
 }
@@ -137,9 +156,20 @@ fn path(call: &Call, outcome: &Outcome) -> usize {
         }
         Call::QformField { .. } => results[1],
         Call::Fractions { .. } => ((results[0] as i64).signum() + 1) as u64,
+        Call::Decimals { bits, hint, .. } => decimals_path(*bits, *hint, results[0] as i64),
         Call::Show { .. } => 0,
     };
     path as usize
+}
+
+/// The sign of the real, what rounding did, and whether the answer is 0.
+fn decimals_path(bits: u64, hint: u64, whole: i64) -> u64 {
+    let kind = match (whole, rounding(bits, hint, whole)) {
+        (0, Rounding::Exact) => 5,
+        (0, _) => 6,
+        (_, rounding) => rounding as u64,
+    };
+    7 * (bits >> 63) + kind
 }
 
 fn path_name(entry: usize, index: usize) -> String {
@@ -158,6 +188,7 @@ fn path_name(entry: usize, index: usize) -> String {
         "qform_field" if index == PADDED_AT_THE_END => "padded at the end".to_string(),
         "qform_field" => format!("type {index}"),
         "fractions" => ["below 0", "0", "above 0"][index].to_string(),
+        "decimals" => DECIMALS[index].to_string(),
         _ => "shown".to_string(),
     }
 }

@@ -1,5 +1,6 @@
 //! Tests of the oracle. Every expected value is written by hand from the documents.
 
+mod decimals;
 mod hproto;
 mod laws;
 mod qform;

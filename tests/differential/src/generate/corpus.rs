@@ -3,7 +3,8 @@
 //! entry (1 octet), revision (2), number (2), first word (2), second word (2), table length (2), table, and the rest is the message.
 //!
 //! For QForm the dictionary stands in the place of the table. The words are the tag and k of lookup, k of a Tib or QForm field,
-//! hinted and the hint of fractions (the real is the message's first eight octets), and the second one is the room for written octets: from ff00 on the message's length and so many more.
+//! hinted and the hint of fractions and decimals (the real is the message's first eight octets), and the second one is the room for
+//! written octets: from ff00 on the message's length and so many more.
 
 use crate::call::{Call, Hproto, Qform};
 
@@ -48,7 +49,9 @@ fn parts(call: &Call) -> Option<Parts<'_>> {
         Call::TibmsgField { message, k } | Call::TibrvField { message, k } => (On::Nothing, (*k, 0), message.to_vec()),
         Call::QformCheck(on) => (On::Qform(on), (0, 0), on.message.to_vec()),
         Call::QformField { on, k } => (On::Qform(on), (*k, 0), on.message.to_vec()),
-        Call::Fractions { bits, hinted, hint } => (On::Nothing, (*hinted, *hint), bits.to_be_bytes().to_vec()),
+        Call::Fractions { bits, hinted, hint } | Call::Decimals { bits, hinted, hint } => {
+            (On::Nothing, (*hinted, *hint), bits.to_be_bytes().to_vec())
+        }
         Call::Show { .. } => return None,
     })
 }

@@ -2,7 +2,7 @@
 
 use super::samples::records;
 use super::samples::{entries, octets};
-use super::{dictionaries, forms, qform, repeats, short_texts};
+use super::{decimals, dictionaries, forms, qform, repeats, short_texts};
 use crate::call::{Call, Hproto, Qform};
 use std::sync::OnceLock;
 
@@ -12,7 +12,7 @@ const TEXTS: u64 = TEXT_LIMITS.pow(4);
 
 type Family = (u64, fn(u64) -> Vec<Call>);
 
-const FAMILIES: [Family; 23] = [
+const FAMILIES: [Family; 28] = [
     (1 + 256 + TWO_OCTETS, short_message),
     (repeats::FORM_PAIRS, repeated),
     (repeats::ORDERS, repeated_by_order),
@@ -36,6 +36,11 @@ const FAMILIES: [Family; 23] = [
     (qform::CUTS, cut_qform),
     (24 * 256, changed_dictionary),
     (26 * 256, changed_qform),
+    (decimals::EXPONENTS, decimals::exponent_calls),
+    (decimals::TIES, decimals::tie_calls),
+    (decimals::ALMOST, decimals::almost_tie_calls),
+    (decimals::ENDS, decimals::end_calls),
+    (decimals::HINTS, decimals::hint_calls),
 ];
 
 /// How many cases there are.

@@ -14,6 +14,7 @@ pub enum Sample {
     Tibrv(Vec<u8>),
     Qform { dictionary: Vec<u8>, message: Vec<u8> },
     Fractions { bits: u64, hinted: u64, hint: u64 },
+    Decimals { bits: u64, hinted: u64, hint: u64 },
     Show(Vec<u8>),
 }
 
@@ -27,6 +28,7 @@ impl Sample {
             Sample::Tibrv(message) => tib::tibrv_calls(rng, message),
             Sample::Qform { dictionary, message } => qform::calls(rng, dictionary, message),
             Sample::Fractions { bits, hinted, hint } => vec![Call::Fractions { bits: *bits, hinted: *hinted, hint: *hint }],
+            Sample::Decimals { bits, hinted, hint } => vec![Call::Decimals { bits: *bits, hinted: *hinted, hint: *hint }],
             Sample::Show(input) => vec![Call::Show { input: input[..].into() }],
         }
     }
@@ -64,6 +66,7 @@ pub fn all() -> &'static [Sample] {
         samples.extend(dictionary_limits());
         samples.extend(qform_limits());
         samples.extend(FRACTIONS.iter().map(fraction_sample));
+        samples.extend(DECIMALS.iter().map(decimal_sample));
         samples.extend(SHOW.iter().map(|input| Sample::Show(octets(input))));
         samples
     })
@@ -119,6 +122,11 @@ fn revision_sample(table: &[u8], revision: u64, number: u64, message: &[u8]) -> 
 fn fraction_sample(sample: &(u64, u64, u64)) -> Sample {
     let (bits, hinted, hint) = *sample;
     Sample::Fractions { bits, hinted, hint }
+}
+
+fn decimal_sample(sample: &(u64, u64, u64)) -> Sample {
+    let (bits, hinted, hint) = *sample;
+    Sample::Decimals { bits, hinted, hint }
 }
 
 const SHOW_TABLE: &str = "0 1 1 0, 0 2 2 0, 0 23 5 1, 1 0 4 0, 1 1 1 0";
@@ -399,6 +407,38 @@ const FRACTIONS: &[(u64, u64, u64)] = &[
     (0x7ff0_0000_0000_0000, 1, 1),
     (0x7ff8_0000_0000_0000, 1, 1),
     (0x0000_0000_0000_0001, 1, 8),
+];
+
+const DECIMALS: &[(u64, u64, u64)] = &[
+    (0x3ff2_0000_0000_0000, 1, 19), // 1.125
+    (0x3ff2_0000_0000_0000, 1, 18),
+    (0xbff2_0000_0000_0000, 1, 18),
+    (0x3ff2_0000_0000_0000, 0, 19),
+    (0x3ff2_0000_0000_0000, 1, (1 << 32) + 17),
+    (0x4005_6666_6666_6666, 1, 18), // 2.675
+    (0xc005_6666_6666_6666, 1, 18),
+    (0x3fd6_6666_6666_6666, 1, 17), // 0.35
+    (0x3fdc_cccc_cccc_cccd, 1, 17), // 0.45
+    (0x3fb9_9999_a000_0000, 1, 25), // 3dcccccd in four octets
+    (0x430a_36e2_eb1c_432c, 1, 20), // the largest that is accepted with this hint
+    (0x430a_36e2_eb1c_432d, 1, 20),
+    (0xc30a_36e2_eb1c_432c, 1, 20),
+    (0xc30a_36e2_eb1c_432d, 1, 20),
+    (0x42a0_c6f7_a0b5_ed8d, 1, 22), // the largest answer of all hints
+    (0xc2a0_c6f7_a0b5_ed8d, 1, 22),
+    (0x0000_0000_0000_0000, 1, 17),
+    (0x8000_0000_0000_0000, 1, 17),
+    (0x8000_0000_0000_0000, 1, 25),
+    (0x0000_0000_0000_0001, 1, 25),
+    (0x8000_0000_0000_0001, 1, 25),
+    (0x000f_ffff_ffff_ffff, 1, 25),
+    (0x800f_ffff_ffff_ffff, 1, 25),
+    (0xbe00_0000_0000_0000, 1, 25), // -2^-31
+    (0x7fef_ffff_ffff_ffff, 1, 17),
+    (0x7ff0_0000_0000_0000, 1, 17),
+    (0xfff0_0000_0000_0000, 1, 25),
+    (0x7ff0_0000_0000_0001, 1, 17),
+    (0x7ff8_0000_0000_0000, 1, 17),
 ];
 
 const SHOW: &[&str] = &[

@@ -1,8 +1,10 @@
 //! A second implementation of the rules, written from the documents alone and for plainness, not for speed.
 
+pub mod decimals;
 pub mod frame;
 pub mod lookup;
 pub mod message;
+pub mod natural;
 pub mod qform;
 pub mod real;
 pub mod shorten;
