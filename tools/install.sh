@@ -13,7 +13,7 @@ cat > "$prefix/lib/pkgconfig/crudvim.pc" <<END
 prefix=$prefix
 Name: crudvim
 Description: hproto, TibMsg, TibrvMsg and QForm messages: check, shorten, frame, read
-Version: 3.1.0
+Version: 3.2.0
 Cflags: -I\${prefix}/include
 Libs: -L\${prefix}/lib -lcrudvim
 END

@@ -24,6 +24,7 @@ ENTRIES = {
     'tib_dictionary_index': 'load',
     'tib_qform': 'check check_loaded field field_loaded',
     'tib_real': 'real fractions',
+    'tib_decimals': 'decimals',
 }
 DEMANDS = {'1': 'message_calls/Demand1', '2': 'writer_laws/Demand2', '3': 'message_calls/Demand3'}
 

@@ -501,6 +501,7 @@ static void after_decimals(const struct input *in, const struct answer *answer)
     uint8_t opposite[8];
     struct input other = *in;
     HOLDS(in->second >= 17 && in->second <= 25);
+    HOLDS(whole != INT64_MIN);
     HOLDS(bits >> 63 == 1 ? whole <= 0 : whole >= 0);
     for (size_t i = 0; i < 8; i++)
         opposite[i] = (uint8_t)((bits ^ (uint64_t)1 << 63) >> (8 * (7 - i)));

@@ -65,7 +65,7 @@ name = 15
 abbrev pub typeSizeOrHint : ℕ
 typeSizeOrHint = 16
 
--- A real that cannot be read in fractions.
+-- A real that cannot be read in fractions, or in decimals.
 abbrev pub notInFractions : ℕ
 notInFractions = 17
 

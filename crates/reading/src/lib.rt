@@ -43,7 +43,7 @@ pub const SIZE: u64 = 14;
 pub const NAME: u64 = 15;
 // A type, a size or a hint against the rules, or a FID without both flags.
 pub const TYPE_SIZE_OR_HINT: u64 = 16;
-// A real that cannot be read in fractions.
+// A real that cannot be read in fractions, or in decimals.
 pub const NOT_IN_FRACTIONS: u64 = 17;
 // No such field.
 pub const ABSENT: u64 = 18;

@@ -1,14 +1,14 @@
 -- Reading in decimals answers the one number of the rule, or the refusal if there is none.
 use Prim.Native.Nat.{ℕ, _*_, _-_, _^_}
-use native.Mathlib.Omega.{arith}
-use mathlib.Core.Path.{_≡_, refl, sym, ap, _∙_}
+use mathlib.Core.Path.{_≡_, refl, sym, ap, _∙_, subst}
 use mathlib.Core.Bool.{Bool, true, false}
+use lib.Dec.{T}
 use lib.Pow.{pow-pos}
 use Rattle.tib_real.specs.declared.types.Real.{Real}
+use Rattle.tib_real.specs.declared.types.WholeNumber.{WholeNumber}
 use Rattle.tib_real.specs.Parts.{eight, negative, finite, units}
-use Rattle.tib_real.specs.WholeNumber.{hintWithin, accepted, signed, refused}
+use Rattle.tib_real.specs.WholeNumber.{hintWithin, signed, accepted}
 use Rattle.tib_real.proofs.Hints.{within, within-limits}
-use Rattle.tib_decimals.specs.Nearest.{nearest}
 use Rattle.tib_decimals.specs.InDecimals.{scaled, rounded, inRange, answer, inDecimals, decimalsOf}
 use Rattle.tib_decimals.specs.Reads.{Reads, Answered, read, notRead}
 use Rattle.tib_decimals.proofs.Nearest.{nearest-is, nearest-once}
@@ -42,10 +42,7 @@ module _ (r : Real) where
 
   -- A test that fails leaves no number.
   fails : {b : Bool} → b ≡ false → b ≡ true → ⊥
-  fails e f = let z : _≡_ {A = Bool} true false = sym f ∙ e in absurd-bool z
-    where
-      absurd-bool : _≡_ {A = Bool} true false → ⊥
-      absurd-bool z = let w : _≡_ {A = ℕ} 0 1 = cc in omega arith
+  fails e f = subst T (sym f ∙ e) tt
 
   pub decimals-answered : Answered r (decimalsOf r)
   unfolding decimalsOf inDecimals answer
@@ -57,3 +54,10 @@ module _ (r : Real) where
       go true h false f s i = notRead (λ n k. fails f (k .number)) (rw (h, f))
       go false h q f s i =
           notRead (λ n k. fails h (within-limits 17 25 r (record { hinted = k .hinted; notBelow = k .least; notAbove = k .most }))) (rw h)
+
+-- No other answer is right.
+pub answered-once : (r : Real) (a b : WholeNumber) → Answered r a → Answered r b → a ≡ b
+answered-once r a b (read n x e) (read m y f) = e ∙ ap (λ (i : ℕ). accepted (signed (negative eight (r .bits)) i)) (reads-once r n m x y) ∙ sym f
+answered-once r a b (read n x e) (notRead y f) = absurd (y n x)
+answered-once r a b (notRead x e) (read m y f) = absurd (x m y)
+answered-once r a b (notRead x e) (notRead y f) = e ∙ sym f

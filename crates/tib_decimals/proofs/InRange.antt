@@ -1,7 +1,7 @@
 -- The functions `with_sign`, `answer` and `in_decimals`: which sizes are in range, and what bits stand for.
 use Prim.Native.Nat.{ℕ, zero, suc, _+_, _/_, _^_, _≤_, _<_}
 use native.Mathlib.Omega.{arith}
-use mathlib.Core.Path.{_≡_, refl, sym, ap, _∙_}
+use mathlib.Core.Path.{_≡_, refl, sym, _∙_}
 use mathlib.Core.Bool.{Bool, true, false}
 use lib.Arith.{lt-of-le-ne}
 use lib.Bits.{bitAnd, and-mask, mask-lt}
@@ -30,7 +30,7 @@ in-range zero n s h = rw (lt-ltb n (2 ^ 63) (omega arith))
 in-range (suc zero) n s h = rw (le-leb n (2 ^ 63) (omega arith))
 in-range (suc (suc sign)) n s h = absurd (omega arith)
 
-pub sign-is : (b : ℕ) → b < 2 ^ 64 → eqb (b / 2 ^ 63) 1 ≡ negative eight b
+sign-is : (b : ℕ) → b < 2 ^ 64 → eqb (b / 2 ^ 63) 1 ≡ negative eight b
 unfolding negative
 sign-is b h = go (leb (2 ^ 63) b) refl
   where

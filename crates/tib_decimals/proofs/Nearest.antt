@@ -1,34 +1,28 @@
 -- There is exactly one nearest whole number, and `nearest` is it.
 use Prim.Native.Nat.{ℕ, zero, suc, _+_, _*_, _/_, _%_, _≤_, _<_}
-use native.Mathlib.Nat.{add-zero, zero-mul, one-mul, mul-assoc, add-mul, mul-pos, mul-le-mul-right, mul-lt-mul-of-pos-right, lt-of-mul-lt-mul-right, le-of-mul-le-mul-right, eq-of-mul-eq-mul-right, mod-lt, mod-eq-of-lt, div-eq-of-lt, div-add-mod', mul-add-div-right, mul-add-mod-self-right}
+use native.Mathlib.Nat.{one-mul, mul-assoc, add-mul, mul-pos, mul-le-mul-right, mul-lt-mul-of-pos-right, lt-of-mul-lt-mul-right, le-of-mul-le-mul-right, eq-of-mul-eq-mul-right, mod-lt, div-add-mod'}
 use native.Mathlib.Omega.{arith}
 use mathlib.Core.Path.{_≡_, refl, sym, ap, _∙_}
 use mathlib.Core.Bool.{Bool, true, false}
+use lib.Arith.{digits-div, digits-mod}
 use lib.Dec.{ltb}
 use borrow.Author.Tests.{ltb-true, ltb-false, lt-ltb, le-ltb}
 use Rattle.tib_decimals.specs.Nearest.{Nearest, nearest}
 
 -- ---- the number of the definition
 
--- The whole part q and the rest r of a fraction.
-pub quotient : (q r d : ℕ) → r < d → (q * d + r) / d ≡ q
-quotient q r d h = mul-add-div-right (omega arith) q r ∙ ap (λ (x : ℕ). q + x) (div-eq-of-lt h) ∙ add-zero q
-
-remainder : (q r d : ℕ) → r < d → (q * d + r) % d ≡ r
-remainder q r d h = mul-add-mod-self-right q d r ∙ mod-eq-of-lt h
-
 -- By how twice the rest compares with the denominator.
 pub below-half : (q r d : ℕ) → 2 * r < d → nearest (q * d + r) d ≡ q
 unfolding nearest
-below-half q r d h = rw (quotient q r d (omega arith), remainder q r d (omega arith), lt-ltb (2 * r) d h)
+below-half q r d h = rw (digits-div q {m = d} {r = r} (omega arith), digits-mod q {m = d} {r = r} (omega arith), lt-ltb (2 * r) d h)
 
 pub above-half : (q r d : ℕ) → r < d → d < 2 * r → nearest (q * d + r) d ≡ q + 1
 unfolding nearest
-above-half q r d l h = rw (quotient q r d l, remainder q r d l, le-ltb (2 * r) d (omega arith), lt-ltb d (2 * r) h)
+above-half q r d l h = rw (digits-div q {m = d} {r = r} l, digits-mod q {m = d} {r = r} l, le-ltb (2 * r) d (omega arith), lt-ltb d (2 * r) h)
 
 pub just-half : (q r d : ℕ) → 0 < d → 2 * r ≡ d → nearest (q * d + r) d ≡ q + q % 2
 unfolding nearest
-just-half q r d l h = rw (quotient q r d (omega arith), remainder q r d (omega arith), le-ltb (2 * r) d (omega arith), le-ltb d (2 * r) (omega arith))
+just-half q r d l h = rw (digits-div q {m = d} {r = r} (omega arith), digits-mod q {m = d} {r = r} (omega arith), le-ltb (2 * r) d (omega arith), le-ltb d (2 * r) (omega arith))
 
 -- A fraction by its whole part, its rest, and on which side of a half the rest is.
 pub data Split (n d : ℕ) : Type 0 where

@@ -1,9 +1,9 @@
 -- Powers of five, and the size of a real times a power of ten.
-use Prim.Native.Nat.{ℕ, zero, suc, _+_, _*_, _-_, _/_, _%_, _^_, _≤_, _<_}
+use Prim.Native.Nat.{ℕ, zero, suc, _+_, _*_, _-_, _^_, _≤_, _<_}
 use native.Mathlib.Nat.{pow-suc, pow-le-pow-right, mul-mul-mul-comm, lt-of-lt-of-le}
 use native.Mathlib.Omega.{arith}
 use mathlib.Core.Path.{_≡_, refl, sym}
-use borrow.Author.Tests.{ne-eqb, eq-eqb}
+use borrow.Author.Tests.{ne-eqb}
 use Rattle.tib_real.specs.Parts.{eight, exponent, fraction, significand, units}
 use Rattle.tib_real.proofs.Size.{power-grows, significand-below}
 use Rattle.tib_decimals.specs.InDecimals.{scaled, rounded}

@@ -2,11 +2,12 @@
 use Prim.Native.Nat.{ℕ, zero, suc, _+_, _*_, _-_, _/_, _%_, _<_}
 use native.Mathlib.Omega.{arith}
 use mathlib.Core.Path.{_≡_, refl}
+use lib.Arith.{digits-div}
 use Rattle.tib_decimals.specs.Nearest.{nearest}
-use Rattle.tib_decimals.proofs.Nearest.{quotient, next, Split, below, just, above, split, below-half, just-half, above-half}
+use Rattle.tib_decimals.proofs.Nearest.{next, Split, below, just, above, split, below-half, just-half, above-half}
 
 by-quotient : (n q r d : ℕ) → r < d → n ≡ q * d + r → n / d ≡ q
-by-quotient n q r d h e = rw e (quotient q r d h)
+by-quotient n q r d h e = rw e (digits-div q h)
 
 -- Almost a half is added, and the last bit of the whole part: so the sum reaches the next whole number just where the rest is above a half,
 -- or is a half and the whole part odd.
@@ -23,12 +24,12 @@ module _ (h : ℕ) (p : 0 < h) where
     where
       go : Split v (2 * h) → (v + (h - 1) + v / (2 * h) % 2) / (2 * h) ≡ nearest v (2 * h)
       go (below q r e k) =
-          rw (e, quotient q r (2 * h) (omega arith), below-half q r (2 * h) k)
+          rw (e, digits-div q {m = 2 * h} {r = r} (omega arith), below-half q r (2 * h) k)
           (by-quotient (q * (2 * h) + r + (h - 1) + q % 2) q (r + (h - 1) + q % 2) (2 * h) (omega arith) (omega arith))
       go (just q r e k) =
           let f : r ≡ h = omega arith in
-          rw (e, quotient q r (2 * h) (omega arith), just-half q r (2 * h) (omega arith) k, f) (at-tie q (q % 2) refl (omega arith))
+          rw (e, digits-div q {m = 2 * h} {r = r} (omega arith), just-half q r (2 * h) (omega arith) k, f) (at-tie q (q % 2) refl (omega arith))
       go (above q r e l k) =
           let m = next q (2 * h) in
-          rw (e, quotient q r (2 * h) l, above-half q r (2 * h) l k)
+          rw (e, digits-div q {m = 2 * h} {r = r} l, above-half q r (2 * h) l k)
           (by-quotient (q * (2 * h) + r + (h - 1) + q % 2) (q + 1) (r + (h - 1) + q % 2 - 2 * h) (2 * h) (omega arith) (omega arith))

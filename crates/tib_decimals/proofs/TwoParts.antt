@@ -1,11 +1,10 @@
 -- Rounding a product of two parts, high * 2 ^ 32 + low: the functions `small` and `large`.
 use Prim.Native.Nat.{ℕ, _+_, _*_, _-_, _/_, _%_, _^_, _≤_, _<_}
-use native.Mathlib.Nat.{mul-assoc, mul-le-mul-right, mul-lt-mul-of-pos-right, mul-add-div-right, div-div-eq-div-mul, div-le-self}
+use native.Mathlib.Nat.{mul-assoc, mul-le-mul-right, mul-lt-mul-of-pos-right, mul-add-div-right, div-le-self, add-comm}
 use native.Mathlib.Omega.{arith}
 use mathlib.Core.Path.{_≡_, sym, ap, _∙_}
 use lib.Bits.{bitAnd, mask-lt}
-use lib.Pow.{pow-pos}
-use Rattle.tib_real.proofs.Size.{power-grows}
+use lib.Pow.{pow-pos, shr-shr, shr-le}
 use Rattle.tib_decimals.specs.Nearest.{nearest}
 use Rattle.tib_decimals.proofs.Shifts.{power-split, one-shifted, last-bit, half, half-is, half-bounds, rounding-shift}
 
@@ -17,12 +16,12 @@ module _ (high low t : ℕ) (a : high < 2 ^ 52) (b : low < 2 ^ 32) (p : 0 < t) w
 
   -- First the quotient by 2 ^ 32, then that by 2 ^ t.
   quotient-in-two : (n : ℕ) → n / 2 ^ (t + 32) ≡ n / 2 ^ 32 / 2 ^ t
-  quotient-in-two n = ap (λ (x : ℕ). n / x) (power-split 32 t (t + 32) (omega arith)) ∙ sym (div-div-eq-div-mul n (2 ^ 32) (2 ^ t))
+  quotient-in-two n = ap (λ (x : ℕ). n / 2 ^ x) (add-comm t 32) ∙ sym (shr-shr n 32 t)
 
-  abbrev pub odd : ℕ
+  abbrev odd : ℕ
   odd = bitAnd (high / 2 ^ t) 1
 
-  abbrev pub carry : ℕ
+  abbrev carry : ℕ
   carry = (low + 0xffffffff + odd) / 2 ^ 32
 
   odd-is : product / 2 ^ (t + 32) % 2 ≡ odd
@@ -78,7 +77,7 @@ module _ (high low t : ℕ) (a : high < 2 ^ 52) (b : low < 2 ^ 32) (p : 0 < t) w
 
     -- The sums of the code: none is too large, and the last is the result.
     pub quotient-below : low / 2 ^ t ≤ low
-    quotient-below = div-le-self low (2 ^ t)
+    quotient-below = shr-le low t
 
     abbrev pub last : ℕ
     last = bitAnd (whole % 2 ^ 64 + low / 2 ^ t) 1

@@ -9,7 +9,8 @@ use Rattle.tib_real.specs.WholeNumber.{signed, refused, accepted}
 use Rattle.tib_decimals.specs.Nearest.{Nearest}
 use Rattle.tib_decimals.specs.InDecimals.{inRange}
 
--- What the rule asks of a real x and of the size n of its answer, which has the sign of x. The size of x is `units` over 2 ^ 1074.
+-- What the rule asks of a real x and of a number n. The answer is then n with the sign of x, where 0 has no sign. The size of x is `units` over
+-- 2 ^ 1074.
 pub record Reads (r : Real) (n : ℕ) : Type 0 where
   pub hinted : r .hinted ≡ true
   pub least : 17 ≤ r .hint

@@ -19,8 +19,8 @@ abbrev real : ℕ → ℕ → WholeNumber → Sample
 real b h a = record { bits = b; hint = h; expected = a }
 
 -- 1.125 in thousandths. In hundredths it is a tie, and so is its negative: the even number is given.
-unfoldable pub thousandths : List Sample
-thousandths =
+unfoldable pub oneAndAnEighth : List Sample
+oneAndAnEighth =
     real 0x3ff2000000000000 19 (accepted (pos 1125)) ∷
     real 0x3ff2000000000000 18 (accepted (pos 112)) ∷
     real 0xbff2000000000000 18 (accepted (negℤ (pos 112))) ∷
@@ -48,10 +48,11 @@ fourOctets =
     real (widened 0x3dcccccd) 25 (accepted (pos 100000001)) ∷
     []
 
--- Between -1 and 1: -0.96 and -0.04 in tenths. There is one zero, also for minus zero; subnormals give it too.
+-- Between -1 and 1: -0.96, -0.075 and -0.04 in tenths. There is one zero, also for minus zero; subnormals give it too.
 unfoldable pub aroundZero : List Sample
 aroundZero =
     real 0xbfeeb851eb851eb8 17 (accepted (negℤ (pos 10))) ∷
+    real 0xbfb3333333333333 17 (accepted (negℤ (pos 1))) ∷
     real 0xbfa47ae147ae147b 17 (accepted (pos 0)) ∷
     real 0x8000000000000000 17 (accepted (pos 0)) ∷
     real 0x0000000000000001 25 (accepted (pos 0)) ∷
@@ -84,7 +85,7 @@ otherHints =
     []
 
 unfoldable pub samples : List Sample
-samples = thousandths ++ ties ++ nearTies ++ fourOctets ++ aroundZero ++ limits ++ noNumbers ++ otherHints
+samples = oneAndAnEighth ++ ties ++ nearTies ++ fourOctets ++ aroundZero ++ limits ++ noNumbers ++ otherHints
 
 -- The answers to the samples of a list, and those expected.
 unfoldable pub answers : List Sample → List WholeNumber

@@ -15,7 +15,7 @@ const LARGEST: u64 = 0x8000_0000_0000_0000;
 
 const TOO_LARGE: u64 = 0x8000_0000_0000_0001;
 
-// Returns the k-th power of five. As an array, the powers would be stored again in each call.
+// Returns the k-th power of five. An array of the powers would be built again in each call.
 fn power_of_five(k: u64) -> u64
     requires { ⌜ k ≤ 9 ⌝ }
     ensures { λ r. ⌜ r ≡ 5 ^ k ⌝ }
@@ -34,8 +34,8 @@ fn power_of_five(k: u64) -> u64
     }
 }
 
-// Returns high * 2^32 + low over 2^(t + 32), rounded to the nearest whole number, a tie to the even one. Almost a half is added, and the last
-// bit of the whole part. Of the low part's sum only the carry counts.
+// Returns high * 2^32 + low over 2^(t + 32), rounded to the nearest whole number, a tie to the even one. Adds one less than a half, and the last
+// bit of the whole part, then shifts. Of the low part's sum only the carry counts.
 fn small(high: u64, low: u64, t: u64) -> u64
     requires { ⌜ (high < 2 ^ 52) × (low < 2 ^ 32) × (0 < t) × (t ≤ 52) ⌝ }
     ensures { λ r. ⌜ r ≡ nearest (high * 2 ^ 32 + low) (2 ^ (t + 32)) ⌝ }
@@ -45,7 +45,8 @@ fn small(high: u64, low: u64, t: u64) -> u64
     (high + ((1 << (t - 1)) - 1) + carry) >> t
 }
 
-// Returns high * 2^32 + low over 2^t, rounded in the same way, or TOO_LARGE. The high part is a multiple of 2^t, so only the low part is rounded.
+// Returns high * 2^32 + low over 2^t, rounded in the same way, or TOO_LARGE. With a high part above 2^(31 + t) the result is above 2^63. Since
+// high * 2^32 is a multiple of 2^t, only the low part is rounded.
 fn large(high: u64, low: u64, t: u64) -> u64
     requires { ⌜ (high < 2 ^ 52) × (low < 2 ^ 32) × (0 < t) × (t ≤ 32) ⌝ }
     ensures { λ r. ⌜ r ≡ capped (nearest (high * 2 ^ 32 + low) (2 ^ t)) ⌝ }
@@ -59,7 +60,8 @@ fn large(high: u64, low: u64, t: u64) -> u64
     if LARGEST < size { TOO_LARGE } else { size }
 }
 
-// Returns m * f * 2^(e - 1075), rounded in the same way, or TOO_LARGE. With 10 bits more, m * f is only ever shifted down.
+// Returns m * f * 2^(e - 1075), rounded in the same way, or TOO_LARGE. From e = 1085 on the result is at least 2^64; below 1001 it is less than a
+// half. Shifts m up by 10 bits first, so that the product is only ever shifted down: by more than 32 bits if e is below 1053.
 fn size(m: u64, f: u64, e: u64) -> u64
     requires { ⌜ Factors m f e ⌝ }
     ensures { λ r. ⌜ r ≡ capped (sizeOf m f e) ⌝ }
@@ -111,9 +113,8 @@ fn answer(sign: u64, n: u64) -> WholeNumber
     }
 }
 
-// Reads the real with these bits in decimals, with k digits after the point. Two kinds of bits need no test of their own. The exponent of an
-// infinity or a not-a-number makes the size too large. A subnormal has no digit before its fraction and counts its exponent as 1; but with
-// the exponent 0 its size is 0 anyway.
+// Reads the real with these bits in decimals, with k digits after the point. Infinities and not-a-numbers need no test: with their exponent
+// `size` returns TOO_LARGE. Zero and subnormals get a wrong significand here, but with exponent 0 `size` returns 0 for every significand.
 fn in_decimals(bits: u64, k: u64) -> WholeNumber
     requires { ⌜ (1 ≤ k) × (k ≤ 9) ⌝ }
     ensures { λ r. ⌜ r ≡ inDecimals bits k ⌝ }

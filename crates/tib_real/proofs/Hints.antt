@@ -1,4 +1,4 @@
--- What a hint within limits says, and what one outside of them.
+-- What a hint within limits is.
 use Prim.Native.Nat.{ℕ, _≤_}
 use mathlib.Core.Path.{_≡_, sym, subst}
 use mathlib.Core.Bool.{true, _&&_}

@@ -24,7 +24,7 @@ significand-below b = go (eqb (exponent eight b) 0)
     go false = omega arith
 
 -- An exponent above zero has the digit before its fraction.
-pub significand-above : (b : ℕ) → (exponent eight b ≡ 0 → ⊥) → 2 ^ 52 ≤ significand eight b
+significand-above : (b : ℕ) → (exponent eight b ≡ 0 → ⊥) → 2 ^ 52 ≤ significand eight b
 unfolding significand
 significand-above b h = rw (ne-eqb (exponent eight b) 0 h) (omega arith)
 

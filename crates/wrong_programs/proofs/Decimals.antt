@@ -1,8 +1,8 @@
 -- Wrong programs in the place of crudvim_decimals and tib_decimals::decimals.
-use Prim.Native.Nat.{ℕ, _+_, _*_, _-_, _/_, _%_, _^_, _<_}
+use Prim.Native.Nat.{ℕ, _+_, _*_, _-_, _/_, _%_, _^_, _≤_, _<_}
 use native.Mathlib.Omega.{arith}
 use mathlib.Core.Path.{_≡_, refl, sym}
-use mathlib.Core.Bool.{Bool, true, cond}
+use mathlib.Core.Bool.{Bool, true, false, cond}
 use lib.IntN.{ℤ, pos, negℤ, pos-ne-negsuc}
 use borrow.Author.Tests.{eqb-false}
 use Rattle.tib_real.specs.Parts.{eight, negative, exponent}
@@ -30,14 +30,14 @@ minus-hundredths : Sample decimals
 unfolding tib
 minus-hundredths = given (hinted 0xbff2000000000000 18) (accepted (negℤ (pos 112))) tt refl
 
--- 0.75 and -0.75 in tenths; 1 with the hints 19 and 16; minus zero.
+-- 0.75 and -0.075 in tenths; 1 with the hints 19 and 16, and without a hint; minus zero; infinity; the first number out of range.
 tenths : Sample decimals
 unfolding tib
 tenths = given (hinted 0x3fe8000000000000 17) (accepted (pos 8)) tt refl
 
-minus-tenths : Sample decimals
+minus-one : Sample decimals
 unfolding tib
-minus-tenths = given (hinted 0xbfe8000000000000 17) (accepted (negℤ (pos 8))) tt refl
+minus-one = given (hinted 0xbfb3333333333333 17) (accepted (negℤ (pos 1))) tt refl
 
 one : Sample decimals
 unfolding tib
@@ -47,9 +47,21 @@ hint-16 : Sample decimals
 unfolding tib
 hint-16 = given (hinted 0x3ff0000000000000 16) refused tt refl
 
+no-hint : Sample decimals
+unfolding tib
+no-hint = given (record { bits = 0x3ff0000000000000; hint = 19; hinted = false }) refused tt refl
+
 minus-zero : Sample decimals
 unfolding tib
 minus-zero = given (hinted 0x8000000000000000 17) (accepted (pos 0)) tt refl
+
+infinity : Sample decimals
+unfolding tib
+infinity = given (hinted 0x7ff0000000000000 17) refused tt refl
+
+out-of-range : Sample decimals
+unfolding tib
+out-of-range = given (hinted 0x430a36e2eb1c432d 20) refused tt refl
 
 abbrev refusal : WholeNumber → ℕ
 refusal a = a .refusal
@@ -77,13 +89,36 @@ pub rejects-minus-zero : RuledOut (Rejects refusal is-minus-zero) decimals
 unfolding minus-zero
 rejects-minus-zero = rejects refusal is-minus-zero minus-zero refl refl
 
--- It accepts the hint 16, for whole numbers.
+-- It accepts the hint 16, where the rounded number is in range.
 abbrev number-with-hint-16 : HintedCall → Type 0
 number-with-hint-16 x = (x .value .hinted ≡ true) × (x .value .hint ≡ 16) × (inDecimals (x .value .bits) 0 .refusal ≡ 0)
 
 pub accepts-hint-16 : RuledOut (Accepts refusal number-with-hint-16) decimals
 unfolding hint-16 tib
 accepts-hint-16 = accepts refusal number-with-hint-16 hint-16 (refl, refl, refl) (eqb-false 17 0 refl)
+
+-- It accepts a real without a hint, where the number in its place would do.
+abbrev number-in-place-of-hint : HintedCall → Type 0
+number-in-place-of-hint x = (x .value .hinted ≡ false) × (17 ≤ x .value .hint) × (x .value .hint ≤ 25) × (inDecimals (x .value .bits) (x .value .hint - 16) .refusal ≡ 0)
+
+pub accepts-no-hint : RuledOut (Accepts refusal number-in-place-of-hint) decimals
+unfolding no-hint tib
+accepts-no-hint = accepts refusal number-in-place-of-hint no-hint (refl, omega arith, omega arith, refl) (eqb-false 17 0 refl)
+
+-- It accepts infinities and not-a-numbers, or numbers that 64 bits do not hold.
+abbrev no-number : HintedCall → Type 0
+no-number x = exponent eight (x .value .bits) ≡ 2047
+
+pub accepts-no-number : RuledOut (Accepts refusal no-number) decimals
+unfolding infinity tib
+accepts-no-number = accepts refusal no-number infinity refl (eqb-false 17 0 refl)
+
+abbrev too-large : HintedCall → Type 0
+too-large x = 2 ^ 63 < rounded (x .value .bits) (x .value .hint - 16)
+
+pub accepts-too-large : RuledOut (Accepts refusal too-large) decimals
+unfolding out-of-range tib
+accepts-too-large = accepts refusal too-large out-of-range (omega arith) (eqb-false 17 0 refl)
 
 -- Every answer is 0.
 pub answers-0 : RuledOut (Invents number (λ (x : HintedCall). pos 0) always) decimals
@@ -141,12 +176,12 @@ pub next-power : RuledOut (Invents number one-digit-more accepts-it) decimals
 unfolding thousandths tib
 next-power = invents number one-digit-more accepts-it thousandths refl (pos-differ 1125 11250 refl)
 
--- A real between -1 and 1 loses its sign: its whole part is 0.
-abbrev below-1 : HintedCall → Type 0
-below-1 x = exponent eight (x .value .bits) < 1023
+-- Where the whole part of the product is 0, the answer loses its sign: it is 1 in place of -1.
+abbrev whole-part-0 : HintedCall → Type 0
+whole-part-0 x = size x / 2 ^ 1074 ≡ 0
 
-pub sign-lost : RuledOut (Invents number (λ (x : HintedCall). pos (rounded (x .value .bits) (x .value .hint - 16))) below-1) decimals
-unfolding minus-tenths tib
+pub sign-lost : RuledOut (Invents number (λ (x : HintedCall). pos (rounded (x .value .bits) (x .value .hint - 16))) whole-part-0) decimals
+unfolding minus-one tib
 sign-lost =
-    invents number (λ (x : HintedCall). pos (rounded (x .value .bits) (x .value .hint - 16))) below-1 minus-tenths (omega arith)
-    (λ e. pos-ne-negsuc 8 7 (sym e))
+    invents number (λ (x : HintedCall). pos (rounded (x .value .bits) (x .value .hint - 16))) whole-part-0 minus-one refl
+    (λ e. pos-ne-negsuc 1 0 (sym e))

@@ -1,9 +1,7 @@
 -- `tib_decimals::in_decimals` meets its contract.
-use Prim.Native.Nat.{_+_}
 use native.Mathlib.Omega.{arith}
-use mathlib.Core.Path.{_≡_, sym, _∙_}
+use mathlib.Core.Path.{_∙_}
 use lib.Bits.{mask-lt}
-use Rattle.tib_real.specs.Parts.{eight, exponent}
 use Rattle.tib_real.proofs.Masks.{eight-exponent}
 use Rattle.tib_decimals.proofs.Powers.{factors}
 use Rattle.tib_decimals.proofs.InRange.{exponent-below, fraction-is, bits-answer}

@@ -1,8 +1,8 @@
 -- `tib_decimals::size` meets its contract.
-use Prim.Native.Nat.{ℕ, _+_, _*_, _-_, _%_, _^_, _<_}
+use Prim.Native.Nat.{ℕ, _+_, _-_, _^_, _<_}
 use native.Mathlib.Omega.{arith}
-use mathlib.Core.Path.{_≡_, sym, ap, _∙_}
-use Rattle.tib_decimals.specs.internal.Sizes.{capped, sizeOf}
+use mathlib.Core.Path.{_∙_}
+use Rattle.tib_decimals.specs.internal.Sizes.{sizeOf}
 use Rattle.tib_decimals.proofs.Capped.{not-capped, is-capped}
 use Rattle.tib_decimals.proofs.Exponents.{far-up, far-down, shifted, shifted-below, between, small-below, low-product-below, high-below, low-below, parts-product}
 use borrow.Author.Needs.{needs}

@@ -1,6 +1,6 @@
 -- `tib_decimals::with_sign` meets its contract.
 use native.Mathlib.Omega.{arith}
-use mathlib.Core.Path.{_≡_, _∙_, sym}
+use mathlib.Core.Path.{_≡_}
 use mir.Syntax.{w64}
 use mir.ValLaws.{toZ-pos}
 use Rattle.octets_read.proofs.Signs.{minus-fits, minus-is}

@@ -19,7 +19,7 @@ pub fn exponent_calls(number: u64) -> Vec<Call> {
     fractions.iter().flat_map(|fraction| both_signs(exponent << 52 | fraction, k)).collect()
 }
 
-/// So many ties, those nearest to 0, for each k.
+/// 512 ties for each k, those nearest to 0.
 pub const TIES: u64 = 512 * MOST_K;
 
 pub fn tie_calls(number: u64) -> Vec<Call> {
@@ -46,7 +46,7 @@ pub fn almost_tie_calls(number: u64) -> Vec<Call> {
     ALMOST_TIES[number as usize].iter().flat_map(|bits| with_neighbours(*bits, 1 + number)).collect()
 }
 
-/// So many reals on each side of an end. The ends are 2^63 and 2^64, each over 10^k.
+/// The number of reals on each side of an end. The ends are 2^63 and 2^64, each over 10^k.
 const STEPS: u64 = 400;
 const BOTH_SIDES: u64 = 2 * STEPS + 1;
 pub const ENDS: u64 = 2 * BOTH_SIDES * MOST_K;
