@@ -9,8 +9,8 @@ use Rattle.tib_decimals.proofs.Nearest.{next, Split, below, just, above
 by-quotient : (n q r d : ℕ) → r < d → n ≡ q * d + r → n / d ≡ q
 by-quotient n q r d h e = rw e (digits-div q h)
 
--- Almost a half is added, and the last bit of the whole part: so the sum reaches the next whole number just where the rest is above a half,
--- or is a half and the whole part odd.
+-- One less than a half is added, and the last bit of the whole part. So the sum reaches the next whole number exactly where the rest is above a
+-- half, or is a half and the whole part odd.
 module _ (h : ℕ) (p : 0 < h) where
   at-tie : (q t : ℕ) → q % 2 ≡ t → t < 2 → (q * (2 * h) + h + (h - 1) + t) / (2 * h) ≡ q + t
   at-tie q zero e l = by-quotient (q * (2 * h) + h + (h - 1) + 0) (q + 0) (h + (h - 1)) (2 * h) (omega arith) (omega arith)

@@ -1,4 +1,4 @@
--- Samples of reals in decimals: those of document 02 and its readings, ties, and what lies at the limits.
+-- Samples of reals in decimals: that of document 02, ties, reals next to a tie, and what lies at the limits.
 use Prim.Native.Nat.{ℕ, _+_, _^_}
 use mathlib.Core.Bool.{true}
 use mathlib.Core.List.{List, [], _∷_, _++_}
