@@ -4,10 +4,6 @@ ghost use Rattle.std.specs.Prelude.{◌≡◌, ◌+◌, ◌≤◌, leb, length a
 ghost use Rattle.octets_store.specs.Store.{stored};
 ghost use Rattle.octets_store.specs.internal.Moved.{moved};
 
-// The most octets of a block. Longer blocks are faster. With this length the stack of an entry stays within its bound even if the compiler keeps
-// the array in the frame of `put_block` or `move_block`.
-const BLOCK: usize = 3456;
-
 // Returns whether n octets at offset `at` lie within `len`. The sum could overflow, so n is compared with the difference.
 pub fn has_room(len: usize, at: usize, n: usize) -> bool
     ensures { result ≡ leb (at + n) len }
@@ -31,33 +27,33 @@ fn copy(out: &mut [u8], at: usize, s: &[u8], n: usize)
     }
 }
 
-// Stores a block. An array between the two buffers lets the compiler see that they do not overlap: it turns the two copies into one call of
-// memmove and drops the array.
+// Stores a block of at most 8,192 octets. An array between the two buffers lets the compiler see that they do not overlap: it turns
+// the two copies into one call of memmove and drops the array. A longer array would take the prover longer.
 fn put_block(out: &mut [u8], at: usize, s: &[u8])
     requires s_in_bounds { at + length-of s.now ≤ length-of out.old }
-    requires s_bound { length-of s.now ≤ 3456 }
+    requires s_bound { length-of s.now ≤ 8192 }
     ensures { out.new ≡ stored out.old at s.now }
 {
     let n = s.len();
-    let mut kept = [0u8; BLOCK];
+    let mut kept = [0u8; 8192];
     copy(&mut kept, 0, s, n);
     copy(out, at, &kept, n);
 }
 
-// Stores octets at offset `at`. Octets that are one block need no loop. More are stored block by block, the last block first as in `move_up`;
-// the first `remaining` octets are still to be stored.
+// Stores octets at offset `at`. Up to 8,192 are one block and need no loop. More are stored block by block, the last block first as in
+// `move_up`; the first `remaining` octets are still to be stored.
 pub fn put_octets(out: &mut [u8], at: usize, s: &[u8])
     ensures { out.new ≡ stored out.old at s.now }
 {
     let n = s.len();
     if has_room(out.len(), at, n) {
-        if n <= BLOCK {
+        if n <= 8192 {
             put_block(out, at, s);
             return;
         }
         let mut remaining = n;
         while 0 < remaining {
-            let k = numbers::smaller(remaining, BLOCK);
+            let k = numbers::smaller(remaining, 8192);
             remaining -= k;
             put_block(out, at + remaining, &s[remaining..remaining + k]);
         }
@@ -67,10 +63,10 @@ pub fn put_octets(out: &mut [u8], at: usize, s: &[u8])
 // Copies a block of the buffer `by` octets towards its end, through an array as in `put_block`.
 fn move_block(out: &mut [u8], at: usize, n: usize, by: usize)
     requires by_in_bounds { at + n + by ≤ length-of out.old }
-    requires n_bound { n ≤ 3456 }
+    requires n_bound { n ≤ 8192 }
     ensures { out.new ≡ moved out.old at n by }
 {
-    let mut kept = [0u8; BLOCK];
+    let mut kept = [0u8; 8192];
     copy(&mut kept, 0, &out[at..at + n], n);
     copy(out, at + by, &kept, n);
 }
@@ -84,7 +80,7 @@ pub fn move_up(out: &mut [u8], at: usize, n: usize, by: usize)
         if has_room(out.len(), at + n, by) {
             let mut remaining = n;
             while 0 < remaining {
-                let k = numbers::smaller(remaining, BLOCK);
+                let k = numbers::smaller(remaining, 8192);
                 remaining -= k;
                 move_block(out, at + remaining, k, by);
             }

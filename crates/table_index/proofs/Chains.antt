@@ -1,5 +1,12 @@
 -- Laws of searching a chain cell by cell.
-use Rattle.std.proofs.Common.{◌≡◌, ℕ, zero, suc, ◌+◌, ◌*◌, ◌/◌, ◌%◌, ◌<◌, ◌≤◌, min, Bool, true, false, cond, eqb, ltb, List, get_or, sym, refl, ap, ◌∙◌, arith, ltb-false, ltb-true, le-ltb, lt-ltb, eq-eqb, ne_eqb}
+use Prim.Native.Nat.{ℕ, zero, suc, ◌+◌, ◌*◌, ◌/◌, ◌%◌, ◌≤◌, ◌<◌, min}
+use native.Mathlib.Omega.{arith}
+use mathlib.Core.Path.{◌≡◌, refl, sym, ap, ◌∙◌}
+use mathlib.Core.Bool.{Bool, true, false, cond}
+use mathlib.Core.List.{List}
+use lib.ListN.{get_or}
+use lib.Dec.{eqb, ltb}
+use borrow.Author.Tests.{ltb-true, ltb-false, lt-ltb, le-ltb, eq-eqb, ne_eqb}
 use Rattle.table_index.specs.internal.Cells.{bucket_of, next_in, chase, search}
 
 -- There are 64 buckets.
@@ -56,22 +63,6 @@ module _ (cells : List ℕ) (key : ℕ) where
       go : (t : Bool) → ltb (next c % 64) (c % 64) ≡ t → chase 64 cells key c ≡ chase 64 cells key (cond t (next c) 0)
       go true e = rw (chase_on 63 c d (ltb-true (next c % 64) (c % 64) e)) (chase_more 63 (next c) (omega (arith, ltb-true (next c % 64) (c % 64) e)))
       go false e = chase_ends 63 c d (ltb-false (next c % 64) (c % 64) e) ∙ sym (chase_zero 64)
-
-  -- The same for a next cell that was read: it ends the chain, or the chain goes on with it.
-  module _ (c : ℕ) {n : ℕ} (other : c / 4096 ≡ key → ⊥) (e : n ≡ next c) where
-    pub chase_last : c % 64 ≤ n % 64 → 0 ≡ chase 64 cells key c
-    chase_last h = sym (chase_ends 63 c other (rw (← e) h))
-
-    pub chase_step : n % 64 < c % 64 → chase 64 cells key c ≡ chase 64 cells key n
-    chase_step h = rw e (chase_on 63 c other (rw (← e) h) ∙ chase_more 63 (next c) (omega (arith, e)))
-
-    -- The cell 0 ends it, whatever its order.
-    pub chase_none : n ≡ 0 → 0 ≡ chase 64 cells key c
-    chase_none z = go (ltb (n % 64) (c % 64)) refl
-      where
-        go : (t : Bool) → ltb (n % 64) (c % 64) ≡ t → 0 ≡ chase 64 cells key c
-        go true l = sym (chase_step (ltb-true (n % 64) (c % 64) l) ∙ rw z (chase_zero 64))
-        go false l = chase_last (ltb-false (n % 64) (c % 64) l)
 
 -- A search follows the chain that begins with the head of the key's bucket,
 pub search_from : (cells : List ℕ) (key : ℕ) {first : ℕ} → first ≡ get_or cells (bucket_of key) 0 → search cells key ≡ chase 64 cells key first

@@ -1,8 +1,14 @@
 -- After inserting words, a search finds the cell of the last word with the key.
-use Rattle.std.proofs.Common.{◌≡◌, ℕ, zero, suc, ◌+◌, ◌/◌, ◌%◌, ◌<◌, ◌≤◌, Bool, true, false, cond, eqb, ltb, List, length, get_or, set, replicate, sym, refl, ap, ◌∙◌, subst, arith, length-set, get_or-set_other, get_or-set_same, ltb-false, ltb-true, eqb-true}
-use lib.ListN.{length-replicate, get_or-replicate}
-use borrow.Author.Tests.{eqb-false}
-use Rattle.table_index.specs.internal.Cells.{word_key, bucket_of, cell_of, chase, search, insertable, linked_with, linked, inserted, inserted_before}
+use Prim.Native.Nat.{ℕ, zero, suc, ◌+◌, ◌/◌, ◌%◌, ◌≤◌, ◌<◌}
+use native.Mathlib.Omega.{arith}
+use mathlib.Core.Path.{◌≡◌, refl, sym, ap, subst, ◌∙◌}
+use mathlib.Core.Bool.{Bool, true, false, cond}
+use mathlib.Core.List.{List}
+use lib.ListN.{length, get_or, set, replicate, length-set, length-replicate, get_or-replicate}
+use lib.Seq.{get_or-set_same, get_or-set_other}
+use lib.Dec.{eqb, ltb}
+use borrow.Author.Tests.{eqb-true, eqb-false, ltb-true, ltb-false}
+use Rattle.table_index.specs.internal.Cells.{word_key, bucket_of, cell_of, chase, search, insertable, linked, inserted, inserted_before}
 use Rattle.table_index.proofs.Chains.{bucket_low, chase_zero, chase_here, chase_ends, chase_on, chase_more, search_empty}
 use Rattle.table_index.proofs.Words.{Small, cell_key, cell_order}
 
@@ -142,7 +148,7 @@ module _ (word : ℕ → ℕ) where
       }
 
   searches_more : (k : ℕ) (cells : List ℕ) → k < 64 → Small (word k) → insertable (word k) cells ≡ true → Searches word k cells → Searches word (suc k) (inserted (word k) k cells)
-  unfolding inserted linked linked_with cell_of last_cell
+  unfolding inserted linked last_cell
   searches_more k cells few s new st =
       subst (λ (t : Bool). Searches word (suc k) (cond t (With (word k) k s few cells st.long st.low) cells)) (sym new)
       record {

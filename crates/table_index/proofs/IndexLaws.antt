@@ -1,8 +1,14 @@
 -- What an index built in cleared cells tells of its table: the loader's result and the table's schema.
-use Rattle.std.proofs.Common.{◌≡◌, ℕ, zero, suc, ◌<◌, ◌≤◌, min, Bool, true, false, not, ◌&&◌, ◌||◌, eqb, ltb, leb, List, [], ◌∷◌, map, length, get_or, take, drop, replicate, sym, refl, ap, ◌∙◌, true≢false, add-one, arith, length-take, ltb-false, ltb-true, eq-eqb, ne_eqb, eqb-true, le-leb, leb-true}
-use mathlib.Core.Bool.{and-false, false≢true}
+use Prim.Native.Nat.{ℕ, zero, suc, ◌≤◌, ◌<◌, min}
+use native.Mathlib.Numerals.{add-one}
+use native.Mathlib.Omega.{arith}
+use mathlib.Core.Path.{◌≡◌, refl, sym, ap, ◌∙◌}
+use mathlib.Core.Bool.{Bool, true, false, not, ◌&&◌, ◌||◌, and-false, true≢false, false≢true}
+use mathlib.Core.List.{List, [], ◌∷◌, map}
+use lib.ListN.{length, take, drop, get_or, replicate, length-take}
 use lib.Seq.{take-length}
-use borrow.Author.Tests.{eqb-false}
+use lib.Dec.{eqb, leb, ltb}
+use borrow.Author.Tests.{eqb-true, eqb-false, eq-eqb, ne_eqb, leb-true, le-leb, ltb-true, ltb-false}
 use Rattle.table.specs.Entry.{entry, entries}
 use Rattle.table.specs.Load.{in_range, place_at, record_at, word_at, well_formed, words_before, pair, seen, faulty, accepted, refused, load}
 use Rattle.table.specs.Mask.{order}
@@ -12,9 +18,8 @@ use Rattle.table.specs.Valid.{all_in_range, all_zero, valid}
 use Rattle.table.specs.declared.Table.{Table}
 use Rattle.octets.proofs.Bools.{and_both}
 use Rattle.table.proofs.Lists.{take_more}
-use Rattle.table.proofs.Load.{length_words, words_at, load_whole, load_fault, faulty_form, faulty_seen, faulty_late, well_formed_range}
+use Rattle.table.proofs.Load.{load_whole, load_fault, faulty_form, faulty_seen, faulty_late, well_formed_range}
 use Rattle.table.proofs.Orders.{order_at}
-use Rattle.table.proofs.Records.{loaded_entries}
 use Rattle.table.proofs.Repeat.{seen_at}
 use Rattle.table.proofs.Schemas.{words_schema}
 use Rattle.table.proofs.Valid.{range_at, parts}
@@ -82,20 +87,6 @@ module _ (revision : ℕ) (s : List ℕ) (n : ℕ)
     octets_schema h =
         rw (filled, octets_accepted h, words_schema revision (words_before s n), ← schema_under revision (words_before s n), ← words_are)
         (prefix_schema good record_under range 64 (omega arith) n count)
-
-    -- The cell of an entry has the order of the entry.
-    pub octets_order : length s ≤ place_at s n → (number tag : ℕ) → (cell_for cells number tag ≡ 0 → ⊥)
-        → order_in (cell_for cells number tag) ≡ order (entries (load s).table) number tag
-    unfolding accepted
-    octets_order h number tag d =
-        let c = cell_for (inserted_before record_under (replicate 128 0) n) number tag in
-        let o = prefix_order good record_under range 64 (omega arith) n count number tag (rw filled at d) in
-        let k : order_in c < n = o.0 in
-        let w = words_at s (order_in c) n k in
-        let l = length_words s n in
-        rw (filled, octets_accepted h, loaded_entries (words_before s n))
-        (sym (order_at (words_before s n) (order_in c) number tag no_repeat (omega arith)
-        (ap (λ (x : ℕ). eqb (entry x).number number && eqb (entry x).tag tag) w ∙ sym (for_under revision (word_at s (order_in c)) number tag) ∙ o.1)))
 
     pub octets_one_order : OneOrder cells
     octets_one_order = rw filled (prefix_one_order good record_under range 64 (omega arith) n count)

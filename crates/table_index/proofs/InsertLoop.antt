@@ -1,14 +1,21 @@
 -- The loop invariant of inserting words one by one.
-use Rattle.std.proofs.Common.{◌≡◌, ℕ, suc, ◌+◌, ◌-◌, ◌*◌, ◌/◌, ◌^◌, ◌<◌, ◌≤◌, min, Bool, true, false, cond, eqb, List, length, get_or, drop, sym, refl, ap, ◌∙◌, subst, add-one, arith, eq-eqb, ne_eqb}
-use mathlib.Core.Bool.{and-false}
+use Prim.Native.Nat.{ℕ, suc, ◌+◌, ◌*◌, ◌-◌, ◌/◌, ◌^◌, ◌≤◌, ◌<◌, min}
+use native.Mathlib.Numerals.{add-one}
+use native.Mathlib.Omega.{arith}
+use mathlib.Core.Path.{◌≡◌, refl, sym, ap, ◌∙◌, subst}
+use mathlib.Core.Bool.{Bool, true, false, cond, and-false}
+use mathlib.Core.List.{List}
+use lib.ListN.{length, drop, get_or}
+use lib.Dec.{eqb}
+use borrow.Author.Tests.{eq-eqb, ne_eqb}
 use Rattle.table.specs.Entry.{entry}
 use Rattle.table.specs.Load.{in_range, place_at, record_at, word_at, well_formed}
 use Rattle.table_index.specs.internal.Pass.{InsertLoop, InsertedRecords, IndexEnds}
 use Rattle.table_index.specs.internal.Record.{record_of, Unmarked}
 use Rattle.table_index.specs.declared.record.Record.TheVariants.{Word, Wrong}
-use Rattle.table_index.proofs.RecordLaws.{wrong_short, record_wrong, record_formed, record_word, record_next, record_within}
+use Rattle.table_index.proofs.RecordLaws.{record_wrong, record_formed, record_word, record_next, record_within}
 use Rattle.table_index.proofs.Chains.{chase_zero, chase_here}
-use Rattle.table_index.specs.internal.Cells.{word_key, word_code, word_under, chase, search, insertable, linked_with, linked, inserted_with, inserted, inserted_before, insertable_at, prefix_end, prefix_length, inserted_words}
+use Rattle.table_index.specs.internal.Cells.{word_key, word_under, chase, search, insertable, linked, inserted, inserted_before, insertable_at, prefix_end, prefix_length, inserted_words}
 
 -- ---- one word
 
@@ -28,17 +35,6 @@ module _ (w i : ℕ) (cells : List ℕ) {key : ℕ} {lacked : Bool} (known : key
   insert_new e f =
       let z : insertable w cells ≡ true = insertable_is ∙ e in
       (sym z, rw z f)
-
--- A word is linked and inserted by its key and its code.
-module _ (w i : ℕ) (cells : List ℕ) {key code : ℕ} (known : key ≡ word_key w) (coded : code ≡ word_code w) where
-  pub linked_with_lem : linked_with key code i cells ≡ linked w i cells
-  unfolding linked
-  linked_with_lem = rw (known, coded) refl
-
-  pub insert_with : {after : List ℕ} {result : Bool} → result ≡ eqb (search cells key) 0 → after ≡ inserted_with key code i cells
-      → (result ≡ insertable w cells) × (after ≡ inserted w i cells)
-  unfolding insertable inserted inserted_with linked
-  insert_with e f = (e ∙ rw known refl, f ∙ rw (known, coded) refl)
 
 -- Whether a word is insertable, by the last cell of its chain that was compared.
 module _ (w i : ℕ) (cells : List ℕ) {key : ℕ} (known : key ≡ word_key w) (c : ℕ) (remaining : search cells key ≡ chase 64 cells key c) where
@@ -213,8 +209,3 @@ module _ (revision : ℕ) (s cells₀ : List ℕ) where
         unmarked_continue next place h =
             subst (λ (z : ℕ). InsertedRecords revision s cells₀ (n + 1) z after) (ap (λ (z : ℕ). at + z) plain.short ∙ sym place)
             (octets_continue e unmarked_under tested stored h)
-
--- Octets that are empty have no record.
-pub ends_empty : (revision : ℕ) (s cells : List ℕ) → length s ≡ 0 → IndexEnds revision s cells 0 cells
-ends_empty revision s cells e =
-    octets_bad revision s cells 0 0 cells (octets_start revision s cells) (omega arith) (wrong_short s 0 (omega arith) (omega arith))

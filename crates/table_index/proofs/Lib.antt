@@ -3,7 +3,6 @@ pub mod RecordLaws
 pub mod Chains
 pub mod Meanings
 pub mod Words
-pub mod UnmarkedLaws
 pub mod Zeros
 pub mod InsertLoop
 pub mod Found

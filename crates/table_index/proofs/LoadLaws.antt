@@ -1,6 +1,13 @@
 -- The loop invariant of `records`, and the result of `load` by the first repeated pair or the end of the records.
-use Rattle.std.proofs.Common.{◌≡◌, ℕ, suc, ◌+◌, ◌-◌, ◌<◌, ◌≤◌, true, List, ◌++◌, length, get_or, take, drop, set, replicate, sym, refl, ap, ◌∙◌, add-one, arith, take_at, below_more}
-use lib.Seq.{set_at, append_snoc}
+use Prim.Native.Nat.{ℕ, suc, ◌+◌, ◌-◌, ◌≤◌, ◌<◌}
+use native.Mathlib.Numerals.{add-one}
+use native.Mathlib.Omega.{arith}
+use mathlib.Core.Path.{◌≡◌, refl, sym, ap, ◌∙◌}
+use mathlib.Core.Bool.{true}
+use mathlib.Core.List.{List, ◌++◌}
+use lib.ListN.{length, take, drop, get_or, set, replicate}
+use lib.Seq.{set_at, take_at, append_snoc}
+use borrow.Author.Count.{below_more}
 use Rattle.table.specs.Entry.{entry}
 use Rattle.table.specs.Load.{in_range, place_at, well_formed, record_at, word_at, words_before, pair, seen, faulty, refused, accepted, table_of, load}
 use Rattle.table.specs.Repeat.{distinct}

@@ -1,6 +1,10 @@
 -- The entry in a word is in range exactly if the function's comparisons say so.
-use Rattle.std.proofs.Common.{◌≡◌, ℕ, ◌/◌, ◌%◌, ◌<◌, ◌≤◌, Bool, true, false, cond, ◌&&◌, eqb, ltb, leb, sym, refl, arith, le-ltb, lt-ltb, ne_eqb, le-leb, leb-false, leb-true}
-use mathlib.Core.Bool.{and-true, and-false}
+use Prim.Native.Nat.{ℕ, ◌/◌, ◌%◌, ◌≤◌, ◌<◌}
+use native.Mathlib.Omega.{arith}
+use mathlib.Core.Path.{◌≡◌, refl, sym}
+use mathlib.Core.Bool.{Bool, true, false, cond, ◌&&◌, and-true, and-false}
+use lib.Dec.{eqb, leb, ltb}
+use borrow.Author.Tests.{ne_eqb, le-leb, leb-true, leb-false, lt-ltb, le-ltb}
 use Rattle.table.specs.Entry.{entry}
 use Rattle.table.specs.Load.{in_range}
 

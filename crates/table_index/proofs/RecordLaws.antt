@@ -1,7 +1,15 @@
 -- Laws of a record by its octets.
-use Rattle.std.proofs.Common.{◌≡◌, ℕ, suc, ◌+◌, ◌*◌, ◌<◌, ◌≤◌, Bool, true, false, cond, ◌&&◌, ◌||◌, eqb, List, [], ◌∷◌, length, get_or, take, drop, sym, refl, ◌∙◌, add-zero, add-one, arith, length-drop, length-take, length-take-le, get_or-drop, drop-cons, get_or-take, take-take, drop-drop, ne_eqb}
-use mathlib.Core.Bool.{and-false}
-use lib.ListN.{get_or-eq_default}
+use Prim.Native.Nat.{ℕ, suc, ◌+◌, ◌*◌, ◌≤◌, ◌<◌}
+use native.Mathlib.Nat.{add-zero}
+use native.Mathlib.Numerals.{add-one}
+use native.Mathlib.Omega.{arith}
+use mathlib.Core.Path.{◌≡◌, refl, sym, ◌∙◌}
+use mathlib.Core.Bool.{Bool, true, false, cond, ◌&&◌, ◌||◌, and-false}
+use mathlib.Core.List.{List, [], ◌∷◌}
+use lib.ListN.{length, take, drop, get_or, length-take, length-drop, get_or-eq_default}
+use lib.Seq.{drop-cons, drop-drop, take-take, get_or-take, get_or-drop, length-take-le}
+use lib.Dec.{eqb}
+use borrow.Author.Tests.{ne_eqb}
 use Rattle.octets.specs.Number.{big_endian}
 use Rattle.table.specs.Entry.{entry}
 use Rattle.table.specs.Load.{in_range, announced, record_size, place_at, record_at, word_of, word_at, well_formed}

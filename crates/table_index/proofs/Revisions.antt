@@ -1,7 +1,10 @@
 -- Words under a revision: only their marks may change.
-use Rattle.std.proofs.Common.{◌≡◌, ℕ, zero, suc, ◌*◌, ◌/◌, ◌%◌, Bool, true, false, cond, not, ◌&&◌, eqb, ltb, leb, List, [], ◌∷◌, map, sym, refl, ap, ◌∙◌, arith}
-use mathlib.Core.Bool.{and-false}
-use mathlib.Core.List.{map-append}
+use Prim.Native.Nat.{ℕ, zero, suc, ◌*◌, ◌/◌, ◌%◌}
+use native.Mathlib.Omega.{arith}
+use mathlib.Core.Path.{◌≡◌, refl, sym, ap, ◌∙◌}
+use mathlib.Core.Bool.{Bool, true, false, cond, not, ◌&&◌, and-false}
+use mathlib.Core.List.{List, [], ◌∷◌, map, map-append}
+use lib.Dec.{eqb, leb, ltb}
 use borrow.Author.Tests.{not-false}
 use Rattle.table.specs.Entry.{Entry, entry, meaning, find, marked_single}
 use Rattle.table.specs.Load.{in_range, pair, seen}

@@ -1,12 +1,16 @@
 -- The key and the cell of a word whose entry is in range.
-use Rattle.std.proofs.Common.{◌≡◌, ℕ, ◌+◌, ◌-◌, ◌*◌, ◌/◌, ◌%◌, ◌<◌, ◌≤◌, min, Bool, true, false, cond, ◌&&◌, eqb, ltb, leb, refl, arith, ltb-true, eq-eqb, ne_eqb, eqb-true, leb-true}
-use borrow.Author.Tests.{eqb-false}
+use Prim.Native.Nat.{ℕ, ◌+◌, ◌*◌, ◌-◌, ◌/◌, ◌%◌, ◌≤◌, ◌<◌, min}
+use native.Mathlib.Omega.{arith}
+use mathlib.Core.Path.{◌≡◌, refl}
+use mathlib.Core.Bool.{Bool, true, false, cond, ◌&&◌}
+use lib.Dec.{eqb, leb, ltb}
+use borrow.Author.Tests.{eqb-true, eqb-false, eq-eqb, ne_eqb, leb-true, ltb-true}
 use Rattle.table.specs.Entry.{entry, meaning}
 use Rattle.table.specs.Load.{in_range, pair}
 use Rattle.table.specs.declared.Meaning.{Meaning}
 use Rattle.table.specs.declared.Meaning.TheVariants.{Raw, Uint, Int, String, Text, Message}
 use Rattle.octets.proofs.Bools.{and_left, and_right, and_four}
-use Rattle.table_index.specs.internal.Cells.{key_of, word_key, word_code, cell_with, cell_of, code_in, meaning_of, meaning_in, single_in}
+use Rattle.table_index.specs.internal.Cells.{key_of, word_key, cell_of, code_in, meaning_of, meaning_in, single_in}
 
 -- The numbers in a word whose entry is in range.
 pub record Small (w : ℕ) : Type 0 where
@@ -76,21 +80,21 @@ coded_message i =
 
 module _ (w : ℕ) (s : Small w) (i : ℕ) (low : i < 64) where
   pub cell_key : cell_of w i / 4096 ≡ word_key w
-  unfolding cell_of cell_with word_code entry
+  unfolding cell_of entry
   cell_key = omega (arith, s.kinds, s.inner, s.mark)
 
   pub cell_order : cell_of w i % 64 ≡ i
-  unfolding cell_of cell_with
+  unfolding cell_of
   cell_order = omega arith
 
   pub cell_some : cell_of w i ≡ 0 → ⊥
-  unfolding cell_of cell_with word_code entry
+  unfolding cell_of entry
   cell_some e = omega (arith, s.some)
 
   pub cell_means : meaning_in (cell_of w i) ≡ meaning (entry w)
-  unfolding meaning_in code_in meaning cell_of cell_with word_code entry
+  unfolding meaning_in code_in meaning cell_of entry
   cell_means =
-      let c : ((word_key w * 64 + (w % 256 * 32 + (w / 65536 % 256 + w / 256 % 256))) * 64 + i) / 64 % 32 ≡ w / 65536 % 256 + w / 256 % 256 = omega (arith, s.kinds, s.inner) in
+      let c : (((word_key w * 2 + w % 256) * 32 + (w / 65536 % 256 + w / 256 % 256)) * 64 + i) / 64 % 32 ≡ w / 65536 % 256 + w / 256 % 256 = omega (arith, s.kinds, s.inner) in
       rw c (go (eqb (w / 65536 % 256) 5) refl)
     where
       go : (t : Bool) → eqb (w / 65536 % 256) 5 ≡ t → meaning_of (w / 65536 % 256 + w / 256 % 256) ≡ kinded (w / 65536 % 256) (w / 256 % 256)
@@ -101,16 +105,11 @@ module _ (w : ℕ) (s : Small w) (i : ℕ) (low : i < 64) where
           rw z (coded_plain (w / 65536 % 256) (w / 256 % 256) s.some (omega (arith, s.kinds, d)))
 
   pub cell_single : single_in (cell_of w i) ≡ eqb (entry w).mark 1
-  unfolding single_in cell_of cell_with word_code entry
+  unfolding single_in cell_of entry
   cell_single =
-      let c : ((word_key w * 64 + (w % 256 * 32 + (w / 65536 % 256 + w / 256 % 256))) * 64 + i) / 2048 ≡ word_key w * 2 + w % 256 = omega (arith, s.kinds, s.inner) in
+      let c : (((word_key w * 2 + w % 256) * 32 + (w / 65536 % 256 + w / 256 % 256)) * 64 + i) / 2048 ≡ word_key w * 2 + w % 256 = omega (arith, s.kinds, s.inner) in
       let m : (word_key w * 2 + w % 256) % 2 ≡ w % 256 = omega (arith, s.mark) in
       rw (c, m) refl
-
--- The mark, the kind and the inner number of a word fit six bits.
-pub code_low : (w : ℕ) → Small w → word_code w < 64
-unfolding word_code entry
-code_low w s = omega (arith, s.kinds, s.inner, s.mark)
 
 -- ---- the key
 

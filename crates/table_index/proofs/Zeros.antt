@@ -1,8 +1,15 @@
 -- The loop invariant of testing whether words are all 0, by the disjunction of their bits.
-use Rattle.std.proofs.Common.{◌≡◌, ℕ, suc, ◌+◌, ◌<◌, ◌≤◌, Bool, true, false, ◌&&◌, eqb, List, length, get_or, drop, sym, refl, add-one, arith, drop_of_length-le, drop-cons, eq-eqb, ne_eqb, eqb-true}
-use mathlib.Core.Bool.{and-true, and_assoc}
+use Prim.Native.Nat.{ℕ, suc, ◌+◌, ◌≤◌, ◌<◌}
+use native.Mathlib.Numerals.{add-one}
+use native.Mathlib.Omega.{arith}
+use mathlib.Core.Path.{◌≡◌, refl, sym}
+use mathlib.Core.Bool.{Bool, true, false, ◌&&◌, and-true, and_assoc}
+use mathlib.Core.List.{List}
+use lib.ListN.{length, drop, get_or, drop_of_length-le}
+use lib.Seq.{drop-cons}
+use lib.Dec.{eqb}
 use lib.Bits.{bit_and, bit_or, or_add_and, and_le_l, and_le_r}
-use borrow.Author.Tests.{eqb-false}
+use borrow.Author.Tests.{eqb-true, eqb-false, eq-eqb, ne_eqb}
 use Rattle.table.specs.Valid.{all_zero}
 
 -- Two numbers are 0 if the disjunction of their bits is.

@@ -2,14 +2,14 @@
 // A search compares the whole key, so a bucket with several entries is slower but never wrong. The loader finds repeated pairs by an index.
 mod record;
 
-ghost use Rattle.std.specs.Prelude.{◌≡◌, ℕ, ◌*◌, ◌%◌, ◌^◌, ◌<◌, ◌≤◌, min, true, List, length, take, drop, ◌==◌};
+ghost use Rattle.std.specs.Prelude.{◌≡◌, true, List, ℕ, ◌*◌, ◌%◌, ◌^◌, ◌≤◌, ◌<◌, min, eqb, length, take, drop};
 ghost use Rattle.table.specs.Entry.{entry, kind_number};
 ghost use Rattle.table.specs.Load.{in_range, place_at, record_at, word_at, well_formed, load as load_of, refused as refused-at};
 ghost use Rattle.table.specs.Mask.{has_bit, with_bit};
 ghost use Rattle.table.specs.Schema.{is_revision};
 ghost use Rattle.table.specs.Valid.{all_zero, valid as valid-of};
 ghost use Rattle.table_index.specs.internal.Pass.{InsertedRecords, IndexEnds};
-ghost use Rattle.table_index.specs.internal.Cells.{word_key, word_code, bucket_of, cell_with, word_under, code_in, meaning_in, single_in, order_in, next_in, chase, search, linked_with, inserted_with, inserted_before, prefix_end, prefix_length, inserted_words, all_inserted, cell_for, indexed};
+ghost use Rattle.table_index.specs.internal.Cells.{word_key, bucket_of, cell_of, word_under, code_in, meaning_in, single_in, order_in, next_in, chase, search, insertable, linked, inserted, inserted_before, prefix_end, prefix_length, inserted_words, all_inserted, cell_for, indexed};
 
 use record::Record;
 use table::{Loaded, Meaning, Table};
@@ -21,12 +21,12 @@ fn capped(number: u64) -> u64
     if number < 16 { number } else { 16 }
 }
 
-// Returns the bucket of a key. The compiler makes this a multiplication and a shift.
+// Returns the bucket of a key.
 fn bucket(key: u64) -> usize
     requires { key < 2 ^ 21 }
     ensures { result ≡ bucket_of key }
 {
-    (key * 67154944 % 4294967296 / 67108864) as usize
+    ((key / 65536 * 45 + key) % 64) as usize
 }
 
 // Returns the same number with 64 bits.
@@ -47,21 +47,16 @@ fn next(cells: &[u32; 128], c: u64) -> u64
     n
 }
 
-// Returns the cell with a key in the chain that begins with a cell, or 0 if there is none. Most chains end after their first cell, so that is
-// tested before the order.
+// Returns the cell with a key in the chain that begins with a cell, or 0 if there is none.
 fn follow(cells: &[u32; 128], key: u64, first: u64) -> u64
     ensures { result ≡ chase 64 cells.now key first }
 {
     let mut c = first;
     while c >> 12 != key {
-        let after = wide(cells[(64 + c % 64) as usize]);
-        if after == 0 {
+        if c == 0 {
             return 0;
         }
-        if c % 64 <= after % 64 {
-            return 0;
-        }
-        c = after;
+        c = next(cells, c);
     }
     c
 }
@@ -74,28 +69,21 @@ fn word_key(w: u64) -> u64
     w >> 24
 }
 
-// Returns the mark, the kind and the inner number in a word as one number.
-fn word_code(w: u64) -> u64
-    requires { in_range (entry w) ≡ true }
-    ensures { (result ≡ word_code w) × (result < 64) }
-{
-    w % 256 * 32 + ((w >> 16) % 256 + (w >> 8) % 256)
-}
-
-// Returns the cell of a key and a code for the i-th entry of a table.
-fn cell_of(key: u64, code: u64, i: usize) -> u32
-    requires key_bound { key < 2 ^ 20 }
-    requires code_bound { code < 64 }
+// Returns the cell of a word with this key that is the i-th of its table.
+fn cell_of(key: u64, w: u64, i: usize) -> u32
+    requires w_value { in_range (entry w) ≡ true }
+    requires key_value { key ≡ word_key w }
     requires i_bound { i < 64 }
-    ensures { result ≡ cell_with key code i }
+    ensures { result ≡ cell_of w i }
 {
-    ((key * 64 + code) * 64 + (i as u64)) as u32
+    let code = (w >> 16) % 256 + (w >> 8) % 256;
+    (((key * 2 + w % 256) * 32 + code) * 64 + (i as u64)) as u32
 }
 
 // Returns whether no cell has a key. Most buckets are empty while a table is inserted, so that case is tested first.
 fn lacks(cells: &[u32; 128], key: u64) -> bool
     requires { key < 2 ^ 21 }
-    ensures { result ≡ (search cells.now key == 0) }
+    ensures { result ≡ eqb (search cells.now key) 0 }
 {
     let head = wide(cells[bucket(key)]);
     if head == 0 {
@@ -104,31 +92,30 @@ fn lacks(cells: &[u32; 128], key: u64) -> bool
     follow(cells, key, head) == 0
 }
 
-// Makes the cell of a key and a code, for the i-th entry of a table, the head of its bucket.
-fn link(key: u64, code: u64, i: usize, cells: &mut [u32; 128])
-    requires key_bound { key < 2 ^ 20 }
-    requires code_bound { code < 64 }
+// Makes the cell of a word with this key, the i-th of its table, the head of its bucket.
+fn link(key: u64, w: u64, i: usize, cells: &mut [u32; 128])
+    requires w_value { in_range (entry w) ≡ true }
+    requires key_value { key ≡ word_key w }
     requires i_bound { i < 64 }
-    ensures { cells.new ≡ linked_with key code i cells.old }
+    ensures { cells.new ≡ linked w i cells.old }
 {
     let b = bucket(key);
     cells[64 + i] = cells[b];
-    cells[b] = cell_of(key, code, i);
+    cells[b] = cell_of(key, w, i);
 }
 
-// Inserts a key with a code as the i-th entry of a table and returns true. If a cell already has the key, nothing changes and the result is
-// false.
-fn insert(key: u64, code: u64, i: usize, cells: &mut [u32; 128]) -> bool
-    requires key_bound { key < 2 ^ 20 }
-    requires code_bound { code < 64 }
+// Inserts a word as the i-th of its table and returns true. If a cell already has its key, nothing changes and the result is false.
+fn insert(w: u64, i: usize, cells: &mut [u32; 128]) -> bool
+    requires w_value { in_range (entry w) ≡ true }
     requires i_bound { i < 64 }
-    ensures value { result ≡ (search cells.old key == 0) }
-    ensures cells_after { cells.new ≡ inserted_with key code i cells.old }
+    ensures value { result ≡ insertable w cells.old }
+    ensures cells_after { cells.new ≡ inserted w i cells.old }
 {
+    let key = word_key(w);
     if !lacks(cells, key) {
         return false;
     }
-    link(key, code, i, cells);
+    link(key, w, i, cells);
     true
 }
 
@@ -147,15 +134,11 @@ fn index_unmarked(table: &[u8], cells: &mut [u32; 128]) -> usize
     let most = numbers::smaller(64, table.len() / 8);
     let mut n: usize = 0;
     while n < most {
-        let key = record::unmarked_key(table, n * 8);
-        if record::KEYS <= key {
+        let r = record::unmarked_at(table, n * 8);
+        let Record::Word { word, size: _ } = r else {
             return n;
-        }
-        let code = record::unmarked_code(table, n * 8);
-        if code == 0 {
-            return n;
-        }
-        if !insert(key, code, n, cells) {
+        };
+        if !insert(word, n, cells) {
             return n;
         }
         n += 1;
@@ -175,8 +158,7 @@ fn index_from(table: &[u8], first: usize, revision: u64, cells: &mut [u32; 128])
         let Record::Word { word, size } = r else {
             return at;
         };
-        let w = under(revision, word);
-        if !insert(word_key(w), word_code(w), n, cells) {
+        if !insert(under(revision, word), n, cells) {
             return at;
         }
         n += 1;
@@ -185,28 +167,14 @@ fn index_from(table: &[u8], first: usize, revision: u64, cells: &mut [u32; 128])
     at
 }
 
-// Inserts the records up to the first faulty one and returns its place.
-fn index_records(table: &[u8], revision: u64, cells: &mut [u32; 128]) -> usize
-    ensures { IndexEnds revision table.now cells.old result cells.new }
-{
-    let n = index_unmarked(table, cells);
-    index_from(table, n, revision, cells)
-}
-
 // Inserts the records of a table's octets up to the first faulty one, under a revision, and returns the place at which that one begins. If the
-// cells were cleared before, this decides what the loader does: it accepts the table if the octets end there, and else rejects that record. An
-// empty table needs no call: this function is so small that the compiler inlines it, since `index_records` is called from two places and is not.
+// cells were cleared before, this decides what the loader does: it accepts the table if the octets end there, and else rejects that record.
 pub fn index(table: &[u8], revision: u64, cells: &mut [u32; 128]) -> usize
     ensures value { result ≡ place_at table.now (prefix_end (λ i. well_formed (record_at table.now i)) (λ i. word_under revision (word_at table.now i)) cells.old 0 64) }
     ensures cells_after { cells.new ≡ inserted_before (λ i. word_under revision (word_at table.now i)) cells.old (prefix_end (λ i. well_formed (record_at table.now i)) (λ i. word_under revision (word_at table.now i)) cells.old 0 64) }
 {
-    if table.len() == 0 {
-        return 0;
-    }
-    if revision == 2 {
-        return index_records(table, 2, cells);
-    }
-    index_records(table, 1, cells)
+    let n = index_unmarked(table, cells);
+    index_from(table, n, revision, cells)
 }
 
 // Does the same for words, of which it inserts at most 64, and returns how many it inserted. The inner loop runs over the earlier entries in the
@@ -233,7 +201,7 @@ fn insert_words(words: &[u64], revision: u64, cells: &mut [u32; 128]) -> usize
             }
             c = next(cells, c);
         }
-        link(key, word_code(w), n, cells);
+        link(key, w, n, cells);
         n += 1;
     }
 }
@@ -325,8 +293,8 @@ pub fn load(s: &[u8]) -> Loaded
     }
 }
 
-// Returns the cell of a message number and a tag, or 0 if there is none. Most tags have the first cell of their chain, and most of the others
-// an empty bucket, so both are tested before the search.
+// Returns the cell of a message number and a tag, or 0 if there is none. Most tags have the first cell of their chain, so that is tested
+// before the search. The key's number and tag are at hand, so the bucket is computed from them.
 pub fn cell(cells: &[u32; 128], number: u64, tag: u64) -> u64
     ensures { result ≡ cell_for cells.now number tag }
 {
@@ -335,12 +303,9 @@ pub fn cell(cells: &[u32; 128], number: u64, tag: u64) -> u64
     }
     let n = capped(number);
     let key = n * 65536 + tag;
-    let c = wide(cells[bucket(key)]);
+    let c = wide(cells[((n * 45 + tag) % 64) as usize]);
     if c >> 12 == key {
         return c;
-    }
-    if c == 0 {
-        return 0;
     }
     follow(cells, key, c)
 }

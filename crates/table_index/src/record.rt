@@ -1,15 +1,13 @@
 // Reads the records in the octets of a field table.
-ghost use Rattle.std.specs.Prelude.{◌≡◌, ◌+◌, ◌*◌, ◌^◌, ◌<◌, ◌≤◌, length, take, drop, slice_index};
+ghost use Rattle.std.specs.Prelude.{◌≡◌, ℕ, ◌+◌, ◌^◌, ◌≤◌, ◌<◌, length, take, drop, get_or};
 ghost use Rattle.octets.specs.Number.{big_endian};
 ghost use Rattle.table.specs.Entry.{entry};
 ghost use Rattle.table.specs.Load.{in_range, announced as announced-of, record_size, place_at};
 ghost use Rattle.table_index.specs.internal.Pass.{Passed};
-ghost use Rattle.table_index.specs.internal.Record.{record_of, sized_word, FourOctets, turned_four, UnmarkedKey, UnmarkedCode};
+ghost use Rattle.table_index.specs.internal.Record.{record_of, sized_word, Unmarked};
+ghost use Rattle.table_index.specs.declared.record.Record.TheVariants.{Word};
 
 use table::Table;
-
-// The number of keys: a key has a message number below 16 and a tag of 16 bits.
-pub(crate) const KEYS: u64 = 1048576;
 
 // The word of a record and the number of its octets, or `Wrong` for a record that is not well-formed.
 #[derive(Drop)]
@@ -64,7 +62,7 @@ fn sized_word(word: u64, size: usize) -> Record
 // Returns the octet at an offset.
 fn octet_at(s: &[u8], at: usize) -> u64
     requires { at < length s.now }
-    ensures { (result ≡ slice_index s.now at) × (result < 256) }
+    ensures { (result ≡ get_or s.now at 0) × (result < 256) }
 {
     numbers::wide(s[at])
 }
@@ -114,65 +112,22 @@ pub(crate) fn record_at(s: &[u8], at: usize) -> Record
     sized_word(unmarked + octet_at(s, at + 8), 9)
 }
 
-// Returns the number in the first two octets, the least significant octet first, or 0 if there are fewer. The compiler reads such octets at once.
-fn two(s: &[u8]) -> u64
-    ensures { 2 ≤ length s.now → (result ≡ slice_index s.now 0 + slice_index s.now 1 * 256) × (slice_index s.now 0 < 256) }
-{
-    if s.len() < 2 {
-        return 0;
-    }
-    octet_at(s, 0) + octet_at(s, 1) * 256
-}
-
-// Returns the number in the first four octets, the least significant octet first.
-fn four(s: &[u8]) -> u64
-    requires { 4 ≤ length s.now }
-    ensures { FourOctets s.now result }
-{
-    let a = octet_at(s, 0) + octet_at(s, 1) * 256;
-    let b = a + octet_at(s, 2) * 65536;
-    b + octet_at(s, 3) * 16777216
-}
-
-// Returns a number of four octets with its octets in the other order. The compiler makes this one instruction.
-fn turned(x: u64) -> u64
-    requires { x < 2 ^ 32 }
-    ensures { result ≡ turned_four x }
-{
-    x % 256 * 16777216 + x / 256 % 256 * 65536 + x / 65536 % 256 * 256 + x / 16777216
-}
-
-// Returns the key of the record at an offset, if that has the tag 1, the length 5 and a message number in range; else a number that is no key.
-// The octets of length, number and tag are read as one number, so that one comparison tests the length and the number. The subtraction wraps if
-// the length is below 5.
-pub(crate) fn unmarked_key(s: &[u8], at: usize) -> u64
+// Returns the record at an offset, if it is well-formed and has no mark; else `Wrong`. `record_at` does the same for every record, but takes
+// longer.
+pub(crate) fn unmarked_at(s: &[u8], at: usize) -> Record
     requires { at + 8 ≤ length s.now }
-    ensures { result < 2 ^ 20 → UnmarkedKey s.now at result }
+    ensures { (word size : ℕ) → result ≡ Word word size → Unmarked word size × (Word word size ≡ record_of (drop at s.now)) }
 {
-    if two(&s[at..at + 2]) != 1 {
-        return KEYS;
+    if s[at] != 1 {
+        return Record::Wrong;
     }
-    let x = turned(four(&s[at + 2..at + 6]));
-    std::num::wrapping_sub_u64(x, 83886080)
-}
-
-// Returns the sum of the kind and the inner number of the record at an offset, if they are in range; else 0. One comparison tests both where the
-// inner number is 0.
-pub(crate) fn unmarked_code(s: &[u8], at: usize) -> u64
-    requires { at + 8 ≤ length s.now }
-    ensures { 1 ≤ result → UnmarkedCode s.now at result }
-{
-    let k = two(&s[at + 6..at + 8]);
-    if std::num::wrapping_sub_u64(k, 1) < 5 {
-        return k;
+    if s[at + 1] != 0 {
+        return Record::Wrong;
     }
-    if k % 256 != 5 {
-        return 0;
+    if s[at + 2] != 5 {
+        return Record::Wrong;
     }
-    if 4095 < k {
-        return 0;
-    }
-    5 + k / 256
+    sized_word(five(s, at + 3) * 256, 8)
 }
 
 // Returns the records before the first one that is not well-formed, and at most 64.

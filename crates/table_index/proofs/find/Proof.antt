@@ -1,6 +1,7 @@
 -- `find` returns the meaning of the cell.
-use Rattle.std.proofs.Common.{ap, ◌∙◌, rules}
+use mathlib.Core.Path.{ap, ◌∙◌}
 use Rattle.table_index.specs.internal.Cells.{meaning_in, indexed}
+use borrow.Author.Rules.{rules}
 use Rattle.table_index.proofs.find.Statement.{statement}
 use Rattle.table_index.proofs.find.Tie as tie
 

@@ -1,5 +1,6 @@
-use Rattle.std.proofs.Common.{refl, rules}
+use mathlib.Core.Path.{refl}
 use Rattle.table.specs.Mask.{has_bit}
+use borrow.Author.Rules.{rules}
 use Rattle.table_index.proofs.has_bit.Statement.{statement}
 use Rattle.table_index.proofs.has_bit.Tie as tie
 

@@ -1,15 +1,19 @@
 -- `index_from` inserts the records one by one, up to the first faulty one.
-use Rattle.std.proofs.Common.{◌≡◌, ℕ, ◌-◌, ◌*◌, ◌≤◌, true, List, length, drop, sym, ◌∙◌, add-one, arith, rules}
+use Prim.Native.Nat.{ℕ, ◌*◌, ◌-◌, ◌≤◌}
+use native.Mathlib.Omega.{arith}
+use mathlib.Core.Path.{◌≡◌, sym, ◌∙◌}
+use mathlib.Core.List.{List}
+use lib.ListN.{length, drop}
 use borrow.Author.Tests.{not-true, not-false}
-use Rattle.table.specs.Entry.{entry}
-use Rattle.table.specs.Load.{in_range, place_at}
+use Rattle.table.specs.Load.{place_at}
 use Rattle.table_index.specs.internal.Pass.{InsertedRecords}
 use Rattle.table_index.specs.internal.Record.{record_of}
 use Rattle.table_index.specs.declared.record.Record.TheVariants.{Word}
 use Rattle.table_index.proofs.RecordLaws.{record_range, record_next, record_within}
 use Rattle.table_index.proofs.Revisions.{range_under}
-use Rattle.table_index.proofs.Words.{small, key_low}
-use Rattle.table_index.proofs.InsertLoop.{insert_with, octets_end, octets_bad, octets_repeated, octets_continue}
+use Rattle.table_index.proofs.InsertLoop.{octets_end, octets_bad, octets_repeated, octets_continue}
+use native.Mathlib.Numerals.{add-one}
+use borrow.Author.Rules.{rules}
 use Rattle.table_index.proofs.index_from.Statement.{statement}
 use Rattle.table_index.proofs.index_from.Tie as tie
 
@@ -51,58 +55,48 @@ returns c =
 under-requires : tie.Need-under-requires invariant-loop decreases-loop
 under-requires c κs = tt
 
--- The record that was read.
-module _ (c : tie.After-under invariant-loop decreases-loop) where
-  abbrev at-loop : tie.At-loop invariant-loop decreases-loop
-  at-loop = c.before.before.before.before.before.before
-
-  abbrev start : tie.Start invariant-loop decreases-loop
-  start = at-loop.before.before
-
-  abbrev read_word : ℕ
-  read_word = c.before.before.r.given.0.0
-
-  abbrev read-size : ℕ
-  read-size = c.before.before.r.given.0.1.0
-
-  read_is : Word read_word read-size ≡ record_of (drop at-loop.loop.at start.args.table.now)
-  read_is = sym c.before.before.r.given.1 ∙ c.before.before.before.before.record-at.ensures
-
-  -- Its word under the revision is in range.
-  range : in_range (entry c.under.result) ≡ true
-  range =
-      rw c.under.ensures
-      (range_under start.args.revision read_word (record_range start.args.table.now at-loop.loop.n at-loop.loop.at at-loop.loop.inv.place read_word read-size read_is))
-
-word-key-requires : tie.Need-word-key-requires invariant-loop decreases-loop
-word-key-requires c κs = range c
-
-word-code-requires : tie.Need-word-code-requires invariant-loop decreases-loop
-word-code-requires c κs = range c.before
-
 insert-requires : tie.Need-insert-requires invariant-loop decreases-loop
 insert-requires c κs =
-    let d = c.before.before.before in
-    let w = d.under.result in
-    (omega (arith, c.before.before.word-key.ensures, key_low w (small w (range d))), (c.before.word-code.ensures.1, omega arith))
+    let a = c.before.before.before.before.before.before.before.before.before.args in
+    let l = c.before.before.before.before.before.before.before.loop in
+    let r = c.before.before.before.r.given in
+    let w = r.0.0 in
+    let range = record_range a.table.now l.n l.at l.invariant.place w r.0.1.0 (sym r.1 ∙ c.before.before.before.before.before.record-at.ensures) in
+    (rw c.before.under.ensures (range_under a.revision w range), omega arith)
+
+-- The record that was read, and what inserting its word gave.
+module _ (c : tie.After-insert invariant-loop decreases-loop) where
+  abbrev start : tie.Start invariant-loop decreases-loop
+  start = c.before.before.before.before.before.before.before.before.before.before
+
+  abbrev at-loop : tie.At-loop invariant-loop decreases-loop
+  at-loop = c.before.before.before.before.before.before.before.before
+
+  abbrev read_word : ℕ
+  read_word = c.before.before.before.before.r.given.0.0
+
+  abbrev read-size : ℕ
+  read-size = c.before.before.before.before.r.given.0.1.0
+
+  read_is : Word read_word read-size ≡ record_of (drop at-loop.loop.at start.args.table.now)
+  read_is = sym c.before.before.before.before.r.given.1 ∙ c.before.before.before.before.before.before.record-at.ensures
 
 returns-2 : tie.Need-returns-2 invariant-loop decreases-loop
 returns-2 c =
-    let i = c.before in
-    let d = i.before.before.before.before in
+    let d = c.before in
     let a = (start d).args in
     let l = (at-loop d).loop in
-    let k = insert_with d.under.result l.n l.cells i.before.before.before.word-key.ensures i.before.before.word-code.ensures.0 i.insert.ensures.0 i.insert.ensures.1 in
+    let k = d.insert in
     λ zeros p.
-    octets_repeated a.revision a.table.now zeros l.n l.at l.cells (l.inv.inserted zeros p) (omega arith) (read_is d) d.under.ensures k.0
-    k.1 (not-true i.insert.result c.if1.true)
+    octets_repeated a.revision a.table.now zeros l.n l.at l.cells (l.inv.inserted zeros p) (omega arith) (read_is d) d.before.before.under.ensures k.ensures.0
+    k.ensures.1 (not-true k.result c.if1.true)
 
 add-n : tie.Need-overflow-add-n invariant-loop decreases-loop
 add-n c = omega arith
 
 add_at : tie.Need-overflow-add-at invariant-loop decreases-loop
 add_at c =
-    let d = c.before.before.before.before.before in
+    let d = c.before in
     let l = (at-loop d).loop in
     omega (arith, record_within (start d).args.table.now l.n l.at l.inv.place (read_word d) (read-size d) (read_is d))
 
@@ -111,15 +105,14 @@ loop-less c = omega arith
 
 loop-again : tie.Need-loop-preserved invariant-loop decreases-loop
 loop-again c =
-    let i = c.before in
-    let d = i.before.before.before.before in
+    let d = c.before in
     let a = (start d).args in
     let l = (at-loop d).loop in
-    let k = insert_with d.under.result l.n l.cells i.before.before.before.word-key.ensures i.before.before.word-code.ensures.0 i.insert.ensures.0 i.insert.ensures.1 in
+    let k = d.insert in
     record {
       inserted = λ zeros p.
-          octets_continue a.revision a.table.now zeros l.n l.at l.cells (l.inv.inserted zeros p) (omega arith) (read_is d) d.under.ensures k.0
-          k.1 (not-false i.insert.result c.if1.false);
+          octets_continue a.revision a.table.now zeros l.n l.at l.cells (l.inv.inserted zeros p) (omega arith) (read_is d) d.before.before.under.ensures k.ensures.0
+          k.ensures.1 (not-false k.result c.if1.false);
       place = rw (add-one l.n) (record_next a.table.now l.n l.at l.inv.place (read_word d) (read-size d) (read_is d));
       within = record_within a.table.now l.n l.at l.inv.place (read_word d) (read-size d) (read_is d);
     }
@@ -143,8 +136,6 @@ index-from-spec =
     enum_told
     returns
     under-requires
-    word-key-requires
-    word-code-requires
     insert-requires
     returns-2
     add-n

@@ -1,6 +1,8 @@
 -- `index_table` returns what its definition says: fewer words than the count are inserted, or the unused ones decide.
-use Rattle.std.proofs.Common.{◌≡◌, length, rules}
+use mathlib.Core.Path.{◌≡◌}
+use lib.ListN.{length}
 use Rattle.table_index.proofs.IndexLaws.{table_incomplete, table_rest}
+use borrow.Author.Rules.{rules}
 use Rattle.table_index.proofs.index_table.Statement.{statement}
 use Rattle.table_index.proofs.index_table.Tie as tie
 

@@ -1,11 +1,17 @@
 -- `index_unmarked` inserts records of eight octets one by one. It stops at the first one that is faulty or has a mark.
-use Rattle.std.proofs.Common.{◌≡◌, ℕ, ◌+◌, ◌-◌, ◌*◌, ◌^◌, ◌<◌, ◌≤◌, Bool, eqb, List, length, arith, rules}
+use Prim.Native.Nat.{ℕ, ◌+◌, ◌*◌, ◌-◌, ◌/◌, ◌≤◌, min}
+use native.Mathlib.Omega.{arith}
+use mathlib.Core.Path.{◌≡◌}
+use mathlib.Core.List.{List}
+use lib.ListN.{length, drop}
 use borrow.Author.Tests.{not-true, not-false}
-use Rattle.table_index.specs.internal.Cells.{search as searched, insertable, inserted_with, inserted}
+use Rattle.table.specs.Entry.{entry}
 use Rattle.table_index.specs.internal.Pass.{InsertedRecords}
-use Rattle.table_index.specs.internal.Record.{UnmarkedKey, UnmarkedCode}
-use Rattle.table_index.proofs.UnmarkedLaws.{unmarked_word, unmarked_key_is, unmarked_code_is, unmarked_code_low, unmarked_plain, unmarked_record}
-use Rattle.table_index.proofs.InsertLoop.{insert_with, octets_start, unmarked_stays, unmarked_continue}
+use Rattle.table_index.specs.internal.Record.{record_of, Unmarked}
+use Rattle.table_index.specs.declared.record.Record.TheVariants.{Word}
+use Rattle.table_index.proofs.RecordLaws.{record_range}
+use Rattle.table_index.proofs.InsertLoop.{octets_start, unmarked_stays, unmarked_continue}
+use borrow.Author.Rules.{rules}
 use Rattle.table_index.proofs.index_unmarked.Statement.{statement}
 use Rattle.table_index.proofs.index_unmarked.Tie as tie
 
@@ -25,100 +31,79 @@ loop-holds c = let a = c.before.before.args in λ revision. octets_start revisio
 inside : (c : tie.In-loop invariant-loop decreases-loop) → let a = c.before.before.before.before.args in c.before.loop.n * 8 + 8 ≤ length a.table.now
 inside c = let h = c.loop-test.true in let m = c.before.before.smaller.ensures in omega (arith, m)
 
-mul-unmarked-key : tie.Need-overflow-mul-unmarked-key invariant-loop decreases-loop
-mul-unmarked-key c = let h = inside c in omega arith
+mul-unmarked-at : tie.Need-overflow-mul-unmarked-at invariant-loop decreases-loop
+mul-unmarked-at c = let h = inside c in omega arith
 
-unmarked-key-requires : tie.Need-unmarked-key-requires invariant-loop decreases-loop
-unmarked-key-requires c κs = inside c
+unmarked-at-requires : tie.Need-unmarked-at-requires invariant-loop decreases-loop
+unmarked-at-requires c κs = inside c
+
+enum-known-r : tie.Need-enum-known-r invariant-loop decreases-loop
+enum-known-r c = search rules
+
+enum_told : tie.Need-enum-told invariant-loop decreases-loop
+enum_told c = search rules
 
 returns : tie.Need-returns invariant-loop decreases-loop
-returns c = λ revision. c.before.before.before.loop.invariant revision
-
-mul-unmarked-code : tie.Need-overflow-mul-unmarked-code invariant-loop decreases-loop
-mul-unmarked-code c = let h = inside c.before.before in omega arith
-
-unmarked-code-requires : tie.Need-unmarked-code-requires invariant-loop decreases-loop
-unmarked-code-requires c κs = inside c.before.before
-
-returns-2 : tie.Need-returns-2 invariant-loop decreases-loop
-returns-2 c = λ revision. c.before.before.before.before.before.loop.invariant revision
+returns c = λ revision. c.before.before.before.before.loop.invariant revision
 
 -- The record that was read.
-module _ (c : tie.Else2 invariant-loop decreases-loop) where
-  abbrev in-loop : tie.In-loop invariant-loop decreases-loop
-  in-loop = c.before.before.before.before
-
+module _ (c : tie.After-known-told invariant-loop decreases-loop) where
   abbrev at-loop : tie.At-loop invariant-loop decreases-loop
-  at-loop = in-loop.before
+  at-loop = c.before.before.before.before.before
 
   abbrev start : tie.Start invariant-loop decreases-loop
   start = at-loop.before.before.before
 
-  abbrev table : List ℕ
-  table = start.args.table.now
+  abbrev read_word : ℕ
+  read_word = c.before.r.given.0.0
 
-  abbrev key : ℕ
-  key = c.before.before.before.unmarked-key.result
+  abbrev read-size : ℕ
+  read-size = c.before.r.given.0.1.0
 
-  abbrev code : ℕ
-  code = c.before.unmarked-code.result
-
-  low : key < 2 ^ 20
-  low = c.before.before.if1.false
-
-  key_is : UnmarkedKey table (at-loop.loop.n * 8) key
-  key_is = c.before.before.before.unmarked-key.ensures low
-
-  code_is : UnmarkedCode table (at-loop.loop.n * 8) code
-  code_is = c.before.unmarked-code.ensures (omega (arith, c.if2.false))
-
-  few : at-loop.loop.n < 64
-  few = let m = at-loop.before.smaller.ensures in let h = in-loop.loop-test.taken in omega (arith, m)
-
-  abbrev word : ℕ
-  word = unmarked_word table (at-loop.loop.n * 8) key code (inside in-loop) low key_is code_is
-
-  read : {after : List ℕ} {result : Bool} → result ≡ eqb (searched at-loop.loop.cells key) 0 → after ≡ inserted_with key code at-loop.loop.n at-loop.loop.cells
-      → (result ≡ insertable word at-loop.loop.cells) × (after ≡ inserted word at-loop.loop.n at-loop.loop.cells)
-  read e f =
-      insert_with word at-loop.loop.n at-loop.loop.cells (unmarked_key_is table (at-loop.loop.n * 8) key code (inside in-loop) low key_is code_is)
-      (unmarked_code_is table (at-loop.loop.n * 8) key code (inside in-loop) low key_is code_is) e f
+  read_is : Unmarked read_word read-size × (Word read_word read-size ≡ record_of (drop (at-loop.loop.n * 8) start.args.table.now))
+  read_is = c.before.before.before.unmarked-at.ensures read_word read-size c.before.r.given.1
 
 insert-requires : tie.Need-insert-requires invariant-loop decreases-loop
 insert-requires c κs =
     let d = c.before in
-    (low d, (unmarked_code_low (table d) ((at-loop d).loop.n * 8) (key d) (code d) (inside (in-loop d)) (low d) (key_is d) (code_is d), few d))
-
-returns-3 : tie.Need-returns-3 invariant-loop decreases-loop
-returns-3 c =
-    let d = c.before.before.before in
+    let a = (start d).args in
     let l = (at-loop d).loop in
-    let at = l.n * 8 in
+    let m = (at-loop d).before.smaller.ensures in
+    let h = d.before.before.before.before.loop-test.true in
+    (record_range a.table.now l.n (l.n * 8) (l.inv 1).place (read_word d) (read-size d) (read_is d).1, omega (arith, m))
+
+returns-2 : tie.Need-returns-2 invariant-loop decreases-loop
+returns-2 c =
+    let d = c.before.before.before in
+    let a = (start d).args in
+    let l = (at-loop d).loop in
     let k = c.before.insert in
-    let r = read d k.ensures.0 k.ensures.1 in
+    let m = (at-loop d).before.smaller.ensures in
+    let h = d.before.before.before.before.loop-test.true in
     λ revision.
-    unmarked_stays revision (table d) (start d).args.cells.now l.n at l.cells (l.inv revision) (few d) (unmarked_plain (table d) at (key d) (code d) (inside (in-loop d)) (low d) (key_is d) (code_is d))
-    (unmarked_record (table d) at (key d) (code d) (inside (in-loop d)) (low d) (key_is d) (code_is d)) r.0 r.1 (not-true k.result c.if3.true)
+    unmarked_stays revision a.table.now a.cells.now l.n (l.n * 8) l.cells (l.inv revision) (omega (arith, m)) (read_is d).0 (read_is d).1 k.ensures.0 k.ensures.1
+    (not-true k.result c.if1.true)
 
 add-n : tie.Need-overflow-add-n invariant-loop decreases-loop
-add-n c = let h = few c.before.before.before in omega arith
+add-n c = search rules
 
 loop-less : tie.Need-loop-smaller invariant-loop decreases-loop
-loop-less c = let h = (in-loop c.before.before.before).loop-test.taken in omega arith
+loop-less c = let h = c.before.before.before.before.before.before.before.loop-test.true in omega arith
 
 loop-again : tie.Need-loop-preserved invariant-loop decreases-loop
 loop-again c =
     let d = c.before.before.before in
+    let a = (start d).args in
     let l = (at-loop d).loop in
-    let at = l.n * 8 in
     let k = c.before.insert in
-    let r = read d k.ensures.0 k.ensures.1 in
+    let m = (at-loop d).before.smaller.ensures in
+    let h = d.before.before.before.before.loop-test.true in
     λ revision.
-    unmarked_continue revision (table d) (start d).args.cells.now l.n at l.cells (l.inv revision) (few d) (unmarked_plain (table d) at (key d) (code d) (inside (in-loop d)) (low d) (key_is d) (code_is d))
-    (unmarked_record (table d) at (key d) (code d) (inside (in-loop d)) (low d) (key_is d) (code_is d)) r.0 r.1 ((l.n + 1) * 8) (omega arith) (not-false k.result c.if3.false)
+    unmarked_continue revision a.table.now a.cells.now l.n (l.n * 8) l.cells (l.inv revision) (omega (arith, m)) (read_is d).0 (read_is d).1 k.ensures.0 k.ensures.1
+    ((l.n + 1) * 8) (omega arith) (not-false k.result c.if1.false)
 
-returns-4 : tie.Need-returns-4 invariant-loop decreases-loop
-returns-4 c = λ revision. c.before.loop.invariant revision
+returns-3 : tie.Need-returns-3 invariant-loop decreases-loop
+returns-3 c = λ revision. c.before.loop.invariant revision
 
 pub index-unmarked-spec : {M : Type 1} → statement M
 index-unmarked-spec =
@@ -128,15 +113,14 @@ index-unmarked-spec =
     decreases-loop
     smaller-requires
     loop-holds
-    mul-unmarked-key
-    unmarked-key-requires
+    mul-unmarked-at
+    unmarked-at-requires
+    enum-known-r
+    enum_told
     returns
-    mul-unmarked-code
-    unmarked-code-requires
-    returns-2
     insert-requires
-    returns-3
+    returns-2
     add-n
     loop-less
     loop-again
-    returns-4)
+    returns-3)

@@ -1,7 +1,12 @@
 -- `index_words` counts no more words than there are.
-use Rattle.std.proofs.Common.{◌≡◌, ℕ, ◌-◌, min, List, length, take, ap, ◌∙◌, arith, rules}
+use native.Mathlib.Omega.{arith}
+use Prim.Native.Nat.{ℕ, ◌-◌, min}
+use mathlib.Core.Path.{◌≡◌, ap, ◌∙◌}
+use mathlib.Core.List.{List}
+use lib.ListN.{length, take}
 use Rattle.table.proofs.Lists.{take_min}
 use Rattle.table_index.specs.internal.Cells.{prefix_length, inserted_words}
+use borrow.Author.Rules.{rules}
 use Rattle.table_index.proofs.index_words.Statement.{statement}
 use Rattle.table_index.proofs.index_words.Tie as tie
 

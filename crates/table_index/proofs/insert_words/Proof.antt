@@ -1,14 +1,15 @@
 -- `insert_words` inserts the words one by one, up to the first that is not insertable. Before each iteration of the inner loop the rest of
 -- the chain decides whether the word is insertable.
-use Rattle.std.proofs.Common.{◌≡◌, ℕ, ◌+◌, ◌-◌, ◌*◌, ◌%◌, min, true, get_or, sym, ap, ◌∙◌, arith}
-use Rattle.table.specs.Entry.{entry}
-use Rattle.table.specs.Load.{in_range}
+use Prim.Native.Nat.{ℕ, ◌+◌, ◌*◌, ◌-◌, ◌%◌, min}
+use native.Mathlib.Omega.{arith}
+use mathlib.Core.Path.{◌≡◌, sym, ap, ◌∙◌}
+use lib.ListN.{get_or}
 use borrow.Author.Tests.{not-true, not-false}
 use Rattle.table_index.specs.internal.Cells.{chase, search}
 use Rattle.table_index.proofs.Chains.{bucket_low, search_from, chase_next, next_less}
 use Rattle.table_index.proofs.Words.{small, key_low}
 use Rattle.table_index.proofs.Revisions.{range_read}
-use Rattle.table_index.proofs.InsertLoop.{InsertWordsLoop, linked_with_lem, words_start, words_end, words_bad, words_repeated, words_continue}
+use Rattle.table_index.proofs.InsertLoop.{InsertWordsLoop, words_start, words_end, words_bad, words_repeated, words_continue}
 use Rattle.table_index.proofs.insert_words.Statement.{statement}
 use Rattle.table_index.proofs.insert_words.Tie as tie
 
@@ -86,52 +87,24 @@ loop-again c =
     let l = c.before.before.before.before.loop in
     l.invariant ∙ chase_next cells key l.c c.before.before.if3.false ∙ ap (chase 64 cells key) (sym c.next.ensures)
 
--- The word is in range, and so is its form under the revision.
-module _ (c : tie.After-loop invariant-loop decreases-loop invariant-words decreases-words) where
-  abbrev under_at : tie.After-under invariant-loop decreases-loop invariant-words decreases-words
-  under_at = c.before.before.before.before.before.before
-
-  abbrev range_at : tie.After-in-range invariant-loop decreases-loop invariant-words decreases-words
-  range_at = under_at.before.before.before
-
-  abbrev words_at : tie.At-words invariant-loop decreases-loop invariant-words decreases-words
-  words_at = range_at.before.before.before
-
-  abbrev start : tie.Start invariant-loop decreases-loop invariant-words decreases-words
-  start = words_at.before.before.before
-
-  in-range-is : in_range (entry under_at.under.result) ≡ true
-  in-range-is = range_read start.args.revision (get_or start.args.words.now words_at.words.n 0) under_at.under.ensures range_at.in_range.ensures under_at.before.before.if2.left
-
-word-code-requires : tie.Need-word-code-requires invariant-loop decreases-loop invariant-words decreases-words
-word-code-requires c κs = in-range-is c
-
 link-requires : tie.Need-link-requires invariant-loop decreases-loop invariant-words decreases-words
 link-requires c κs =
-    let d = c.before.before in
-    let u = (under_at d).under.result in
-    let k = d.before.before.before.before.before.word-key in (
-      omega (arith, k.ensures, key_low u (small u (in-range-is d))),
-      (c.before.word-code.ensures.1, omega (arith, (words_at d).before.smaller.ensures)),
-    )
+    (range_read c.before.before.before.before.before.before.before.before.before.before.before.before.before.before.before.before.args.revision (get_or c.before.before.before.before.before.before.before.before.before.before.before.before.before.before.before.before.args.words.now c.before.before.before.before.before.before.before.before.before.before.before.before.before.words.n 0) c.before.before.before.before.before.before.before.under.ensures c.before.before.before.before.before.before.before.before.before.before.in_range.ensures c.before.before.before.before.before.before.before.before.before.if2.false, (c.before.before.before.before.before.before.word-key.ensures, omega (arith, c.before.before.before.before.before.before.before.before.before.before.before.before.before.before.smaller.ensures)))
 
 add-n : tie.Need-overflow-add-n invariant-loop decreases-loop invariant-words decreases-words
-add-n c = omega (arith, (words_at c.before.before.before).before.smaller.ensures)
+add-n c = omega (arith, c.before.before.before.before.before.before.before.before.before.before.before.before.before.before.before.smaller.ensures)
 
 words-less : tie.Need-words-smaller invariant-loop decreases-loop invariant-words decreases-words
 words-less c = omega arith
 
 words-again : tie.Need-words-preserved invariant-loop decreases-loop invariant-words decreases-words
 words-again c =
-    let d = c.before.before.before in
-    let a = (start d).args in
-    let o = (words_at d).words in
-    let l = d.before.loop in
-    let i = (range_at d).in_range in
-    let k = d.before.before.before.before.before.word-key in
-    words_continue a.revision a.words.now a.cells.now o.n o.cells o.inv (omega (arith, (words_at d).before.smaller.ensures)) (under_at d).under.ensures k.ensures
-    l.c l.invariant (sym i.ensures ∙ not-false i.result (under_at d).before.before.if2.false) d.loop-test.false
-    (c.link.ensures ∙ linked_with_lem (under_at d).under.result o.n o.cells k.ensures c.before.before.word-code.ensures.0)
+    let a = c.before.before.before.before.before.before.before.before.before.before.before.before.before.before.before.before.before.args in
+    let o = c.before.before.before.before.before.before.before.before.before.before.before.before.before.before.words in
+    let l = c.before.before.before.loop in
+    let i = c.before.before.before.before.before.before.before.before.before.before.before.in_range in
+    words_continue a.revision a.words.now a.cells.now o.n o.cells o.invariant (omega (arith, c.before.before.before.before.before.before.before.before.before.before.before.before.before.before.before.smaller.ensures)) c.before.before.before.before.before.before.before.before.under.ensures c.before.before.before.before.before.before.before.word-key.ensures l.c l.invariant
+    (sym i.ensures ∙ not-false i.result c.before.before.before.before.before.before.before.before.before.before.if2.false) c.before.before.loop-test.false c.link.ensures
 
 returns : tie.Need-returns invariant-loop decreases-loop invariant-words decreases-words
 returns c =
@@ -179,7 +152,6 @@ insert-words-spec =
     next-requires
     loop-less
     loop-again
-    word-code-requires
     link-requires
     add-n
     words-less

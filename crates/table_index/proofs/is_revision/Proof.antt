@@ -1,5 +1,6 @@
 -- `is_revision` returns what its definition says, by the two comparisons.
-use Rattle.std.proofs.Common.{refl, ne_eqb}
+use mathlib.Core.Path.{refl}
+use borrow.Author.Tests.{ne_eqb}
 use Rattle.table.specs.Schema.{is_revision}
 use Rattle.table_index.proofs.is_revision.Statement.{statement}
 use Rattle.table_index.proofs.is_revision.Tie as tie

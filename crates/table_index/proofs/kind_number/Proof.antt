@@ -1,5 +1,5 @@
 use Rattle.table.specs.Entry.{kind_number}
-use Rattle.std.proofs.Common.{rules}
+use borrow.Author.Rules.{rules}
 use Rattle.table_index.proofs.kind_number.Statement.{statement}
 use Rattle.table_index.proofs.kind_number.Tie as tie
 

@@ -1,6 +1,11 @@
 -- `lacks` returns what its definition says: in an empty bucket the search finds nothing.
-use Rattle.std.proofs.Common.{ℕ, eqb, get_or, sym, refl, ap, ◌∙◌, arith, rules}
+use native.Mathlib.Omega.{arith}
+use Prim.Native.Nat.{ℕ}
+use mathlib.Core.Path.{refl, sym, ap, ◌∙◌}
+use lib.Dec.{eqb}
+use lib.ListN.{get_or}
 use Rattle.table_index.proofs.Chains.{bucket_low, search_from, search_empty}
+use borrow.Author.Rules.{rules}
 use Rattle.table_index.proofs.lacks.Statement.{statement}
 use Rattle.table_index.proofs.lacks.Tie as tie
 

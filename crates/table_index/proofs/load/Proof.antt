@@ -1,6 +1,7 @@
 -- `load` returns what its definition says: the first repeated pair among the well-formed records decides, or what follows them.
-use Rattle.std.proofs.Common.{arith, rules}
+use native.Mathlib.Omega.{arith}
 use Rattle.table_index.proofs.LoadLaws.{repeated_within, repeated, faulted, loaded}
+use borrow.Author.Rules.{rules}
 use Rattle.table_index.proofs.load.Statement.{statement}
 use Rattle.table_index.proofs.load.Tie as tie
 

@@ -1,7 +1,9 @@
 -- `meaning` returns what its definition says, by the code in the cell.
-use Rattle.std.proofs.Common.{ap, ◌∙◌, arith, rules}
+use native.Mathlib.Omega.{arith}
+use mathlib.Core.Path.{ap, ◌∙◌}
 use Rattle.table_index.specs.internal.Cells.{meaning_of, meaning_in}
 use Rattle.table_index.proofs.Meanings.{raw, uint, int, string, text, message}
+use borrow.Author.Rules.{rules}
 use Rattle.table_index.proofs.meaning.Statement.{statement}
 use Rattle.table_index.proofs.meaning.Tie as tie
 

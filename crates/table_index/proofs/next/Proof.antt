@@ -1,6 +1,6 @@
 -- `next` returns what its definition says.
 use Rattle.table_index.proofs.Chains.{next_ends, next_on}
-use Rattle.std.proofs.Common.{rules}
+use borrow.Author.Rules.{rules}
 use Rattle.table_index.proofs.next.Statement.{statement}
 use Rattle.table_index.proofs.next.Tie as tie
 

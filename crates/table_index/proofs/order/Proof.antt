@@ -1,4 +1,4 @@
-use Rattle.std.proofs.Common.{refl}
+use mathlib.Core.Path.{refl}
 use Rattle.table_index.specs.internal.Cells.{order_in}
 use Rattle.table_index.proofs.order.Statement.{statement}
 use Rattle.table_index.proofs.order.Tie as tie

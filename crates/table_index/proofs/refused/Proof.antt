@@ -1,4 +1,4 @@
-use Rattle.std.proofs.Common.{refl}
+use mathlib.Core.Path.{refl}
 use Rattle.table.specs.Load.{refused, table_of}
 use Rattle.table_index.proofs.refused.Statement.{statement}
 use Rattle.table_index.proofs.refused.Tie as tie

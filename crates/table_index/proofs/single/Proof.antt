@@ -1,4 +1,4 @@
-use Rattle.std.proofs.Common.{refl}
+use mathlib.Core.Path.{refl}
 use Rattle.table_index.specs.internal.Cells.{single_in}
 use Rattle.table_index.proofs.single.Statement.{statement}
 use Rattle.table_index.proofs.single.Tie as tie

@@ -1,6 +1,8 @@
 -- `under` returns what its definition says, by the revision.
-use Rattle.std.proofs.Common.{refl, rules, ne_eqb}
+use mathlib.Core.Path.{refl}
+use borrow.Author.Tests.{ne_eqb}
 use Rattle.table_index.specs.internal.Cells.{word_under}
+use borrow.Author.Rules.{rules}
 use Rattle.table_index.proofs.under.Statement.{statement}
 use Rattle.table_index.proofs.under.Tie as tie
 

@@ -1,5 +1,10 @@
 -- `unused` returns what its definition says: the bits of the words so far and the remaining words decide.
-use Rattle.std.proofs.Common.{◌≡◌, ◌-◌, ◌&&◌, eqb, length, drop, sym, refl, ◌∙◌, arith}
+use Prim.Native.Nat.{◌-◌}
+use native.Mathlib.Omega.{arith}
+use mathlib.Core.Path.{◌≡◌, refl, sym, ◌∙◌}
+use mathlib.Core.Bool.{◌&&◌}
+use lib.Dec.{eqb}
+use lib.ListN.{length, drop}
 use Rattle.table.specs.Valid.{all_zero}
 use Rattle.table_index.proofs.Zeros.{zero_ends, zero_moves}
 use Rattle.table_index.proofs.unused.Statement.{statement}

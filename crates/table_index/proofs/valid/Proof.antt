@@ -1,6 +1,6 @@
 -- `valid` returns what its definition says: its cells were cleared.
 use Rattle.table_index.proofs.IndexLaws.{table_valid}
-use Rattle.std.proofs.Common.{rules}
+use borrow.Author.Rules.{rules}
 use Rattle.table_index.proofs.valid.Statement.{statement}
 use Rattle.table_index.proofs.valid.Tie as tie
 

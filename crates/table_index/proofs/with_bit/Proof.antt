@@ -1,6 +1,8 @@
 -- `with_bit` returns what its definition says. The bit's number is below 64, so nothing is shifted out.
-use Rattle.std.proofs.Common.{◌%◌, arith, rules}
+use native.Mathlib.Omega.{arith}
+use Prim.Native.Nat.{◌%◌}
 use Rattle.table.proofs.Masks.{with_shifted}
+use borrow.Author.Rules.{rules}
 use Rattle.table_index.proofs.with_bit.Statement.{statement}
 use Rattle.table_index.proofs.with_bit.Tie as tie
 

@@ -1,7 +1,8 @@
 -- `word_key` returns what its definition says, since the message number is below 16.
-use Rattle.std.proofs.Common.{sym, rules}
+use mathlib.Core.Path.{sym}
 use Rattle.table.specs.Load.{pair}
 use Rattle.table_index.proofs.Words.{small, key_is}
+use borrow.Author.Rules.{rules}
 use Rattle.table_index.proofs.word_key.Statement.{statement}
 use Rattle.table_index.proofs.word_key.Tie as tie
 

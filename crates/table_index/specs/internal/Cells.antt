@@ -2,7 +2,7 @@
 -- number as one number (5 bits) and its order in the table (6 bits). The first 64 cells are the heads of as many buckets; the cell 64 + i holds
 -- what was the head of its bucket before the entry i. Contracts of calls speak of the schema of a table, not of the index; proofs/IndexLaws.antt
 -- shows that an index has the schema of its table.
-use Rattle.std.specs.Prelude.{◌≡◌, ℕ, zero, suc, ◌+◌, ◌-◌, ◌*◌, ◌/◌, ◌%◌, ◌^◌, min, Bool, true, cond, ◌&&◌, List, length, take, drop, ◌==◌, nat_le, nat_lt, slice_index, slice_index_or, slice_set}
+use Rattle.std.specs.Prelude.{ℕ, zero, suc, ◌+◌, ◌*◌, ◌-◌, ◌/◌, ◌%◌, ◌^◌, min, ◌≡◌, Bool, true, cond, ◌&&◌, List, length, take, drop, get_or, set, eqb, leb, ltb}
 use Rattle.table.specs.Entry.{entry}
 use Rattle.table.specs.Load.{in_range}
 use Rattle.table.specs.Mask.{has_bit, with_bit}
@@ -18,26 +18,18 @@ key_of n t = min n 16 * 2 ^ 16 + t
 unfoldable pub word_key : ℕ → ℕ
 word_key w = key_of (entry w).number (entry w).tag
 
--- The bucket of a key: the upper six bits of the lower 32 of a product. The factor is 2^26 + 45 * 2^10, so the next tag has the next bucket and the
--- next message number is 45 buckets on. Among the distances below 64 that were counted, 45 keeps the chains short both in the bench's full table
--- and in tables whose messages have from 4 to 32 tags in a row.
+-- The bucket of a key. Among the factors below 64 that were counted, 45 keeps the chains short both in the bench's full table and in tables whose
+-- messages have from 4 to 32 tags in a row.
 unfoldable pub bucket_of : ℕ → ℕ
-bucket_of key = key * 67154944 % 2 ^ 32 / 2 ^ 26
+bucket_of key = (key / 2 ^ 16 * 45 + key) % 64
 
--- The mark, the kind and the inner number in a word as one number. Only the kind 5 has an inner number that is not 0, so the sum tells both.
-unfoldable pub word_code : ℕ → ℕ
-word_code w = (entry w).mark * 32 + ((entry w).kind + (entry w).inner)
-
--- The cell of a key and such a number for the i-th entry of a table, and that of a word.
-unfoldable pub cell_with : ℕ → ℕ → ℕ → ℕ
-cell_with key code i = (key * 64 + code) * 64 + i
-
+-- The cell of a word that is the i-th of its table. Only the kind 5 has an inner number that is not 0, so the sum tells both.
 unfoldable pub cell_of : ℕ → ℕ → ℕ
-cell_of w i = cell_with (word_key w) (word_code w) i
+cell_of w i = ((word_key w * 2 + (entry w).mark) * 32 + ((entry w).kind + (entry w).inner)) * 64 + i
 
 -- A word under a revision. Under revision 1 the mark has no effect, so the word has the mark 0.
 unfoldable pub word_under : ℕ → ℕ → ℕ
-word_under revision w = cond (revision == 2) w (w / 2 ^ 8 * 2 ^ 8)
+word_under revision w = cond (eqb revision 2) w (w / 2 ^ 8 * 2 ^ 8)
 
 -- The code of a cell: its kind and inner number as one number. Then the kind for a code.
 unfoldable pub code_in : ℕ → ℕ
@@ -45,15 +37,15 @@ code_in c = c / 64 % 32
 
 unfoldable pub meaning_of : ℕ → Meaning
 meaning_of code =
-    cond (code == 0) Raw
-    (cond (code == 1) Uint
-    (cond (code == 2) Int
-    (cond (code == 3) String
-    (cond (code == 4) Text (Message (code - 5))))))
+    cond (eqb code 0) Raw
+    (cond (eqb code 1) Uint
+    (cond (eqb code 2) Int
+    (cond (eqb code 3) String
+    (cond (eqb code 4) Text (Message (code - 5))))))
 
 -- Whether the tag of a cell is single.
 unfoldable pub single_in : ℕ → Bool
-single_in c = c / 2 ^ 11 % 2 == 1
+single_in c = eqb (c / 2 ^ 11 % 2) 1
 
 -- The kind in a cell.
 unfoldable pub meaning_in : ℕ → Meaning
@@ -66,37 +58,30 @@ order_in c = c % 64
 -- The next cell of a chain; 0 at its end, which is where the order does not fall.
 unfoldable pub next_in : List ℕ → ℕ → ℕ
 next_in cells c =
-    let next = slice_index_or cells (64 + c % 64) 0 in
-    cond (nat_lt (next % 64) (c % 64)) next 0
+    let next = get_or cells (64 + c % 64) 0 in
+    cond (ltb (next % 64) (c % 64)) next 0
 
 -- The cell with a key in the chain that begins with a cell; 0 if there is none. Along a chain the order falls, so a fuel of 64 is enough.
 unfoldable pub chase : ℕ → List ℕ → ℕ → ℕ → ℕ
 chase zero cells key c = 0
 chase (suc fuel) cells key c =
-    let next = slice_index_or cells (64 + c % 64) 0 in
-    cond (c / 2 ^ 12 == key) c (cond (nat_lt (next % 64) (c % 64)) (chase fuel cells key next) 0)
+    let next = get_or cells (64 + c % 64) 0 in
+    cond (eqb (c / 2 ^ 12) key) c (cond (ltb (next % 64) (c % 64)) (chase fuel cells key next) 0)
 
 unfoldable pub search : List ℕ → ℕ → ℕ
-search cells key = chase 64 cells key (slice_index cells (bucket_of key))
+search cells key = chase 64 cells key (get_or cells (bucket_of key) 0)
 
 -- Whether a word can be inserted: no cell has its key.
 unfoldable pub insertable : ℕ → List ℕ → Bool
-insertable w cells = search cells (word_key w) == 0
+insertable w cells = eqb (search cells (word_key w)) 0
 
--- The cells with a key and a code linked as the i-th: their cell becomes the head of its bucket and points to the old head. Then the same for a
--- word.
-unfoldable pub linked_with : ℕ → ℕ → ℕ → List ℕ → List ℕ
-linked_with key code i cells =
-    let bucket = bucket_of key in
-    slice_set (slice_set cells (64 + i) (slice_index cells bucket)) bucket (cell_with key code i)
-
+-- The cells with a word linked as the i-th: it becomes the head of its bucket and points to the old head.
 unfoldable pub linked : ℕ → ℕ → List ℕ → List ℕ
-linked w i cells = linked_with (word_key w) (word_code w) i cells
+linked w i cells =
+    let bucket = bucket_of (word_key w) in
+    set (set cells (64 + i) (get_or cells bucket 0)) bucket (cell_of w i)
 
--- The cells after an attempt to insert a key with a code as the i-th, and a word. A key that a cell has already changes nothing.
-unfoldable pub inserted_with : ℕ → ℕ → ℕ → List ℕ → List ℕ
-inserted_with key code i cells = cond (search cells key == 0) (linked_with key code i cells) cells
-
+-- The cells after an attempt to insert a word as the i-th. A word that is not insertable changes nothing.
 unfoldable pub inserted : ℕ → ℕ → List ℕ → List ℕ
 inserted w i cells = cond (insertable w cells) (linked w i cells) cells
 
@@ -118,20 +103,20 @@ prefix_end good word cells i (suc remaining) = cond (insertable_at good word cel
 -- a revision.
 unfoldable pub prefix_length : ℕ → List ℕ → List ℕ → ℕ
 prefix_length revision ws cells =
-    prefix_end (λ i. in_range (entry (slice_index ws i))) (λ i. word_under revision (slice_index ws i)) cells 0 (min 64 (length ws))
+    prefix_end (λ i. in_range (entry (get_or ws i 0))) (λ i. word_under revision (get_or ws i 0)) cells 0 (min 64 (length ws))
 
 unfoldable pub inserted_words : ℕ → List ℕ → List ℕ → List ℕ
-inserted_words revision ws cells = inserted_before (λ i. word_under revision (slice_index ws i)) cells (prefix_length revision ws cells)
+inserted_words revision ws cells = inserted_before (λ i. word_under revision (get_or ws i 0)) cells (prefix_length revision ws cells)
 
 -- Whether a table value has at most 64 words, all are inserted, and the unused words are 0.
 unfoldable pub all_inserted : ℕ → List ℕ → ℕ → List ℕ → Bool
 all_inserted revision words count cells =
     let used = take count words in
-    nat_le count 64 && prefix_length revision used cells == length used && all_zero (drop count words)
+    leb count 64 && eqb (prefix_length revision used cells) (length used) && all_zero (drop count words)
 
 -- The cell of a message number and a tag; 0 where there is none. A tag over 65,535 is in no table.
 unfoldable pub cell_for : List ℕ → ℕ → ℕ → ℕ
-cell_for cells n t = cond (nat_lt t 65536) (search cells (key_of n t)) 0
+cell_for cells n t = cond (ltb t 65536) (search cells (key_of n t)) 0
 
 -- The schema of an index.
 unfoldable pub indexed : List ℕ → Schema

@@ -1,5 +1,5 @@
 -- What private functions return that go through the records of a table's octets.
-use Rattle.std.specs.Prelude.{◌≡◌, ℕ, ◌-◌, ◌<◌, ◌≤◌, Bool, true, List, ◌++◌, length, replicate}
+use Rattle.std.specs.Prelude.{ℕ, ◌-◌, ◌≤◌, ◌<◌, ◌≡◌, Bool, true, List, ◌++◌, length, replicate}
 use Rattle.table.specs.Load.{place_at, record_at, word_at, well_formed, words_before, faulty}
 use Rattle.table_index.specs.internal.Cells.{word_under, inserted_before, prefix_end}
 

@@ -1,6 +1,6 @@
 -- `announced` returns the number in the two octets of a record's length.
 use Rattle.table_index.proofs.RecordLaws.{announced_read}
-use Rattle.std.proofs.Common.{rules}
+use borrow.Author.Rules.{rules}
 use Rattle.table_index.proofs.record.announced.Statement.{statement}
 use Rattle.table_index.proofs.record.announced.Tie as tie
 

@@ -1,6 +1,7 @@
 -- `five` returns the number in five octets, computed octet by octet.
-use Rattle.std.proofs.Common.{arith, rules}
+use native.Mathlib.Omega.{arith}
 use Rattle.table_index.proofs.RecordLaws.{five_read}
+use borrow.Author.Rules.{rules}
 use Rattle.table_index.proofs.record.five.Statement.{statement}
 use Rattle.table_index.proofs.record.five.Tie as tie
 

@@ -1,5 +1,5 @@
 -- `in_range` returns what its definition says, at each return by the tests before it.
-use Rattle.std.proofs.Common.{arith}
+use native.Mathlib.Omega.{arith}
 use Rattle.table_index.proofs.Ranges.{high, marked, unwanted, inner, none, plain}
 use Rattle.table_index.proofs.record.in_range.Statement.{statement}
 use Rattle.table_index.proofs.record.in_range.Tie as tie

@@ -1,5 +1,6 @@
 -- `octet_at` returns the octet at a place, which is below 256 as every octet is.
-use Rattle.std.proofs.Common.{arith, rules}
+use native.Mathlib.Omega.{arith}
+use borrow.Author.Rules.{rules}
 use Rattle.table_index.proofs.record.octet_at.Statement.{statement}
 use Rattle.table_index.proofs.record.octet_at.Tie as tie
 

@@ -1,5 +1,7 @@
 -- `place_at` steps from record to record; none of them begins after the octets end.
-use Rattle.std.proofs.Common.{◌≡◌, ◌-◌, ◌≤◌, refl, ap, ◌∙◌, arith}
+use Prim.Native.Nat.{◌-◌, ◌≤◌}
+use native.Mathlib.Omega.{arith}
+use mathlib.Core.Path.{◌≡◌, refl, ap, ◌∙◌}
 use Rattle.table.specs.Load.{place_at}
 use Rattle.table_index.proofs.RecordLaws.{place_inside, place_next, place_within}
 use Rattle.table_index.proofs.record.place_at.Statement.{statement}

@@ -1,6 +1,8 @@
 -- `record_at` returns what its definition says, at each return by the octets looked at before it.
-use Rattle.std.proofs.Common.{◌∙◌, arith, rules}
+use native.Mathlib.Omega.{arith}
+use mathlib.Core.Path.{◌∙◌}
 use Rattle.table_index.proofs.RecordLaws.{wrong_short, wrong_tag, wrong_length, wrong_cut, right_five, right_six}
+use borrow.Author.Rules.{rules}
 use Rattle.table_index.proofs.record.record_at.Statement.{statement}
 use Rattle.table_index.proofs.record.record_at.Tie as tie
 

@@ -1,5 +1,8 @@
 -- `records` stores the words in the order of the records, up to the first that is not well-formed.
-use Rattle.std.proofs.Common.{◌-◌, sym, ◌∙◌, arith, rules}
+use Prim.Native.Nat.{◌-◌}
+use native.Mathlib.Omega.{arith}
+use mathlib.Core.Path.{sym, ◌∙◌}
+use borrow.Author.Rules.{rules}
 use Rattle.table_index.proofs.LoadLaws.{RecordsLoop, records_start, records_continue, records_stop, records_end}
 use Rattle.table_index.proofs.record.records.Statement.{statement}
 use Rattle.table_index.proofs.record.records.Tie as tie

@@ -1,6 +1,9 @@
 -- `size_at` returns what its definition says, by the announced length.
-use Rattle.std.proofs.Common.{drop, sym, refl, ◌∙◌, rules, ne_eqb}
+use mathlib.Core.Path.{refl, sym, ◌∙◌}
+use lib.ListN.{drop}
+use borrow.Author.Tests.{ne_eqb}
 use Rattle.table.specs.Load.{announced, record_size}
+use borrow.Author.Rules.{rules}
 use Rattle.table_index.proofs.record.size_at.Statement.{statement}
 use Rattle.table_index.proofs.record.size_at.Tie as tie
 

@@ -1,6 +1,7 @@
 -- `sized_word` returns what its definition says, by whether the entry is in range.
-use Rattle.std.proofs.Common.{sym, refl, ◌∙◌, rules}
+use mathlib.Core.Path.{refl, sym, ◌∙◌}
 use Rattle.table_index.specs.internal.Record.{sized_word}
+use borrow.Author.Rules.{rules}
 use Rattle.table_index.proofs.record.sized_word.Statement.{statement}
 use Rattle.table_index.proofs.record.sized_word.Tie as tie
 
