@@ -2,6 +2,7 @@
 // table, the other a table that was loaded. Both take the revision of the profile that the table is read under. A message that is too long is
 // rejected before the table is read, and a faulty table before the revision and the message number are tested. The calls that take octets build
 // only the index of the table: if it lacks a record, the first one that it lacks is faulty.
+#![tactic(auto)]
 mod outermost;
 mod shortest;
 mod sizes;

@@ -1,6 +1,7 @@
 // Octets: big-endian numbers, signed numbers, text and control parts. This crate has the definitions (specs/) and the laws about them
 // (proofs/). Its only code is the types below, which the definitions share with the functions of the crates above.
 
+#![tactic(auto)]
 // The control part at the start of octets: absent if there are no octets, partial if the octets end inside it, or whole. A whole one has a
 // tag, the length of the contents, and its own size in octets.
 #[derive(Drop)]

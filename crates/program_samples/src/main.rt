@@ -9,6 +9,7 @@
 //     write ROOM OCTETS                             write a frame into a buffer of ROOM octets, all of them aa, and read it
 //
 // A line that starts with # is ignored. Samples that no line can express run after the last line. Where no revision is named it is 2.
+#![tactic(auto)]
 mod frames;
 mod lookups;
 mod messages;

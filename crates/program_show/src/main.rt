@@ -1,6 +1,7 @@
 // Reads a framed table and then a framed message from standard input, and prints the message field by field, or the first refusal. It reads
 // one octet more than the limit, so that it detects input that is too long.
 
+#![tactic(auto)]
 // The size of the output buffer.
 const SIZE: usize = 65536;
 

@@ -3,6 +3,7 @@
 // then has the octets of the message, and a label. For QForm the octets of the dictionary stand before those of the message. l is as q, with
 // the dictionary loaded first, and shows only the first field. program_lines describes the form of a line. A line that starts with # is
 // ignored. Samples that no line can express run after the last line.
+#![tactic(auto)]
 mod print;
 mod qform;
 

@@ -12,6 +12,7 @@
 //   L S O R NUMBER      change the state's length, start, count of open fields or revision
 //   N K M G LEVEL VALUE change the message number, the mask, the mark or the tag of a level
 //   #                   a heading
+#![tactic(auto)]
 mod back;
 mod both;
 mod compare;

@@ -1,6 +1,7 @@
 // The types of field tables. A field table tells which kind a tag has in messages of a given number. This crate also has the definitions
 // (specs/) and the laws about them (proofs/). The functions are in table_index.
 
+#![tactic(auto)]
 // The entries of a field table, in the order in which they were loaded. The lowest 48 bits of a word are, from the highest to the lowest,
 // an entry's message number (8 bits), tag (16 bits), kind (8 bits), inner message number (8 bits) and mark (8 bits: 0 many, 1 single). The
 // loader sets the words beyond the count to 0.

@@ -1,6 +1,7 @@
 // The types of dictionaries of QForm messages. A dictionary has an entry for each field, with the type and the size of its data. This crate also
 // has the definitions (specs/) and the laws about them (proofs/). The functions are in tib_dictionary_index.
 
+#![tactic(auto)]
 // The entry of a field: its number, called fid, and the type and the size of its data.
 #[derive(Drop)]
 pub struct Entry {

@@ -1,4 +1,5 @@
 // Loads a dictionary of QForm messages, and notes its entries in cells, one for each fid, so that a reader finds a field without a search.
+#![tactic(auto)]
 ghost use Rattle.std.specs.Prelude.{◌≡◌, true, map, ◌+◌, ◌/◌, ◌≤◌, ◌<◌, length, take, drop, get_or};
 ghost use Rattle.octets.specs.Number.{big_endian};
 ghost use Rattle.reading.specs.Refusals as refusals;

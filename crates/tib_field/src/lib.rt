@@ -1,6 +1,7 @@
 // What TibMsg, TibrvMsg and QForm share: the test of a name, the value of a size, the test of a header, the number of a refusal, and the field that
 // the readers of TibMsg and TibrvMsg return. This crate also has the definitions and laws of consecutive fields, of the k-th of them, and of the
 // verdict on them.
+#![tactic(auto)]
 ghost use Rattle.std.specs.Prelude.{◌≡◌, false, cond, ◌+◌, ◌≤◌, ◌<◌, eqb, ltb, length};
 ghost use Rattle.octets.specs.internal.Bounded.{unsigned};
 ghost use Rattle.tib_field.specs.internal.Zeros.{ZeroIn, Far, name_fault};

@@ -1,5 +1,6 @@
 // Opening and closing the message fields of the backward writer. Each call comes twice: one takes the octets of a field table, the other a table that
 // was loaded.
+#![tactic(auto)]
 ghost use Rattle.std.specs.Prelude.{◌≡◌, true, ◌-◌, ◌≤◌, [], length as length-of};
 ghost use Rattle.writer_state.specs.Call.{open_field, close_field};
 ghost use Rattle.writer_state.specs.Answer.{answer, buffer};

@@ -1,4 +1,5 @@
 // The writer's state as an array of numbers, as a C caller keeps it between calls.
+#![tactic(auto)]
 ghost use Rattle.std.specs.Prelude.{◌≡◌, length as length-of, replicate};
 ghost use Rattle.octets_store.specs.Store.{stored};
 ghost use Rattle.writer_words.specs.Words.{state_of, words_after};

@@ -1,0 +1,406 @@
+#!/usr/bin/env python3
+"""Turns the proofs of a crate from the older form, Proof.antt with `tie.spec`, to Invariants.antt and Answers.antt.
+
+usage: python3 tools/answers.py NAMES.json CRATE [FUNCTION ..]      at the top of the repository
+
+NAMES.json is what `rt check --generated DIR --old-names` writes into DIR for the crate CRATE. An answer `search rules` goes, since the
+check tries that itself. What could not be turned is printed, and `rt check` says what is left to do by hand.
+"""
+import json
+import os
+import re
+import sys
+
+WORD = r"[^\s(){}.;,@\"«»\[\]\\:]+"
+
+
+def plain(name):
+    return re.sub(r"[-_]+", "-", name)
+
+
+def blocks(text):
+    """The comment at the top, the use lines, and the declarations: lists of lines, each with the comments above it."""
+    head, uses, rest, pending, current = [], [], [], [], None
+    for line in text.rstrip("\n").split("\n"):
+        if line.startswith("use "):
+            if pending and not uses:
+                head += pending
+                pending = []
+            uses.append(line)
+            current = None
+        elif not line.strip():
+            if current is not None:
+                current.append("")
+            elif pending and not uses and not rest:
+                head += pending
+                pending = []
+        elif line.startswith("--"):
+            pending.append(line)
+            current = None
+        elif line[0] == " ":
+            current.append(line)
+        else:
+            name = re.match(r"(?:unfoldable |abbrev |pub )*(" + WORD + ")", line)[1]
+            if current is not None and line.startswith("unfolding ") or current is not None and name == current_name:
+                current.append(line)
+            else:
+                current, current_name = [*pending, line], name
+                pending = []
+                rest.append((name, current))
+    return head, uses, [(n, "\n".join(b).rstrip()) for n, b in rest]
+
+
+def references(callee):
+    """The names of a function's parameters that are references, in their order."""
+    crate, *rest = callee.split("::")
+    name = rest[-1]
+    for folder, dirs, names in os.walk(os.path.join("crates", crate, "src")):
+        for n in sorted(names):
+            text = open(os.path.join(folder, n), encoding="utf-8").read()
+            if len(rest) > 1 and rest[-2] + ".rt" != n:
+                continue
+            m = re.search(r"\bfn " + name + r"\(([^)]*)\)", text)
+            if m:
+                return [a.split(":")[0].strip().removeprefix("mut ") for a in m[1].split(",") if re.match(r"\s*&", a.partition(":")[2])]
+    return []
+
+
+def ensured(function):
+    """The names of the clauses that a function ensures, if there are several."""
+    crate, *rest = function.split("::")
+    for folder, dirs, names in os.walk(os.path.join("crates", crate, "src")):
+        for n in sorted(names):
+            text = open(os.path.join(folder, n), encoding="utf-8").read()
+            if len(rest) > 1 and rest[-2] + ".rt" != n:
+                continue
+            m = re.search(r"\bfn " + rest[-1] + r"\b.*?\n\{", text, re.S)
+            if m:
+                found = re.findall(r"^    ensures (\w+) \{", m[0], re.M)
+                return found if len(found) > 1 else None
+    return None
+
+
+def parts(text):
+    """The parts of a tuple, one nested at its front taken apart, or None if the text is no tuple."""
+    text = text.strip()
+    if not text.startswith("(") or balanced(text, 0) != len(text):
+        return None
+    inner, out, deep, start = text[1:-1], [], 0, 0
+    for i, ch in enumerate(inner):
+        deep += (ch in "([{") - (ch in ")]}")
+        if ch == "," and deep == 0:
+            out.append(inner[start:i].strip())
+            start = i + 1
+    if inner[start:].strip():
+        out.append(inner[start:].strip())
+    return out if len(out) > 1 else None
+
+
+def as_record(term, fields):
+    """A term whose last part is a tuple, with a record by these fields for the tuple."""
+    if not fields or len(fields) < 2:
+        return term
+    deep, at = 0, 0
+    for m in re.finditer(r"[(\[{)\]}]|(?<=\s)in(?=\s)", term):
+        if m[0] == "in":
+            if deep == 0:
+                at = m.end()
+        else:
+            deep += 1 if m[0] in "([{" else -1
+    found = parts(term[at:])
+    while found and len(found) < len(fields):
+        first = parts(found[0])
+        last = parts(found[-1])
+        if first:
+            found = first + found[1:]
+        elif last:
+            found = found[:-1] + last
+        else:
+            break
+    if not found or len(found) != len(fields):
+        return term
+    return term[:at] + " record { " + "; ".join(f"{f} = {x}" for f, x in zip(fields, found)) + " }"
+
+
+class Function:
+    def __init__(self, names):
+        self.needs = names["needs"]
+        self.asked = {new: names["asked"].get(old) for old, new in names["needs"]}
+        self.places = {}
+        self.steps = {}
+        self.clauses = {}
+        self.callees = {}
+        for place, new, clauses in zip(names["places"], names["places_by_name"], names["clauses"]):
+            old, _, step, callee, *_ = place
+            self.places[plain(old)] = new
+            if step and step[0]:
+                self.steps[plain(step[0])] = step[1]
+                if callee:
+                    self.callees[plain(step[0])] = callee
+                if clauses:
+                    self.clauses[plain(step[0])] = clauses
+        self.known = {}
+        for typed in names["typed"]:
+            for variable, step in typed:
+                self.known[plain(step)] = variable
+        self.pre = (names["pre"] or {}).get("fields")
+        self.loops = [(loop[0], loop[1], changed) for loop, changed in zip(names["loops"], names["changed"])]
+        self.settled = names["settled"]
+
+    def need(self, tie):
+        """The new name of the goal that an older file calls tie.Need-.."""
+        t = plain(tie)
+        forms = [t, re.sub(r"^overflow-", "", t), re.sub(r"^slice-bounds-", "part-", t), re.sub(r"^nonzero-", "", t)]
+        for f in forms:
+            for old, new in self.needs:
+                if plain(old) == f:
+                    return new
+        for old, new in self.needs:
+            if plain(new) == t:
+                return new
+        return None
+
+
+def balanced(text, at):
+    deep, i = 0, at
+    while i < len(text):
+        if text[i] in "([{":
+            deep += 1
+        elif text[i] in ")]}":
+            deep -= 1
+            if deep == 0:
+                return i + 1
+        i += 1
+    return i
+
+
+class Turn:
+    def __init__(self, fn, path, say):
+        self.fn, self.path, self.say = fn, path, say
+        self.helpers, self.goal, self.first = {}, None, "c"
+
+    def clause(self, fields, rest):
+        m = re.match(r"\.(\d+)(?![\d\w])", rest)
+        if m and fields and all(fields) and int(m[1]) < len(fields):
+            return "." + fields[int(m[1])] + rest[m.end():]
+        return rest
+
+    def body(self, text, contexts):
+        """A term with the flat names of today's contexts. `contexts` are the variables that stand for one."""
+        contexts = set(contexts)
+        while True:
+            found = {m[1] for m in re.finditer(r"\blet (" + WORD + r") = (" + WORD + r")((?:\.before)*) in", text) if m[2] in contexts} - contexts
+            if not found:
+                break
+            contexts |= found
+        out, i = [], 0
+        path = re.compile(r"(?<![.\w₀'-])(" + "|".join(re.escape(c) for c in sorted(contexts, key=len, reverse=True)) + r")((?:\.before)*)(?:\.(" + WORD + r"))?(?![\w'₀-])")
+        while True:
+            m = path.search(text, i)
+            if not m:
+                out.append(text[i:])
+                break
+            out.append(text[i : m.start()])
+            name, field = m[1], m[3]
+            i = m.end()
+            if field is None:
+                before = re.search(r"(" + WORD + r") \(?$", text[: m.start()])
+                place = self.helpers.get(before[1]) if before else None
+                alias = text[: m.start()].endswith(" = ") and re.match(r"\s+in\b", text[i:])
+                if place and self.goal:
+                    out.append(f"(goal.at.{self.goal} {self.first}).{place}")
+                else:
+                    out.append(name if alias or not m[2] else name + "⟦" + m[2] + "⟧")
+                continue
+            rest = text[i:]
+            step = plain(field)
+            if field in ("args", "ranges", "type-inv", "type_inv"):
+                out.append(f"{name}.{field.replace('-', '_')}")
+            elif field == "requires":
+                out.append(f"{name}.requires")
+                k = re.match(r"\.(\d+)(?![\d\w])", rest)
+                if k and self.fn.pre and int(k[1]) < len(self.fn.pre):
+                    out.append("." + self.fn.pre[int(k[1])])
+                    i += k.end()
+            elif step in self.fn.known and rest.startswith(".given"):
+                out.append(f"{name}.type_inv.{self.fn.known[step]}")
+                i += len(".given")
+            elif step in self.fn.steps:
+                out.append(f"{name}.{self.fn.steps[step]}")
+                k = re.match(r"\.ensures\.(\d+)(?![\d\w])", rest)
+                names = self.fn.clauses.get(step)
+                if k and isinstance(names, list) and int(k[1]) < len(names) and names[int(k[1])]:
+                    out.append(".ensures." + names[int(k[1])])
+                    i += k.end()
+                k = re.match(r"\.new\.(\d+)(?![\d\w])", rest)
+                given = references(self.fn.callees[step]) if k and step in self.fn.callees else []
+                if k and int(k[1]) < len(given):
+                    out.append(".new." + given[int(k[1])])
+                    i += k.end()
+            else:
+                out.append(f"{name}.{field}")
+                self.say(f"{self.path}: no step for {name}{m[2]}.{field}")
+        return "".join(out)
+
+
+def invariant_vars(fn, loop):
+    for names, variables, changed in fn.loops:
+        if plain(names[0]) == plain(loop):
+            first = [("l.initial." if ch else "l.") + v for v, ch in zip(variables, changed)]
+            return names[1], first + ["l." + v for v, ch in zip(variables, changed) if ch]
+    return None, None
+
+
+def substitute(text, names):
+    return re.sub(r"(?<![\w'.-])(" + "|".join(re.escape(n) for n in sorted(names, key=len, reverse=True)) + r")(?![\w'₀-])", lambda m: names[m[1]], text)
+
+
+def turn(path, module, function, fn, say):
+    text = open(path, encoding="utf-8").read()
+    head, uses, decls = blocks(text)
+    uses = [u for u in uses if not re.search(r"\.(Statement\.\{statement\}|Tie as tie)$", u)]
+    invariants, answers, aliases = [], [], {}
+    places = set()
+    for name, block in decls:
+        m = re.search(r"^(?:abbrev |pub |unfoldable )*" + re.escape(name) + r" : tie\.Need-(\S+)", block, re.M)
+        if m:
+            aliases[name] = fn.need(m[1])
+            if aliases[name] is None:
+                say(f"{path}: no goal for {name} : tie.Need-{m[1]} (settled {fn.settled})")
+    here = Turn(fn, path, say)
+    for name, block in decls:
+        if re.search(r"_?-?spec$", name) and "tie.spec" in block:
+            continue
+        m = re.search(r"^((?:abbrev |pub |unfoldable )*)" + re.escape(name) + r" : tie\.(invariant|decreases)-(\S+)", block, re.M)
+        if m:
+            loop, new_vars = invariant_vars(fn, m[3])
+            if not loop:
+                say(f"{path}: no loop {m[3]}")
+                continue
+            lines = block.split("\n")
+            sig = next(k for k, l in enumerate(lines) if " : tie." in l)
+            body = "\n".join(lines[sig + 1 :])
+            eq = body.index(" =") if " =" in body else -1
+            binders = body[:eq].split()[1:]
+            if len(binders) != len(new_vars):
+                say(f"{path}: {name} has {len(binders)} variables, and the loop {len(new_vars)}: {new_vars}")
+                continue
+            term = substitute(body[eq + 2 :], dict(zip(binders, new_vars)))
+            term = re.sub(r"\bl\.([\w.]+)\.now\b", r"l.\1", term)
+            goal = f"{m[2]}-{loop}"
+            invariants.append("\n".join([*lines[:sig], f"abbrev pub {goal} : goal.{goal}", f"{goal} l ={term}"]))
+            continue
+        m = re.search(r"^(?:abbrev |pub |unfoldable )*" + re.escape(name) + r" : tie\.Need-(\S+)[^\n]*", block, re.M)
+        if m:
+            goal = aliases[name]
+            if goal is None:
+                answers.append("-- LEFT\n" + block)
+                continue
+            lines = block.split("\n")
+            sig = next(k for k, l in enumerate(lines) if " : tie.Need" in l)
+            rest = "\n".join(lines[sig + 1 :])
+            if not re.match(r"(?:unfolding [^\n]*\n)*" + re.escape(name) + r"(?: \S+)* =", rest):
+                # the signature goes on over more lines
+                k = re.search(r"^(?:unfolding |" + re.escape(name) + r" )", rest, re.M)
+                rest = rest[k.start():] if k else rest
+            k = re.search(r"^" + re.escape(name) + r"((?: \S+)*) =", rest, re.M)
+            if not k:
+                say(f"{path}: no equation for {name}")
+                continue
+            binders = [b for b in k[1].split() if b != "κs"]
+            term = rest[k.end():]
+            if re.fullmatch(r"\s*search rules\s*", term):
+                continue
+            here.goal, here.first = goal, (binders[:1] or ["c"])[0]
+            term = here.body(term, binders[:1] or ["c"])
+            here.goal = None
+            term = as_record(term, fn.asked.get(goal) or (ensured(function) if goal.startswith("returns") else None))
+            answers.append("\n".join([*lines[:sig], f"pub {goal} : goal.{goal}"]) + "\n" + rest[: k.start()] + f"{goal} " + " ".join(binders) + " =" + term)
+            continue
+        # a declaration of the file's own
+        def place(m):
+            new = fn.places.get(plain(m[1]))
+            if new is None:
+                say(f"{path}: no place tie.{m[1]}")
+                return m[0]
+            places.add(new)
+            return new
+
+        typed = re.findall(r"\((" + WORD + r") : tie\.", block) + re.findall(r"\b(" + WORD + r") : tie\.[A-Z]", block)
+        k = re.search(r": tie\.([A-Z][\w'-]*)", block)
+        if k and plain(k[1]) in fn.places:
+            here.helpers[name] = fn.places[plain(k[1])]
+        block = re.sub(r"tie\.([A-Z][\w'-]*)((?: (?:invariant|decreases)-[^\s)]+)*)", place, block)
+        k = re.search(r"^" + re.escape(name) + r"((?: \S+)*) =", block, re.M)
+        contexts = set(typed) | ({b for b in k[1].split() if b == "c"} if k else set())
+        if contexts and places:
+            block = here.body(block, contexts)
+        answers.append(block)
+    folder = os.path.dirname(path)
+    renamed = {n: g for n, g in aliases.items() if g and n != g}
+    if renamed:
+        answers = [substitute(a, {n: g for n, g in renamed.items()}) if False else a for a in answers]
+    if invariants:
+        text = "\n\n".join(invariants)
+        used = [u for u in (only(u, text) for u in uses) if u]
+        write(os.path.join(folder, "Invariants.antt"), "\n".join([*head, *used, f"use {module}.Given as goal", "", text]))
+    if answers:
+        text = "\n\n".join(answers)
+        used = [u for u in (only(u, text) for u in uses) if u]
+        extra = [f"use {module}.Goals as goal"]
+        if places:
+            extra.append(f"use {module}.Goals.{{{', '.join(sorted(places))}}}")
+        write(os.path.join(folder, "Answers.antt"), "\n".join([*head, *used, *extra, "", text]))
+    os.remove(path)
+
+
+def only(use, text):
+    """A use line with those names that the text has."""
+    m = re.match(r"use ([^\s{]*)\.\{([^}]*)\}$", use)
+    if not m:
+        k = re.search(r" as (\S+)$", use)
+        return use if not k or re.search(r"(?<![\w'])" + re.escape(k[1]) + r"\.", text) else None
+    keep = []
+    for n in m[2].split(", "):
+        last = n.split(" as ")[-1].strip()
+        if "◌" in last:
+            parts = [p for p in re.split("◌", last) if p]
+            ok = all(p in text for p in parts)
+        else:
+            ok = re.search(r"(?<![\w'₀-])" + re.escape(last) + r"(?![\w'₀])", text)
+        if ok:
+            keep.append(n)
+    return f"use {m[1]}.{{{', '.join(keep)}}}" if keep else None
+
+
+def write(path, text):
+    with open(path, "w", encoding="utf-8") as f:
+        f.write(text.rstrip("\n") + "\n")
+
+
+def main():
+    names = json.load(open(sys.argv[1]))
+    crate = sys.argv[2]
+    wanted = set(sys.argv[3:])
+    said = []
+    for key, of in names.items():
+        if not key.endswith(".Lts") and ".Lts" not in key:
+            continue
+        library, rest = key.split(".", 1)
+        where = rest.rsplit(".Lts", 1)[0]
+        if wanted and where not in wanted:
+            continue
+        path = os.path.join("crates", crate, "proofs", *where.split("."), "Proof.antt")
+        if not os.path.exists(path):
+            continue
+        if "+" in where:
+            said.append(f"{path}: a cycle, by hand")
+            continue
+        module = library.replace("Rattle-", "Rattle.", 1)
+        module = module[: -len("-proofs")] + ".proofs." + where
+        turn(path, module, "::".join([crate, *where.split(".")]), Function(of), said.append)
+    print("\n".join(said))
+
+
+if __name__ == "__main__":
+    main()
