@@ -143,6 +143,11 @@ class Function:
         for typed in names["typed"]:
             for variable, step in typed:
                 self.known[plain(step)] = variable
+        self.arms = {}
+        for arm in names["arms"]:
+            for field, step, path in arm[2] if arm else []:
+                if path:
+                    self.arms[plain(step), tuple(path)] = f"{arm[0]}.{field}"
         self.pre = (names["pre"] or {}).get("fields")
         self.loops = [(loop[0], loop[1], changed) for loop, changed in zip(names["loops"], names["changed"])]
         self.settled = names["settled"]
@@ -185,6 +190,33 @@ class Turn:
             return "." + fields[int(m[1])] + rest[m.end():]
         return rest
 
+    def of_step(self, text, variable, step):
+        """A term in which a variable stands for a step: its clauses and arguments get their names."""
+        names = (self.fn.clauses.get(step) or {}).get("fields") or []
+        given = references(self.fn.callees[step]) if step in self.fn.callees else []
+
+        def named(fields):
+            return lambda m: m[1] + (fields[int(m[2])] if int(m[2]) < len(fields) else m[2])
+
+        v = r"(?<![.\w₀'-])(" + re.escape(variable)
+        text = re.sub(v + r"\.ensures\.)(\d+)(?!\w)", named(names), text)
+        text = re.sub(v + r"\.new\.)(\d+)(?!\w)", named(given), text)
+        if len(names) == 1:
+            text = re.sub(v + r"\.ensures)(?![.\w-])", lambda m: m[1] + "." + names[0], text)
+        return text
+
+    def arm(self, step, rest):
+        """What an arm calls a path below a step, and how long the path is."""
+        path, at, best = [], 0, None
+        for m in re.finditer(r"\.([\w-]+)", rest):
+            if m.start() != at:
+                break
+            path.append(m[1])
+            at = m.end()
+            if (step, tuple(path)) in self.fn.arms:
+                best = (self.fn.arms[step, tuple(path)], at)
+        return best
+
     def body(self, text, contexts):
         """A term with the flat names of today's contexts. `contexts` are the variables that stand for one."""
         contexts = set(contexts)
@@ -193,6 +225,11 @@ class Turn:
             if not found:
                 break
             contexts |= found
+        variables = "|".join(re.escape(c) for c in sorted(contexts, key=len, reverse=True))
+        for m in re.finditer(r"\blet (" + WORD + r") = (?:" + variables + r")(?:\.before)*\.(" + WORD + r") in", text):
+            step = plain(m[2])
+            if step in self.fn.steps:
+                text = self.of_step(text, m[1], step)
         out, i = [], 0
         path = re.compile(r"(?<![.\w₀'-])(" + "|".join(re.escape(c) for c in sorted(contexts, key=len, reverse=True)) + r")((?:\.before)*)(?:\.(" + WORD + r"))?(?![\w'₀-])")
         while True:
@@ -222,14 +259,20 @@ class Turn:
                 if k and self.fn.pre and int(k[1]) < len(self.fn.pre):
                     out.append("." + self.fn.pre[int(k[1])])
                     i += k.end()
+            elif (arm := self.arm(step, rest)) is not None:
+                out.append(f"{name}.{arm[0]}")
+                i += arm[1]
             elif step in self.fn.known and rest.startswith(".given"):
                 out.append(f"{name}.type_inv.{self.fn.known[step]}")
                 i += len(".given")
             elif step in self.fn.steps:
                 out.append(f"{name}.{self.fn.steps[step]}")
                 k = re.match(r"\.ensures\.(\d+)(?![\d\w])", rest)
-                names = self.fn.clauses.get(step)
-                if k and isinstance(names, list) and int(k[1]) < len(names) and names[int(k[1])]:
+                names = (self.fn.clauses.get(step) or {}).get("fields")
+                if names and len(names) == 1 and re.match(r"\.ensures(?![.\w-])", rest):
+                    out.append(".ensures." + names[0])
+                    i += len(".ensures")
+                elif k and names and int(k[1]) < len(names) and names[int(k[1])]:
                     out.append(".ensures." + names[int(k[1])])
                     i += k.end()
                 k = re.match(r"\.new\.(\d+)(?![\d\w])", rest)
@@ -299,11 +342,11 @@ def turn(path, module, function, fn, say):
             lines = block.split("\n")
             sig = next(k for k, l in enumerate(lines) if " : tie.Need" in l)
             rest = "\n".join(lines[sig + 1 :])
-            if not re.match(r"(?:unfolding [^\n]*\n)*" + re.escape(name) + r"(?: \S+)* =", rest):
+            if not re.match(r"(?:unfolding [^\n]*\n)*" + re.escape(name) + r"(?: \S+)*? =", rest):
                 # the signature goes on over more lines
                 k = re.search(r"^(?:unfolding |" + re.escape(name) + r" )", rest, re.M)
                 rest = rest[k.start():] if k else rest
-            k = re.search(r"^" + re.escape(name) + r"((?: \S+)*) =", rest, re.M)
+            k = re.search(r"^" + re.escape(name) + r"((?: \S+)*?) =", rest, re.M)
             if not k:
                 say(f"{path}: no equation for {name}")
                 continue
@@ -331,7 +374,7 @@ def turn(path, module, function, fn, say):
         if k and plain(k[1]) in fn.places:
             here.helpers[name] = fn.places[plain(k[1])]
         block = re.sub(r"tie\.([A-Z][\w'-]*)((?: (?:invariant|decreases)-[^\s)]+)*)", place, block)
-        k = re.search(r"^" + re.escape(name) + r"((?: \S+)*) =", block, re.M)
+        k = re.search(r"^" + re.escape(name) + r"((?: \S+)*?) =", block, re.M)
         contexts = set(typed) | ({b for b in k[1].split() if b == "c"} if k else set())
         if contexts and places:
             block = here.body(block, contexts)
