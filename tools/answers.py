@@ -61,6 +61,7 @@ def references(callee):
                 continue
             m = re.search(r"\bfn " + name + r"\(([^)]*)\)", text)
             if m:
+                MUTABLE[callee] = [a.split(":")[0].strip() for a in m[1].split(",") if re.match(r"\s*&(?:'\w+ )?mut ", a.partition(":")[2])]
                 return [a.split(":")[0].strip().removeprefix("mut ") for a in m[1].split(",") if re.match(r"\s*&", a.partition(":")[2])]
     return []
 
@@ -122,16 +123,28 @@ def as_record(term, fields):
     return term[:at] + " record { " + "; ".join(f"{f} = {x}" for f, x in zip(fields, found)) + " }"
 
 
+def changed_by(callee):
+    """The names of a function's parameters that are `&mut`, in their order."""
+    return [n for n in references(callee) if n in MUTABLE.get(callee, ())]
+
+
+MUTABLE = {}
+
+
 class Function:
     def __init__(self, names):
         self.needs = names["needs"]
         self.asked = {new: names["asked"].get(old) for old, new in names["needs"]}
         self.places = {}
+        self.tree = []
+        self.at = {}
         self.steps = {}
         self.clauses = {}
         self.callees = {}
         for place, new, clauses in zip(names["places"], names["places_by_name"], names["clauses"]):
-            old, _, step, callee, *_ = place
+            old, parent, step, callee, fields = place
+            self.at[plain(old)] = len(self.tree)
+            self.tree.append((self.at.get(plain(parent)) if parent else None, plain(step[0]) if step and step[0] else None, step[1] if step else None, dict(fields or [])))
             self.places[plain(old)] = new
             if step and step[0]:
                 self.steps[plain(step[0])] = step[1]
@@ -139,6 +152,7 @@ class Function:
                     self.callees[plain(step[0])] = callee
                 if clauses:
                     self.clauses[plain(step[0])] = clauses
+        self.asked_at = {new: self.at.get(plain(where[0])) for (old, new), where in zip(names["needs"], names["asked_at"])}
         self.known = {}
         for typed in names["typed"]:
             for variable, step in typed:
@@ -190,8 +204,8 @@ class Turn:
             return "." + fields[int(m[1])] + rest[m.end():]
         return rest
 
-    def of_step(self, text, variable, step):
-        """A term in which a variable stands for a step: its clauses and arguments get their names."""
+    def of_step(self, text, variable, step, ensures):
+        """A term in which a variable stands for a step, or for what it ensures: the clauses and arguments get their names."""
         names = (self.fn.clauses.get(step) or {}).get("fields") or []
         given = references(self.fn.callees[step]) if step in self.fn.callees else []
 
@@ -199,6 +213,8 @@ class Turn:
             return lambda m: m[1] + (fields[int(m[2])] if int(m[2]) < len(fields) else m[2])
 
         v = r"(?<![.\w₀'-])(" + re.escape(variable)
+        if ensures:
+            return re.sub(v + r"\.)(\d+)(?!\w)", named(names), text) if len(names) > 1 else text
         text = re.sub(v + r"\.ensures\.)(\d+)(?!\w)", named(names), text)
         text = re.sub(v + r"\.new\.)(\d+)(?!\w)", named(given), text)
         if len(names) == 1:
@@ -217,21 +233,41 @@ class Turn:
                 best = (self.fn.arms[step, tuple(path)], at)
         return best
 
+    def up(self, place, times):
+        while times and place is not None:
+            place = self.fn.tree[place][0]
+            times -= 1
+        return place
+
+    def step_at(self, place, step):
+        """The place that has a step, at or above a place."""
+        at = place
+        while at is not None:
+            if self.fn.tree[at][1] == step:
+                return at
+            at = self.fn.tree[at][0]
+        for at, of in enumerate(self.fn.tree):
+            if of[1] == step:
+                return at
+        return None
+
     def body(self, text, contexts):
-        """A term with the flat names of today's contexts. `contexts` are the variables that stand for one."""
-        contexts = set(contexts)
+        """A term with the flat names of today's contexts. `contexts` gives the variables that stand for one, and the place of each."""
+        contexts = dict(contexts)
+        text = text.replace(".type-inv", ".type_inv")
         while True:
-            found = {m[1] for m in re.finditer(r"\blet (" + WORD + r") = (" + WORD + r")((?:\.before)*) in", text) if m[2] in contexts} - contexts
+            known = "|".join(re.escape(c) for c in contexts)
+            found = {m[1]: self.up(contexts[m[2]], m[3].count(".before")) for m in re.finditer(r"\blet (" + WORD + r") = (" + known + r")((?:\.before)*) in", text) if m[1] not in contexts}
             if not found:
                 break
-            contexts |= found
+            contexts.update(found)
         variables = "|".join(re.escape(c) for c in sorted(contexts, key=len, reverse=True))
-        for m in re.finditer(r"\blet (" + WORD + r") = (?:" + variables + r")(?:\.before)*\.(" + WORD + r") in", text):
+        for m in re.finditer(r"\blet (" + WORD + r") = (?:" + variables + r")(?:\.before)*\.(" + WORD + r")(\.ensures)? in", text):
             step = plain(m[2])
             if step in self.fn.steps:
-                text = self.of_step(text, m[1], step)
+                text = self.of_step(text, m[1], step, bool(m[3]))
         out, i = [], 0
-        path = re.compile(r"(?<![.\w₀'-])(" + "|".join(re.escape(c) for c in sorted(contexts, key=len, reverse=True)) + r")((?:\.before)*)(?:\.(" + WORD + r"))?(?![\w'₀-])")
+        path = re.compile(r"(?<![.\w₀'-])(" + variables + r")((?:\.before)*)(?:\.(" + WORD + r"))?(?![\w'₀-])")
         while True:
             m = path.search(text, i)
             if not m:
@@ -239,6 +275,7 @@ class Turn:
                 break
             out.append(text[i : m.start()])
             name, field = m[1], m[3]
+            here = self.up(contexts[name], m[2].count(".before"))
             i = m.end()
             if field is None:
                 before = re.search(r"(" + WORD + r") \(?$", text[: m.start()])
@@ -247,12 +284,14 @@ class Turn:
                 if place and self.goal:
                     out.append(f"(goal.at.{self.goal} {self.first}).{place}")
                 else:
-                    out.append(name if alias or not m[2] else name + "⟦" + m[2] + "⟧")
+                    out.append(name if alias or not m[2] else name + m[2])
+                    if m[2] and not alias:
+                        self.say(f"{self.path}: {name}{m[2]} is passed to {before[1] if before else '?'}")
                 continue
             rest = text[i:]
             step = plain(field)
-            if field in ("args", "ranges", "type-inv", "type_inv"):
-                out.append(f"{name}.{field.replace('-', '_')}")
+            if field in ("args", "ranges", "type_inv", "lifetimes"):
+                out.append(f"{name}.{field}")
             elif field == "requires":
                 out.append(f"{name}.requires")
                 k = re.match(r"\.(\d+)(?![\d\w])", rest)
@@ -265,8 +304,14 @@ class Turn:
             elif step in self.fn.known and rest.startswith(".given"):
                 out.append(f"{name}.type_inv.{self.fn.known[step]}")
                 i += len(".given")
-            elif step in self.fn.steps:
-                out.append(f"{name}.{self.fn.steps[step]}")
+            elif (at := self.step_at(here, step)) is not None:
+                _, _, new, fields = self.fn.tree[at]
+                out.append(f"{name}.{new}")
+                k = re.match(r"\.(\w+)(?![\w-])", rest)
+                if k and k[1] in fields:
+                    out.append("." + fields[k[1]])
+                    i += k.end()
+                    continue
                 k = re.match(r"\.ensures\.(\d+)(?![\d\w])", rest)
                 names = (self.fn.clauses.get(step) or {}).get("fields")
                 if names and len(names) == 1 and re.match(r"\.ensures(?![.\w-])", rest):
@@ -275,15 +320,21 @@ class Turn:
                 elif k and names and int(k[1]) < len(names) and names[int(k[1])]:
                     out.append(".ensures." + names[int(k[1])])
                     i += k.end()
-                k = re.match(r"\.new\.(\d+)(?![\d\w])", rest)
-                given = references(self.fn.callees[step]) if k and step in self.fn.callees else []
-                if k and int(k[1]) < len(given):
-                    out.append(".new." + given[int(k[1])])
+                k = re.match(r"\.(new|auto)\.(\d+)(?![\d\w])", rest)
+                given = []
+                if k and step in self.fn.callees:
+                    given = references(self.fn.callees[step])
+                    if k[1] == "auto":
+                        given = changed_by(self.fn.callees[step])
+                if k and int(k[2]) < len(given):
+                    out.append(f".{k[1]}." + given[int(k[2])])
                     i += k.end()
             else:
                 out.append(f"{name}.{field}")
                 self.say(f"{self.path}: no step for {name}{m[2]}.{field}")
-        return "".join(out)
+        text = "".join(out)
+        one = r"(?:\([^()]*(?:\([^()]*\)[^()]*)*\)|[^\s()]+)"
+        return re.sub(r"\b(?:ltb|leb|eqb)-(?:true|false) " + one + " " + one + r" ((?:" + variables + r")\.[^\s(),;.]+\.(?:true|false))-raw\b", r"\1", text)
 
 
 def invariant_vars(fn, loop):
@@ -355,7 +406,7 @@ def turn(path, module, function, fn, say):
             if re.fullmatch(r"\s*search rules\s*", term):
                 continue
             here.goal, here.first = goal, (binders[:1] or ["c"])[0]
-            term = here.body(term, binders[:1] or ["c"])
+            term = here.body(term, {here.first: fn.asked_at.get(goal)})
             here.goal = None
             term = as_record(term, fn.asked.get(goal) or (ensured(function) if goal.startswith("returns") else None))
             answers.append("\n".join([*lines[:sig], f"pub {goal} : goal.{goal}"]) + "\n" + rest[: k.start()] + f"{goal} " + " ".join(binders) + " =" + term)
@@ -369,15 +420,17 @@ def turn(path, module, function, fn, say):
             places.add(new)
             return new
 
-        typed = re.findall(r"\((" + WORD + r") : tie\.", block) + re.findall(r"\b(" + WORD + r") : tie\.[A-Z]", block)
+        typed = {m[1]: fn.at.get(plain(m[2])) for m in re.finditer(r"\(?\b(" + WORD + r") : tie\.([A-Z][\w'-]*)", block)}
         k = re.search(r": tie\.([A-Z][\w'-]*)", block)
         if k and plain(k[1]) in fn.places:
             here.helpers[name] = fn.places[plain(k[1])]
+            typed.setdefault("c", fn.at[plain(k[1])])
+            e = re.search(r"^" + re.escape(name) + r"((?: \S+)*?) =", block, re.M)
+            if e and e[1].split():
+                typed.setdefault(e[1].split()[0], fn.at[plain(k[1])])
         block = re.sub(r"tie\.([A-Z][\w'-]*)((?: (?:invariant|decreases)-[^\s)]+)*)", place, block)
-        k = re.search(r"^" + re.escape(name) + r"((?: \S+)*?) =", block, re.M)
-        contexts = set(typed) | ({b for b in k[1].split() if b == "c"} if k else set())
-        if contexts and places:
-            block = here.body(block, contexts)
+        if typed:
+            block = here.body(block, typed)
         answers.append(block)
     folder = os.path.dirname(path)
     renamed = {n: g for n, g in aliases.items() if g and n != g}

@@ -1,0 +1,10 @@
+-- `octets_put::put_big_endian` meets its contract: at each turn the last octets of the number are stored.
+use Prim.Native.Nat.{◌-◌}
+use Rattle.octets_put.proofs.Digits.{NumberDown}
+use Rattle.octets_put.proofs.put_big_endian.Given as goal
+
+abbrev pub invariant-loop-k : goal.invariant-loop-k
+invariant-loop-k l = NumberDown l.initial.out l.at l.n l.v l.out l.rest l.k
+
+abbrev pub decreases-loop-k : goal.decreases-loop-k
+decreases-loop-k l = l.n - l.k
