@@ -1,7 +1,7 @@
 // The C library. Each function passes its arguments to the Rattle function that does the work. It returns the refusal, 0 if the call is
 // accepted, and stores the rest of the result through the pointers that the caller passes. include/crudvim.h has the C prototypes.
 #![tactic(auto)]
-ghost use Rattle.std.specs.Prelude.{◌≡◌, [], length as length-of};
+ghost use Rattle.std.specs.Prelude.{◌≡◌, length};
 ghost use Rattle.message_calls.specs.Calls.{check_octets, short_octets, shorten_octets, shorten_buffer, lookup_octets, lookup_last_octets};
 ghost use Rattle.message_frame.specs.Frame.{frame_read, frame_written, frame_stored};
 ghost use Rattle.tib_msg.specs.CheckAndField.{check as tibmsg-check, field as tibmsg-field};
@@ -10,8 +10,6 @@ ghost use Rattle.tib_qform.specs.CheckAndField.{check_octets as qform-check, fie
 ghost use Rattle.tib_real.specs.FromOctets.{with_bits};
 ghost use Rattle.tib_real.specs.InFractions.{fractions_of};
 ghost use Rattle.tib_decimals.specs.InDecimals.{decimals_of};
-ghost use Rattle.writer_state.specs.Call.{put_uint, put_int, put_octets, open_field, close_field};
-ghost use Rattle.writer_words.specs.Words.{start_words, call_words, call_buffer, finish_words};
 ghost use Rattle.crudvim.specs.Fields.{flag as flag-of, flagged, parts, hint as hint_of};
 
 // Checks a message.
@@ -47,14 +45,14 @@ pub extern "C" fn crudvim_shorten(
     message: &[u8],
     out: &mut [u8],
     place: &mut u64,
-    length: &mut u64,
+    len: &mut u64,
 ) -> u64
-    ensures out_value { shorten_octets table.now revision number message.now out.old ≡ record { refusal = result; place = place.new; length = length.new } }
+    ensures out_value { shorten_octets table.now revision number message.now out.old ≡ record { refusal = result; place = place.new; length = len.new } }
     ensures out_after { out.new ≡ shorten_buffer table.now revision number message.now out.old }
 {
     let shortened = message_calls::shorten(table, revision, number, message, out);
     *place = shortened.place;
-    *length = shortened.length;
+    *len = shortened.length;
     shortened.refusal
 }
 
@@ -81,14 +79,14 @@ pub extern "C" fn crudvim_frame_write(
     message: &[u8],
     out: &mut [u8],
     place: &mut u64,
-    length: &mut u64,
+    len: &mut u64,
 ) -> u64
-    ensures out_value { frame_written message.now (length-of out.old) ≡ record { refusal = result; place = place.new; length = length.new } }
+    ensures out_value { frame_written message.now (length out.old) ≡ record { refusal = result; place = place.new; length = len.new } }
     ensures out_after { out.new ≡ frame_stored message.now out.old }
 {
     let written = message_frame::frame_write(message, out);
     *place = written.place;
-    *length = written.length;
+    *len = written.length;
     written.refusal
 }
 
@@ -106,9 +104,9 @@ pub extern "C" fn crudvim_lookup(
     value: &mut u64,
     signed_value: &mut i64,
     start: &mut u64,
-    length: &mut u64,
+    len: &mut u64,
 ) -> u64
-    ensures { lookup_octets table.now revision number message.now tag k ≡ record { refusal = result; place = place.new; kind = kind.new; value = value.new; signed = signed_value.new; start = start.new; length = length.new } }
+    ensures { lookup_octets table.now revision number message.now tag k ≡ record { refusal = result; place = place.new; kind = kind.new; value = value.new; signed = signed_value.new; start = start.new; length = len.new } }
 {
     let found = message_calls::lookup(table, revision, number, message, tag, k);
     *place = found.place;
@@ -117,7 +115,7 @@ pub extern "C" fn crudvim_lookup(
     let signed = found.signed;
     *signed_value = signed;
     *start = found.start;
-    *length = found.length;
+    *len = found.length;
     found.refusal
 }
 
@@ -134,9 +132,9 @@ pub extern "C" fn crudvim_lookup_last(
     value: &mut u64,
     signed_value: &mut i64,
     start: &mut u64,
-    length: &mut u64,
+    len: &mut u64,
 ) -> u64
-    ensures { lookup_last_octets table.now revision number message.now tag ≡ record { refusal = result; place = place.new; kind = kind.new; value = value.new; signed = signed_value.new; start = start.new; length = length.new } }
+    ensures { lookup_last_octets table.now revision number message.now tag ≡ record { refusal = result; place = place.new; kind = kind.new; value = value.new; signed = signed_value.new; start = start.new; length = len.new } }
 {
     let last = message_calls::lookup_last(table, revision, number, message, tag);
     *place = last.place;
@@ -145,7 +143,7 @@ pub extern "C" fn crudvim_lookup_last(
     let signed = last.signed;
     *signed_value = signed;
     *start = last.start;
-    *length = last.length;
+    *len = last.length;
     last.refusal
 }
 
@@ -322,128 +320,4 @@ pub extern "C" fn crudvim_decimals(
     let nearest = decimals.value;
     *whole = nearest;
     decimals.refusal
-}
-
-// Starts a message at the end of a buffer.
-#[unsafe(no_mangle)]
-pub extern "C" fn crudvim_start(
-    table: &[u8],
-    revision: u64,
-    number: u64,
-    buffer: &[u8],
-    state: &mut [u64],
-    place: &mut u64,
-) -> u64
-    ensures { start_words table.now revision number (length-of buffer.now) state.old ≡ record { refusal = result; place = place.new; array = state.new } }
-{
-    if state.len() != writer_words::STATE_WORDS {
-        writer_words::clear(state);
-        *place = 0;
-        return reading::STATE;
-    }
-    let started = writer_state::start(table, revision, number, buffer);
-    writer_words::store(state, started.state);
-    *place = started.place;
-    started.refusal
-}
-
-// Puts a uint field before the fields that were put earlier.
-#[unsafe(no_mangle)]
-pub extern "C" fn crudvim_put_uint(
-    table: &[u8],
-    state: &mut [u64],
-    tag: u64,
-    value: u64,
-    buffer: &mut [u8],
-    place: &mut u64,
-) -> u64
-    ensures value_value { call_words table.now state.old buffer.old (put_uint tag value) ≡ record { refusal = result; place = place.new; array = state.new } }
-    ensures buffer_after { buffer.new ≡ call_buffer table.now state.old buffer.old (put_uint tag value) }
-{
-    let given = writer_words::state_of(state);
-    let put_uint = writer_put::put_uint(table, given, tag, value, buffer);
-    writer_words::store(state, put_uint.state);
-    *place = put_uint.place;
-    put_uint.refusal
-}
-
-// Puts an int field.
-#[unsafe(no_mangle)]
-pub extern "C" fn crudvim_put_int(
-    table: &[u8],
-    state: &mut [u64],
-    tag: u64,
-    value: i64,
-    buffer: &mut [u8],
-    place: &mut u64,
-) -> u64
-    ensures value_value { call_words table.now state.old buffer.old (put_int tag value) ≡ record { refusal = result; place = place.new; array = state.new } }
-    ensures buffer_after { buffer.new ≡ call_buffer table.now state.old buffer.old (put_int tag value) }
-{
-    let given = writer_words::state_of(state);
-    let put_int = writer_put::put_int(table, given, tag, value, buffer);
-    writer_words::store(state, put_int.state);
-    *place = put_int.place;
-    put_int.refusal
-}
-
-// Puts a string or a text field.
-#[unsafe(no_mangle)]
-pub extern "C" fn crudvim_put_octets(
-    table: &[u8],
-    state: &mut [u64],
-    tag: u64,
-    octets: &[u8],
-    buffer: &mut [u8],
-    place: &mut u64,
-) -> u64
-    ensures octets_value { call_words table.now state.old buffer.old (put_octets tag octets.now) ≡ record { refusal = result; place = place.new; array = state.new } }
-    ensures buffer_after { buffer.new ≡ call_buffer table.now state.old buffer.old (put_octets tag octets.now) }
-{
-    let given = writer_words::state_of(state);
-    let put_octets = writer_put::put_octets(table, given, tag, octets, buffer);
-    writer_words::store(state, put_octets.state);
-    *place = put_octets.place;
-    put_octets.refusal
-}
-
-// Opens a message field.
-#[unsafe(no_mangle)]
-pub extern "C" fn crudvim_open(table: &[u8], state: &mut [u64], tag: u64, place: &mut u64) -> u64
-    ensures { call_words table.now state.old [] (open_field tag) ≡ record { refusal = result; place = place.new; array = state.new } }
-{
-    let given = writer_words::state_of(state);
-    let opened = writer_nesting::open_field(table, given, tag);
-    writer_words::store(state, opened.state);
-    *place = opened.place;
-    opened.refusal
-}
-
-// Closes the innermost open message field.
-#[unsafe(no_mangle)]
-pub extern "C" fn crudvim_close(
-    table: &[u8],
-    state: &mut [u64],
-    buffer: &mut [u8],
-    place: &mut u64,
-) -> u64
-    ensures close_field_value { call_words table.now state.old buffer.old close_field ≡ record { refusal = result; place = place.new; array = state.new } }
-    ensures buffer_after { buffer.new ≡ call_buffer table.now state.old buffer.old close_field }
-{
-    let given = writer_words::state_of(state);
-    let closed = writer_nesting::close_field(table, given, buffer);
-    writer_words::store(state, closed.state);
-    *place = closed.place;
-    closed.refusal
-}
-
-// Finishes a message: says where it starts.
-#[unsafe(no_mangle)]
-pub extern "C" fn crudvim_finish(state: &[u64], place: &mut u64, start: &mut u64) -> u64
-    ensures { finish_words state.now ≡ record { refusal = result; place = place.new; start = start.new } }
-{
-    let finished = writer_state::finish(writer_words::state_of(state));
-    *place = finished.place;
-    *start = finished.start as u64;
-    finished.refusal
 }

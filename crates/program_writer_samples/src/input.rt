@@ -34,17 +34,3 @@ pub fn signed(s: &[u8]) -> i64 {
     }
     !above(n - 1)
 }
-
-// Returns the first 1,024 octets, and zeros after them where there are fewer.
-pub fn front(s: &[u8]) -> [u8; 1024] {
-    let mut xs = [0u8; 1024];
-    let mut i: usize = 0;
-    while i < 1024 {
-        if s.len() <= i {
-            return xs;
-        }
-        xs[i] = s[i];
-        i += 1;
-    }
-    xs
-}

@@ -1,8 +1,7 @@
-// Runs the writer on the script of standard input and reads back what it wrote. A line is a call, and its result is printed after it. Each call
-// that takes a table runs twice, under the loaded table and under its octets; a difference between the two is printed too.
+// Runs the writer on the script of standard input and reads back what it wrote. A line is a call, and its result is printed after it.
 // program_lines describes how numbers and octets are written; an int may have a minus. A capital letter sets something, and the letters from
 // w on read what is written.
-//   T OCTETS            load a field table           C COUNT             give the table another count, and its octets one more
+//   T OCTETS            load a field table           C COUNT             give the table another count
 //   B LENGTH            lend so much of the buffer   s REVISION NUMBER   start
 //   u TAG NUMBER        put a uint                   i TAG NUMBER        put an int
 //   o TAG OCTETS        put octets                   p TAG               open a message field
@@ -10,11 +9,10 @@
 //   w                   read the whole message       x TAG K             look up the k-th field
 //   y TAG               look up the last             z TAG K NUMBER      look it up and read the message that it holds
 //   L S O R NUMBER      change the state's length, start, count of open fields or revision
-//   N K M G LEVEL VALUE change the message number, the mask, the mark or the tag of a level
+//   N K M LEVEL NUMBER  change the message number, the mask or the mark of a level
 //   #                   a heading
 #![tactic(auto)]
 mod back;
-mod both;
 mod compare;
 mod input;
 mod print;
@@ -31,8 +29,7 @@ fn script(s: &[u8]) {
             return;
         }
         let before = buffer;
-        let mut copy = buffer;
-        r = run::line(&s[at..end], r, &before, &mut buffer, &mut copy);
+        r = run::line(&s[at..end], r, &before, &mut buffer);
         at = end + 1;
     }
 }

@@ -1,15 +1,13 @@
 // Runs one line of the script and prints its result.
-use crate::{back, both, compare, input, print, state};
+use crate::{back, compare, input, print, state};
 use table::Table;
 use writer_state::{State, Written};
 
-// What the lines so far have set: the table, its octets and how many they are, the state, how much of the buffer is lent, and the message to
-// read, with its revision, its number and its span in the buffer.
+// What the lines so far have set: the table, the state, how much of the buffer is lent, and the message to read, with its revision, its number
+// and its span in the buffer.
 #[derive(Drop)]
 pub struct Run {
     pub table: Table,
-    pub octets: [u8; 1024],
-    pub size: usize,
     pub state: State,
     pub lent: usize,
     pub revision: u64,
@@ -24,8 +22,6 @@ pub fn fresh() -> Run {
             count: 0,
             words: [0u64; 64],
         },
-        octets: [0u8; 1024],
-        size: 0,
         state: state::nothing(),
         lent: 0,
         revision: 0,
@@ -33,6 +29,30 @@ pub fn fresh() -> Run {
         from: 0,
         to: 0,
     }
+}
+
+fn octets(t: Table, s: State, tag: u64, word: &[u8], out: &mut [u8]) -> Written {
+    let mut xs = [0u8; 65546];
+    let n = program_lines::octets_in(word, &mut xs);
+    writer_put::put_octets(t, s, tag, program_lines::front(&xs, n), out)
+}
+
+fn call(what: u8, line: &[u8], t: Table, s: State, out: &mut [u8]) -> Written {
+    let tag = input::number(line, 1);
+    let value = program_lines::word(line, 2);
+    if what == b'u' {
+        return writer_put::put_uint(t, s, tag, program_lines::number_in(value), out);
+    }
+    if what == b'i' {
+        return writer_put::put_int(t, s, tag, input::signed(value), out);
+    }
+    if what == b'o' {
+        return octets(t, s, tag, value, out);
+    }
+    if what == b'p' {
+        return writer_nesting::open_field(t, s, tag);
+    }
+    writer_nesting::close_field(t, s, out)
 }
 
 // Prints the octets that a call stored, the place of the first, and whether the other octets are unchanged.
@@ -60,34 +80,16 @@ fn answered(w: Written, given: State, before: &[u8], now: &[u8]) {
     print::either(same, b", buffer kept", b", buffer changed");
 }
 
-// Runs a put, an open or a close on the lent part of the buffer, under the loaded table.
-fn under_table(what: u8, line: &[u8], r: Run, before: &[u8], buffer: &mut [u8]) -> Written {
+// Runs a put, an open or a close on the lent part of the buffer.
+fn calls(what: u8, line: &[u8], r: Run, before: &[u8], buffer: &mut [u8]) -> Run {
     let n = r.lent;
     if buffer.len() < n {
-        return writer_state::refused(0, 0, r.state);
+        return r;
     }
     let given = r.state;
-    let w = both::call_loaded(what, line, r.table, given, &mut buffer[0..n]);
+    let w = call(what, line, r.table, given, &mut buffer[0..n]);
     let was = compare::part(before, 0, n);
     answered(w, given, was, compare::part(buffer, 0, n));
-    w
-}
-
-// Runs it on the lent part of another buffer, under the octets of the table.
-fn under_octets(what: u8, line: &[u8], r: Run, buffer: &mut [u8]) -> Written {
-    let n = r.lent;
-    if buffer.len() < n {
-        return writer_state::refused(0, 0, r.state);
-    }
-    let table = compare::part(&r.octets, 0, r.size);
-    both::call(what, line, table, r.state, &mut buffer[0..n])
-}
-
-// Runs a put, an open or a close both ways. `copy` has the same octets as the buffer.
-fn calls(what: u8, line: &[u8], r: Run, before: &[u8], buffer: &mut [u8], copy: &mut [u8]) -> Run {
-    let w = under_table(what, line, r, before, buffer);
-    both::differ(w, under_octets(what, line, r, copy));
-    both::differ_buffers(buffer, copy);
     let after = w.state;
     let mut next = r;
     next.state = after;
@@ -97,9 +99,7 @@ fn calls(what: u8, line: &[u8], r: Run, before: &[u8], buffer: &mut [u8], copy: 
 // Runs a start. A refused start returns a state of zeros.
 fn starts(line: &[u8], r: Run, buffer: &[u8]) -> Run {
     let out = compare::part(buffer, 0, r.lent);
-    let revision = input::number(line, 1);
-    let number = input::number(line, 2);
-    let w = writer_state::start_loaded(r.table, revision, number, out);
+    let w = writer_state::start(r.table, input::number(line, 1), input::number(line, 2), out);
     let after = w.state;
     if w.refusal != 0 {
         program_lines::refusal(w.refusal, w.place);
@@ -108,8 +108,6 @@ fn starts(line: &[u8], r: Run, buffer: &[u8]) -> Run {
     } else {
         print::named(b"at ", after.start as u64);
     }
-    let table = compare::part(&r.octets, 0, r.size);
-    both::differ(w, writer_state::start(table, revision, number, out));
     let mut next = r;
     next.state = after;
     next
@@ -135,30 +133,36 @@ fn finishes(r: Run) -> Run {
     next
 }
 
-// Returns the table of octets and prints how many entries it has. A table that is refused becomes a value that every call refuses.
-fn loaded(s: &[u8]) -> Table {
-    let l = table_index::load(s);
-    let mut t = l.table;
-    if l.refusal != 0 {
-        program_lines::refusal(l.refusal, l.place);
-        t.count = 65;
-        return t;
-    }
+fn loaded(word: &[u8]) -> Table {
+    let mut xs = [0u8; 65546];
+    let n = program_lines::octets_in(word, &mut xs);
+    let l = table_index::load(program_lines::front(&xs, n));
+    let t = l.table;
     print::named(b"entries ", t.count as u64);
     t
 }
 
-// Loads a table and keeps its octets.
-fn loads(word: &[u8], r: Run) -> Run {
-    let mut xs = [0u8; 65546];
-    let n = program_lines::octets_in(word, &mut xs);
-    let s = program_lines::front(&xs, n);
-    let t = loaded(s);
-    let kept = input::front(s);
+// Runs a line that sets something: a table, how much of the buffer is lent, or a part of the state.
+fn sets(what: u8, line: &[u8], r: Run) -> Run {
     let mut next = r;
-    next.table = t;
-    next.octets = kept;
-    next.size = s.len();
+    if what == b'T' {
+        let t = loaded(program_lines::word(line, 1));
+        next.table = t;
+        return next;
+    }
+    program_lines::text(b"set");
+    if what == b'C' {
+        let mut t = r.table;
+        t.count = input::number(line, 1) as usize;
+        next.table = t;
+        return next;
+    }
+    if what == b'B' {
+        next.lent = input::number(line, 1) as usize;
+        return next;
+    }
+    let s = state::changed(what, line, r.state);
+    next.state = s;
     next
 }
 
@@ -171,29 +175,6 @@ fn sum(a: usize, b: usize) -> usize {
         return 65546;
     }
     a + b
-}
-
-// Runs a line that sets something: a table, how much of the buffer is lent, or a part of the state.
-fn sets(what: u8, line: &[u8], r: Run) -> Run {
-    if what == b'T' {
-        return loads(program_lines::word(line, 1), r);
-    }
-    let mut next = r;
-    program_lines::text(b"set");
-    if what == b'C' {
-        let mut t = r.table;
-        t.count = input::number(line, 1) as usize;
-        next.table = t;
-        next.size = sum(r.size, 1);
-        return next;
-    }
-    if what == b'B' {
-        next.lent = input::number(line, 1) as usize;
-        return next;
-    }
-    let s = state::changed(what, line, r.state);
-    next.state = s;
-    next
 }
 
 // Runs a line that reads what is written.
@@ -224,7 +205,7 @@ fn reads(what: u8, line: &[u8], r: Run, buffer: &[u8]) -> Run {
     next
 }
 
-fn answer(what: u8, line: &[u8], r: Run, before: &[u8], buffer: &mut [u8], copy: &mut [u8]) -> Run {
+fn answer(what: u8, line: &[u8], r: Run, before: &[u8], buffer: &mut [u8]) -> Run {
     if what < b'a' {
         return sets(what, line, r);
     }
@@ -237,17 +218,11 @@ fn answer(what: u8, line: &[u8], r: Run, before: &[u8], buffer: &mut [u8], copy:
     if what == b'f' {
         return finishes(r);
     }
-    calls(what, line, r, before, buffer, copy)
+    calls(what, line, r, before, buffer)
 }
 
-// Prints a line, runs it and prints its result. `before` and `copy` have the same octets as the buffer.
-pub fn line(
-    s: &[u8],
-    r: Run,
-    before: &[u8; 65546],
-    buffer: &mut [u8; 65546],
-    copy: &mut [u8; 65546],
-) -> Run {
+// Prints a line, runs it and prints its result. `before` has the same octets as the buffer.
+pub fn line(s: &[u8], r: Run, before: &[u8; 65546], buffer: &mut [u8; 65546]) -> Run {
     program_lines::text(s);
     let what = input::letter(s);
     if what == b'#' {
@@ -255,7 +230,7 @@ pub fn line(
         return r;
     }
     program_lines::text(b": ");
-    let next = answer(what, s, r, before, buffer, copy);
+    let next = answer(what, s, r, before, buffer);
     program_lines::text(b"\n");
     next
 }

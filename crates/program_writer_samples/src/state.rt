@@ -11,8 +11,8 @@ pub fn nothing() -> State {
         revision: 0,
         numbers: [0u64; 8],
         masks: [0u64; 8],
-        marks: [0u64; 7],
-        tags: [0u64; 7],
+        marks: [0usize; 7],
+        tags: [0u16; 7],
     }
 }
 
@@ -44,7 +44,7 @@ pub fn same(a: State, b: State) -> bool {
     same_levels(a, b)
 }
 
-// Returns a state with another message number, mask, mark or tag at a level.
+// Returns a state with another message number, another mask or another mark at a level.
 fn at_level(what: u8, k: u64, v: u64, s: State) -> State {
     let mut next = s;
     if 7 < k {
@@ -59,14 +59,9 @@ fn at_level(what: u8, k: u64, v: u64, s: State) -> State {
         next.masks[i] = v;
         return next;
     }
-    if 6 < i {
-        return s;
+    if i < 7 {
+        next.marks[i] = v as usize;
     }
-    if what == b'G' {
-        next.tags[i] = v;
-        return next;
-    }
-    next.marks[i] = v;
     next
 }
 

@@ -17,7 +17,7 @@ use Rattle.message.specs.Tree.{Tree, end, leaf, Value, uint, int}
 use Rattle.message.specs.Shortest.{field, shortest}
 use Rattle.writer_state.specs.Calls.{call_result, buffer_after, meant, noted, of_octets, readable, started, put, put_buffer, put_refusal, opening, closing, close_buffer, closing_part}
 use Rattle.writer_state.specs.declared.State.{State}
-use Rattle.writer_state.proofs.Conditions.{start_met, put_met, open_met, close_met}
+use Rattle.writer_state.proofs.Conditions.{start_met, put_met, open_met, close_room}
 use Rattle.message.proofs.Fields.{field_length}
 use Rattle.writer_state.proofs.Tags.{narrow}
 use Rattle.writer_laws.specs.Given.{Given, message, opened, on_fields, closed, tags_of, tags_given, open_fields, innermost}
@@ -88,11 +88,11 @@ module _ (t : Table) (revision number : ℕ) (lent : List ℕ) (s : State) (d : 
       → Reached t revision number lent (closing t s (length d)).state (close_buffer t s d) (closed g)
   unfolding closing close_buffer call_result buffer_after closed open_fields
   reached_close (message w) r e =
-      let h = (close_met t s (length d) e).some_open in
+      let h = (close_room t s (length d) e).0.some_open in
       let c = r.count in
       absurd (omega arith)
   reached_close (opened tag w around) r e =
-      rw e (reached_outer t revision number lent s d tag w around r (closing_part s) (closing_part_lem t revision number lent s d tag w around r) (close_met t s (length d) e).room)
+      rw e (reached_outer t revision number lent s d tag w around r (closing_part s) (closing_part_lem t revision number lent s d tag w around r) (close_room t s (length d) e).1)
 
   -- An accepted call keeps what holds of the state and the buffer.
   reached_next : (g : Given) → Reached t revision number lent s d g → (c : Call) → InRange c → (answer t s d c).refusal ≡ 0

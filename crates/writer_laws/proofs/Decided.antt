@@ -7,10 +7,8 @@ use lib.ListN.{length}
 use lib.Dec.{leb, eqb}
 use borrow.Author.Tests.{eq-eqb}
 use Rattle.table.specs.declared.Table.{Table}
-use Rattle.writer_state.specs.Sound.{sound, usable}
-use Rattle.writer_state.specs.Call.{Call, put_uint, put_int, put_octets, open_field, close_field}
-use Rattle.writer_state.specs.ByOctets.{usable_for}
-use Rattle.writer_state.specs.Calls.{or_refuse, noted, put_refusal, open_refusal, closing_part, close_rest, close_refusal, finish_refusal}
+use Rattle.writer_state.specs.Sound.{sound}
+use Rattle.writer_state.specs.Calls.{or_refuse, noted, put_refusal, open_refusal, closing_part, close_early, close_refusal, finish_refusal}
 use Rattle.writer_state.specs.declared.State.{State}
 use Rattle.writer_laws.specs.Given.{Given}
 use Rattle.writer_laws.proofs.Reached.{Reached, reached_sound}
@@ -22,19 +20,10 @@ module _ (t : Table) (revision number : ℕ) (lent : List ℕ) (s : State) (d : 
   good_state : sound s ≡ true
   good_state = reached_sound t revision number lent s d g r
 
-  -- Every call can use the state.
-  pub reached_usable : (c : Call) → usable_for s d c ≡ true
-  unfolding usable_for usable
-  reached_usable (put_uint tag v) = rw (same_size, good_state) refl
-  reached_usable (put_int tag z) = rw (same_size, good_state) refl
-  reached_usable (put_octets tag xs) = rw (same_size, good_state) refl
-  reached_usable (open_field tag) = good_state
-  reached_usable close_field = rw (same_size, good_state) refl
-
   pub put_decided : (tag : ℕ) (agrees reads : Bool) (size : ℕ)
       → put_refusal t s tag (length d) agrees reads size
       ≡ or_refuse agrees 8 (or_refuse (not (noted t s tag)) 20 (or_refuse reads 7 (or_refuse (leb size s.start) 9 0)))
-  unfolding put_refusal or_refuse usable
+  unfolding put_refusal or_refuse
   put_decided tag agrees reads size = rw (same_size, good_state, r.good_table) refl
 
   pub open_decided : (tag : ℕ) (agrees : Bool)
@@ -43,7 +32,7 @@ module _ (t : Table) (revision number : ℕ) (lent : List ℕ) (s : State) (d : 
   open_decided tag agrees = rw (good_state, r.good_table) refl
 
   pub close_decided : close_refusal t s (length d) ≡ or_refuse (leb 1 s.opened) 11 (or_refuse (leb (length (closing_part s)) s.start) 9 0)
-  unfolding close_refusal close_rest or_refuse usable
+  unfolding close_refusal close_early or_refuse
   close_decided = rw (same_size, good_state, r.good_table) refl
 
   pub finish_decided : finish_refusal s ≡ or_refuse (eqb s.opened 0) 12 0

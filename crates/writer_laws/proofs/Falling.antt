@@ -1,4 +1,4 @@
--- One more mark, message number or tag at the end of those in use.
+-- One more mark and one more message number at the end of those in use.
 use Prim.Native.Nat.{ℕ, ◌≤◌}
 use native.Mathlib.Omega.{arith}
 use mathlib.Core.Path.{◌≡◌, refl}
@@ -7,7 +7,7 @@ use mathlib.Core.List.{List, [], ◌∷◌, ◌++◌}
 use lib.Dec.{leb}
 use borrow.Author.Tests.{le-leb, leb-true}
 use Rattle.octets.proofs.Bools.{and_left, and_right, and_both}
-use Rattle.writer_state.specs.Sound.{falling, at_most}
+use Rattle.writer_state.specs.Sound.{falling, small}
 
 -- Falling marks still fall with one more mark at their end, and they lie above every lower offset.
 pub falling_last : (low last high : ℕ) (ms : List ℕ) → low ≤ last → last ≤ high → falling last high ms ≡ true
@@ -24,9 +24,8 @@ falling_last low last high (m ∷ ms) h k e =
     and_both (leb low m && q) (falling low m (ms ++ (last ∷ []))) (and_both (leb low m) q (le-leb low m (omega arith)) y)
     (falling_last low last m ms h z (and_right (p && q) r e))
 
-pub most_last : (limit n : ℕ) (ns : List ℕ) → n ≤ limit → at_most limit ns ≡ true → at_most limit (ns ++ (n ∷ [])) ≡ true
-unfolding at_most
-most_last limit n [] h e = rw (le-leb n limit h) refl
-most_last limit n (m ∷ ns) h e =
-    and_both (leb m limit) (at_most limit (ns ++ (n ∷ []))) (and_left (leb m limit) (at_most limit ns) e)
-    (most_last limit n ns h (and_right (leb m limit) (at_most limit ns) e))
+pub small_last : (n : ℕ) (ns : List ℕ) → n ≤ 15 → small ns ≡ true → small (ns ++ (n ∷ [])) ≡ true
+unfolding small
+small_last n [] h e = rw (le-leb n 15 h) refl
+small_last n (m ∷ ns) h e =
+    and_both (leb m 15) (small (ns ++ (n ∷ []))) (and_left (leb m 15) (small ns) e) (small_last n ns h (and_right (leb m 15) (small ns) e))

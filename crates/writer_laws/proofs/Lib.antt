@@ -15,4 +15,3 @@ pub mod Unchanged
 pub mod Zeros
 pub mod Demand2
 pub mod EveryTreeWritten
-pub mod Arrays

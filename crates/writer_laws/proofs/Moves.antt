@@ -116,7 +116,7 @@ module _ (t : Table) (revision number : ℕ) (lent : List ℕ) (s : State) (d : 
         filled = unfold written shortest in r.filled;
         levels =
             rw (o, add-one (open_fields g), ← i)
-            (levels_opened t revision number (length lent) s.numbers s.marks s.tags tag s.start g (omega arith) (omega arith) (omega arith) (omega arith)
+            (levels_opened t revision number (length lent) s.numbers s.marks s.tags tag s.start g (omega arith) (omega arith) (omega arith)
             r.filled.place r.levels);
         masks =
             rw (reached_noting t revision number lent s d g r tag, o, add-one (open_fields g))

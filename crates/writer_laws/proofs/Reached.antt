@@ -16,13 +16,13 @@ use Rattle.table.specs.declared.Table.{Table}
 use Rattle.octets.proofs.Bools.{and_both}
 use Rattle.reading.specs.Reading.{message_limit}
 use Rattle.message.specs.Single.{repeats}
-use Rattle.writer_state.specs.Sound.{falling, at_most, sound}
+use Rattle.writer_state.specs.Sound.{falling, small, sound}
 use Rattle.writer_state.specs.Calls.{level, mask, meant, single, noted, mask_with}
 use Rattle.writer_state.specs.declared.State.{State}
 use Rattle.writer_laws.specs.Given.{Given, tags_given, open_fields, innermost}
 use Rattle.writer_laws.specs.Written.{written}
 use Rattle.writer_laws.proofs.Fields.{AllRead}
-use Rattle.writer_laws.proofs.Levels.{LevelsAgree, levels_number, levels_fall, levels_small, levels_tags}
+use Rattle.writer_laws.proofs.Levels.{LevelsAgree, levels_number, levels_fall, levels_small}
 use Rattle.writer_laws.proofs.Masks.{MasksAgree, noting_tag, noted_repeats}
 use Rattle.writer_laws.proofs.Buffer.{Filled}
 
@@ -61,20 +61,16 @@ module _ (t : Table) (revision number : ℕ) (lent : List ℕ) (s : State) (d : 
       let c = leb s.opened 7 in
       let v = is_revision s.revision in
       let e = falling s.start s.length (take s.opened s.marks) in
-      let f = at_most 15 (take (s.opened + 1) s.numbers) in
-      let x = at_most 65535 (take s.opened s.tags) in
+      let f = small (take (s.opened + 1) s.numbers) in
       let l = r.limit in
       let z = r.size in
       let o = r.count in
       let i = r.slots.number_slots in
       let j = r.slots.mark_slots in
-      let q = r.slots.tag_slots in
       let fall : e ≡ true = rw (z, o) (levels_fall t revision number (length lent) s.numbers s.marks s.tags g s.start (omega arith) p n) in
       let smalls : f ≡ true =
       rw (o, add-one (open_fields g)) (levels_small t revision number (length lent) s.numbers s.marks s.tags r.good_table r.good_number g (omega arith) n) in
-      let tags : x ≡ true = rw o (levels_tags t revision number (length lent) s.numbers s.marks s.tags g (omega arith) n) in
-      and_both (a && b && c && v && e && f) x
-      (and_both (a && b && c && v && e) f
+      and_both (a && b && c && v && e) f
       (and_both (a && b && c && v) e
       (and_both (a && b && c) v
       (and_both (a && b) c
@@ -82,8 +78,7 @@ module _ (t : Table) (revision number : ℕ) (lent : List ℕ) (s : State) (d : 
       (le-leb s.opened 7 (omega arith)))
       (ap is_revision r.profile ∙ r.good_revision))
       fall)
-      smalls)
-      tags
+      smalls
 
   -- The level of the state is that of the fields given.
   pub reached_level : level s ≡ innermost (schema revision t) number g

@@ -18,7 +18,7 @@ use Rattle.table.specs.declared.Table.{Table}
 use Rattle.message.specs.Shortest.{field, shortest}
 use Rattle.message.specs.Single.{repeats}
 use Rattle.octets_store.proofs.Room.{fits_after}
-use Rattle.writer_state.specs.Calls.{or_refuse, call_result, meant, noted, of_octets, readable, put, put_refusal, opening, closing, close_refusal, start_numbers, start_refusal, started, finished}
+use Rattle.writer_state.specs.Calls.{or_refuse, call_result, meant, noted, of_octets, readable, put, put_refusal, opening, closing, close_refusal, start_refusal, started, finished}
 use Rattle.writer_state.specs.declared.State.{State}
 use Rattle.writer_laws.specs.Given.{Given, message, opened, tags_given, open_fields, innermost}
 use Rattle.writer_laws.specs.Written.{written}
@@ -33,7 +33,7 @@ use Rattle.writer_laws.proofs.Accepted.{run_reached}
 use Rattle.table.specs.Entry.{kind_number}
 
 pub start_refused : (t : Table) (revision number len : ℕ) → (started t revision number len).refusal ≡ refusal_of_start t revision number len
-unfolding started call_result start_refusal or_refuse refusal_of_start start_numbers
+unfolding started call_result start_refusal or_refuse refusal_of_start
 start_refused t revision number len = go (valid t) (is_revision revision)
   where
     go : (b v : Bool)

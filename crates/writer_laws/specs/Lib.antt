@@ -6,4 +6,3 @@ pub mod Unchanged
 pub mod Zeros
 pub mod Demand2
 pub mod Writable
-pub mod Arrays

@@ -1,20 +1,16 @@
-// Opening and closing the message fields of the backward writer. Each call comes twice: one takes the octets of a field table, the other a table that
-// was loaded.
+// Opening and closing the message fields of the backward writer.
 #![tactic(auto)]
-ghost use Rattle.std.specs.Prelude.{◌≡◌, true, ◌-◌, ◌≤◌, [], length as length-of};
+ghost use Rattle.std.specs.Prelude.{◌≡◌, ◌-◌, ◌≤◌, []};
 ghost use Rattle.writer_state.specs.Call.{open_field, close_field};
 ghost use Rattle.writer_state.specs.Answer.{answer, buffer};
-ghost use Rattle.writer_state.specs.ByOctets.{answer_octets, buffer_octets};
-ghost use Rattle.writer_state.specs.Sound.{usable};
-ghost use Rattle.writer_state.specs.Calls.{masked, deeper as deeper-of};
-ghost use Rattle.writer_nesting.specs.internal.Nesting.{open_tagged, closed, closed_buffer};
+ghost use Rattle.writer_state.specs.Calls.{masked, deeper as deeper-of, close_early};
 
 use table::Table;
-use writer_state::{State, Tagged, Written};
+use writer_state::{State, Written};
 
 // Returns the state one level deeper: a field with a tag and a message number is open, and the message around it has the mask `mask`. Nothing is
 // noted in the new message.
-fn deeper(s: State, tag: u64, number: u64, mask: u64) -> State
+fn deeper(s: State, tag: u16, number: u64, mask: u64) -> State
     requires { s.opened ≤ 6 }
     ensures { result ≡ deeper-of (masked s mask) tag number }
 {
@@ -24,48 +20,52 @@ fn deeper(s: State, tag: u64, number: u64, mask: u64) -> State
     after.numbers[k + 1] = number;
     after.masks[k] = mask;
     after.masks[k + 1] = 0;
-    after.marks[k] = s.start as u64;
+    after.marks[k] = s.start;
     after.tags[k] = tag;
     after
 }
 
-// Opens a message field, from the result of looking up its tag. Its mark is the offset at which its contents end: the fields that are put until it is closed
-// lie before the mark. The field is noted in the message that it stands in, and nothing is noted in the new one.
-fn open_tagged(k: Tagged, s: State, tag: u64) -> Written
-    ensures { result ≡ open_tagged k s tag }
+// Opens a message field. Its mark is the offset at which its contents end: the fields that are put until it is closed lie before the
+// mark. The field is noted in the message that it stands in, and nothing is noted in the new one. Refusals, all at place 0: STATE, TABLE,
+// TAG_OR_KIND, REPEATED, TOO_DEEP if seven fields are open.
+pub fn open_field(t: Table, s: State, tag: u64) -> Written
+    ensures { result ≡ answer t s [] (open_field tag) }
 {
-    if k.refusal != 0 {
-        return writer_state::refused(k.refusal, k.place, s);
+    let tagged = writer_state::tag_kind(t, s, s.length, tag, 5);
+    if tagged.refusal != 0 {
+        return writer_state::refused(tagged.refusal, s);
     }
     if 6 < s.opened {
-        return writer_state::refused(reading::TOO_DEEP, 0, s);
+        return writer_state::refused(reading::TOO_DEEP, s);
     }
     Written {
         refusal: 0,
         place: 0,
-        state: deeper(s, tag, k.inner, k.mask),
+        state: deeper(s, tag as u16, tagged.inner, tagged.mask),
     }
 }
 
-// Opens a message field. Refusals, at place 0 except for TABLE: STATE, TABLE at the faulty record, TAG_OR_KIND, REPEATED, TOO_DEEP if seven fields
-// are open.
-pub fn open_field(table: &[u8], s: State, tag: u64) -> Written
-    ensures { result ≡ answer_octets table.now s [] (open_field tag) }
+// Returns the refusal of a close, apart from NO_ROOM, or 0.
+fn close_early(t: Table, s: State, len: usize) -> u64
+    ensures { result ≡ close_early t s len 0 }
 {
-    let k = writer_state::tag_kind(table, s, s.length, tag, 5);
-    open_tagged(k, s, tag)
-}
-
-// The same under a table that was loaded. There TABLE is at place 0 too.
-pub fn open_field_loaded(t: Table, s: State, tag: u64) -> Written
-    ensures { result ≡ answer t s [] (open_field tag) }
-{
-    let known = writer_state::tag_kind_loaded(t, s, s.length, tag, 5);
-    open_tagged(known, s, tag)
+    if len != s.length {
+        return reading::STATE;
+    }
+    if !writer_state::sound(s) {
+        return reading::STATE;
+    }
+    if !table_index::valid(t) {
+        return reading::TABLE;
+    }
+    if s.opened < 1 {
+        return reading::NOTHING_OPEN;
+    }
+    0
 }
 
 // Returns a - b, or 0 if that is below zero. In a sound state no mark is below the start.
-fn less(a: u64, b: u64) -> u64
+fn less(a: usize, b: usize) -> usize
     ensures { result ≡ a - b }
 {
     if a < b {
@@ -75,23 +75,23 @@ fn less(a: u64, b: u64) -> u64
     d
 }
 
-// Closes the innermost open field, in a state that the call can use: stores its control part before its contents, whose length is known by now.
-// Refusals: NOTHING_OPEN, NO_ROOM.
-fn close_usable(s: State, out: &mut [u8]) -> Written
-    requires { usable s (length-of out.old) ≡ true }
-    ensures value { result ≡ closed s }
-    ensures out_after { out.new ≡ closed_buffer s out.old }
+// Closes the field that was opened last: stores its control part before its contents, whose length is known by now. Refusals, all at
+// place 0: STATE, TABLE, NOTHING_OPEN, NO_ROOM.
+pub fn close_field(t: Table, s: State, out: &mut [u8]) -> Written
+    ensures value { result ≡ answer t s out.old close_field }
+    ensures out_after { out.new ≡ buffer t s out.old close_field }
 {
-    if s.opened < 1 {
-        return writer_state::refused(reading::NOTHING_OPEN, 0, s);
+    let refusal = close_early(t, s, out.len());
+    if refusal != 0 {
+        return writer_state::refused(refusal, s);
     }
     let k = s.opened - 1;
-    let tag = s.tags[k] as u16;
+    let tag = s.tags[k];
     let mark = s.marks[k];
-    let n = less(mark, s.start as u64);
+    let n = less(mark, s.start) as u64;
     let size = octets_put::control_size(tag, n);
     if s.start < size {
-        return writer_state::refused(reading::NO_ROOM, 0, s);
+        return writer_state::refused(reading::NO_ROOM, s);
     }
     let mut after = s;
     after.start = s.start - size;
@@ -102,34 +102,4 @@ fn close_usable(s: State, out: &mut [u8]) -> Written
         place: 0,
         state: after,
     }
-}
-
-// Closes the innermost open field. Refusals, at place 0 except for TABLE: STATE, TABLE at the faulty record, NOTHING_OPEN, NO_ROOM.
-pub fn close_field(table: &[u8], s: State, out: &mut [u8]) -> Written
-    ensures value { result ≡ answer_octets table.now s out.old close_field }
-    ensures out_after { out.new ≡ buffer_octets table.now s out.old close_field }
-{
-    if !writer_state::usable(s, out.len()) {
-        return writer_state::refused(reading::STATE, 0, s);
-    }
-    let mut cells = [0u32; 128];
-    let end = table_index::index(table, s.revision, &mut cells);
-    if end < table.len() {
-        return writer_state::refused(reading::TABLE, end as u64, s);
-    }
-    close_usable(s, out)
-}
-
-// The same under a table that was loaded. There TABLE is at place 0 too.
-pub fn close_field_loaded(t: Table, s: State, out: &mut [u8]) -> Written
-    ensures value { result ≡ answer t s out.old close_field }
-    ensures out_after { out.new ≡ buffer t s out.old close_field }
-{
-    if !writer_state::usable(s, out.len()) {
-        return writer_state::refused(reading::STATE, 0, s);
-    }
-    if !table_index::valid(t) {
-        return writer_state::refused(reading::TABLE, 0, s);
-    }
-    close_usable(s, out)
 }

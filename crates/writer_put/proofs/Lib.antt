@@ -1,5 +1,5 @@
 pub mod Room
+pub mod Refusals
 pub mod OctetKinds
 pub mod Before
 pub mod PutResults
-pub mod ByTag

@@ -1,20 +1,19 @@
-// The put calls of the backward writer. Each stores a uint, int, string or text field before the fields that were put earlier. Each comes twice:
-// one takes the octets of a field table, the other a table that was loaded.
+// The put calls of the backward writer. Each stores a uint, int, string or text field before the fields that were put earlier.
 #![tactic(auto)]
 ghost use Rattle.std.specs.Prelude.{◌≡◌, true, ◌+◌, ◌≤◌, leb, length as length-of};
 ghost use Rattle.octets.specs.Number.{octets_of};
 ghost use Rattle.octets.specs.Control.{least_control};
+ghost use Rattle.table.specs.Entry.{kind_number};
 ghost use Rattle.message.specs.Shortest.{field};
 ghost use Rattle.writer_state.specs.Call.{put_uint, put_int, put_octets};
 ghost use Rattle.writer_state.specs.Answer.{answer, buffer};
-ghost use Rattle.writer_state.specs.ByOctets.{answer_octets, buffer_octets};
-ghost use Rattle.writer_state.specs.Calls.{masked as masked-of, readable as Readable-of};
+ghost use Rattle.writer_state.specs.Calls.{meant, masked as masked-of, readable as Readable-of, put, put_buffer};
+ghost use Rattle.writer_state.specs.internal.Tags.{fits};
 ghost use Rattle.writer_put.specs.internal.Stores.{Before};
-ghost use Rattle.writer_put.specs.internal.Tagged.{put_tagged, buffer_tagged, Puttable};
 
 use octets::Least;
 use table::Table;
-use writer_state::{State, Tagged, Written};
+use writer_state::{State, Written};
 
 // Returns a state in which the innermost message has another mask. In a state with too many open fields nothing changes.
 fn masked(s: State, mask: u64) -> State
@@ -80,19 +79,20 @@ fn store_plain(out: &mut [u8], start: usize, tag: u16, xs: &[u8]) -> usize
     at
 }
 
-// Puts a field whose contents are the least octets of a number, from the result of looking up its tag.
-fn put_least(k: Tagged, s: State, tag: u64, least: Least, out: &mut [u8]) -> Written
-    requires { k.refusal ≡ 0 → Puttable s tag (length-of out.old) }
-    ensures value { result ≡ put_tagged k s tag true (octets_of least.width least.bits) }
-    ensures out_after { out.new ≡ buffer_tagged k s tag true (octets_of least.width least.bits) out.old }
+// Puts a field whose contents are the least octets of a number. The tag has to be of the wanted kind.
+fn put_least(t: Table, s: State, tag: u64, wanted: u64, least: Least, out: &mut [u8]) -> Written
+    requires { 1 ≤ wanted }
+    ensures value { result ≡ put t s tag (fits wanted (kind_number (meant t s tag))) true (octets_of least.width least.bits) (length-of out.old) }
+    ensures out_after { out.new ≡ put_buffer t s tag (fits wanted (kind_number (meant t s tag))) true (octets_of least.width least.bits) out.old }
 {
+    let k = writer_state::tag_kind(t, s, out.len(), tag, wanted);
     if k.refusal != 0 {
-        return writer_state::refused(k.refusal, k.place, s);
-    }
-    if !has_room(s.start, tag as u16, least.width as usize) {
-        return writer_state::refused(reading::NO_ROOM, 0, s);
+        return writer_state::refused(k.refusal, s);
     }
     let mut after = masked(s, k.mask);
+    if !has_room(s.start, tag as u16, least.width as usize) {
+        return writer_state::refused(reading::NO_ROOM, s);
+    }
     after.start = store_number(out, s.start, tag as u16, least);
     Written {
         refusal: 0,
@@ -101,78 +101,42 @@ fn put_least(k: Tagged, s: State, tag: u64, least: Least, out: &mut [u8]) -> Wri
     }
 }
 
-// Puts a field whose contents are the octets xs, from the result of looking up its tag.
-fn put_plain(k: Tagged, s: State, tag: u64, xs: &[u8], out: &mut [u8]) -> Written
-    requires { k.refusal ≡ 0 → Puttable s tag (length-of out.old) }
-    ensures value { result ≡ put_tagged k s tag (Readable-of k.kind xs.now) xs.now }
-    ensures out_after { out.new ≡ buffer_tagged k s tag (Readable-of k.kind xs.now) xs.now out.old }
+// Puts a uint field. Refusals, all at place 0: STATE, TABLE, TAG_OR_KIND, REPEATED, NO_ROOM.
+pub fn put_uint(t: Table, s: State, tag: u64, v: u64, out: &mut [u8]) -> Written
+    ensures value { result ≡ answer t s out.old (put_uint tag v) }
+    ensures out_after { out.new ≡ buffer t s out.old (put_uint tag v) }
 {
+    put_least(t, s, tag, 1, octets_least::uint_least(v), out)
+}
+
+// Puts an int field. The refusals are those of put_uint.
+pub fn put_int(t: Table, s: State, tag: u64, v: i64, out: &mut [u8]) -> Written
+    ensures value { result ≡ answer t s out.old (put_int tag v) }
+    ensures out_after { out.new ≡ buffer t s out.old (put_int tag v) }
+{
+    put_least(t, s, tag, 2, octets_least::int_least(v), out)
+}
+
+// Puts a string or a text field. Refusals, all at place 0: STATE, TABLE, TAG_OR_KIND, REPEATED, TEXT for a text field only, NO_ROOM.
+pub fn put_octets(t: Table, s: State, tag: u64, xs: &[u8], out: &mut [u8]) -> Written
+    ensures value { result ≡ answer t s out.old (put_octets tag xs.now) }
+    ensures out_after { out.new ≡ buffer t s out.old (put_octets tag xs.now) }
+{
+    let k = writer_state::tag_kind(t, s, out.len(), tag, 3);
     if k.refusal != 0 {
-        return writer_state::refused(k.refusal, k.place, s);
-    }
-    if !readable(k.kind, xs) {
-        return writer_state::refused(reading::TEXT, 0, s);
-    }
-    if !has_room(s.start, tag as u16, xs.len()) {
-        return writer_state::refused(reading::NO_ROOM, 0, s);
+        return writer_state::refused(k.refusal, s);
     }
     let mut after = masked(s, k.mask);
+    if !readable(k.kind, xs) {
+        return writer_state::refused(reading::TEXT, s);
+    }
+    if !has_room(s.start, tag as u16, xs.len()) {
+        return writer_state::refused(reading::NO_ROOM, s);
+    }
     after.start = store_plain(out, s.start, tag as u16, xs);
     Written {
         refusal: 0,
         place: 0,
         state: after,
     }
-}
-
-// Puts a uint field. Refusals, at place 0 except for TABLE: STATE, TABLE at the faulty record, TAG_OR_KIND, REPEATED, NO_ROOM.
-pub fn put_uint(table: &[u8], s: State, tag: u64, v: u64, out: &mut [u8]) -> Written
-    ensures value { result ≡ answer_octets table.now s out.old (put_uint tag v) }
-    ensures out_after { out.new ≡ buffer_octets table.now s out.old (put_uint tag v) }
-{
-    let k = writer_state::tag_kind(table, s, out.len(), tag, 1);
-    put_least(k, s, tag, octets_least::uint_least(v), out)
-}
-
-// Puts an int field. The refusals are those of put_uint.
-pub fn put_int(table: &[u8], s: State, tag: u64, v: i64, out: &mut [u8]) -> Written
-    ensures value { result ≡ answer_octets table.now s out.old (put_int tag v) }
-    ensures out_after { out.new ≡ buffer_octets table.now s out.old (put_int tag v) }
-{
-    let k = writer_state::tag_kind(table, s, out.len(), tag, 2);
-    put_least(k, s, tag, octets_least::int_least(v), out)
-}
-
-// Puts a string or a text field. The refusals are those of put_uint, and TEXT for a text field, before NO_ROOM.
-pub fn put_octets(table: &[u8], s: State, tag: u64, xs: &[u8], out: &mut [u8]) -> Written
-    ensures value { result ≡ answer_octets table.now s out.old (put_octets tag xs.now) }
-    ensures out_after { out.new ≡ buffer_octets table.now s out.old (put_octets tag xs.now) }
-{
-    let k = writer_state::tag_kind(table, s, out.len(), tag, 3);
-    put_plain(k, s, tag, xs, out)
-}
-
-// The same under a table that was loaded. There TABLE is at place 0 too.
-pub fn put_uint_loaded(t: Table, s: State, tag: u64, v: u64, out: &mut [u8]) -> Written
-    ensures value { result ≡ answer t s out.old (put_uint tag v) }
-    ensures out_after { out.new ≡ buffer t s out.old (put_uint tag v) }
-{
-    let known = writer_state::tag_kind_loaded(t, s, out.len(), tag, 1);
-    put_least(known, s, tag, octets_least::uint_least(v), out)
-}
-
-pub fn put_int_loaded(t: Table, s: State, tag: u64, v: i64, out: &mut [u8]) -> Written
-    ensures value { result ≡ answer t s out.old (put_int tag v) }
-    ensures out_after { out.new ≡ buffer t s out.old (put_int tag v) }
-{
-    let known = writer_state::tag_kind_loaded(t, s, out.len(), tag, 2);
-    put_least(known, s, tag, octets_least::int_least(v), out)
-}
-
-pub fn put_octets_loaded(t: Table, s: State, tag: u64, xs: &[u8], out: &mut [u8]) -> Written
-    ensures value { result ≡ answer t s out.old (put_octets tag xs.now) }
-    ensures out_after { out.new ≡ buffer t s out.old (put_octets tag xs.now) }
-{
-    let known = writer_state::tag_kind_loaded(t, s, out.len(), tag, 3);
-    put_plain(known, s, tag, xs, out)
 }

@@ -11,7 +11,7 @@ use Rattle.octets_store.specs.Store.{stored}
 use Rattle.octets_store.proofs.Stores.{drop_stored}
 use Rattle.writer_state.specs.Calls.{call_result, buffer_after, back, masked, put, put_buffer, put_refusal, closing_part, close_refusal, closing, close_buffer, outer}
 use Rattle.writer_state.specs.declared.State.{State}
-use Rattle.writer_state.proofs.Conditions.{put_met, close_met}
+use Rattle.writer_state.proofs.Conditions.{put_met, close_room}
 use Rattle.writer_state.proofs.SoundStates.{sound_within}
 
 -- Octets that end where others begin.
@@ -44,7 +44,7 @@ module _ (t : Table) (s : State) (d : List ℕ) (e : close_refusal t s (length d
   pub close_adds : drop (s.start - length (closing_part s)) (close_buffer t s d) ≡ closing_part s ++ drop s.start d
   unfolding close_buffer buffer_after
   close_adds =
-      let m = close_met t s (length d) e in
-      let l = m.same in
-      let w = sound_within s m.good in
-      rw e (before_others d s.start (closing_part s) m.room (omega arith))
+      let m = close_room t s (length d) e in
+      let l = m.0.same in
+      let w = sound_within s m.0.good in
+      rw e (before_others d s.start (closing_part s) m.1 (omega arith))

@@ -7,7 +7,7 @@ use lib.ListN.{length, take, drop, get_or}
 use borrow.Author.Tests.{le-leb, lt-leb}
 use Rattle.table.specs.Schema.{is_revision}
 use Rattle.table.proofs.Lists.{rest_at, rest_end}
-use Rattle.writer_state.specs.Sound.{falling, at_most, sound}
+use Rattle.writer_state.specs.Sound.{falling, small, sound}
 use Rattle.writer_state.specs.declared.State.{State}
 
 module _ (marks : List ℕ) (n i : ℕ) (within : n ≤ length marks) where
@@ -31,17 +31,17 @@ module _ (marks : List ℕ) (n i : ℕ) (within : n ≤ length marks) where
   unfolding falling
   fall_moves low high l h k = rw (rest_at marks n i within l, le-leb low M h, le-leb M high k) refl
 
-  pub most_ends : (limit : ℕ) → n ≤ i → at_most limit (drop i (take n marks)) ≡ true
-  unfolding at_most
-  most_ends limit l = rw (rest_end marks n i within l) refl
+  pub small_ends : n ≤ i → small (drop i (take n marks)) ≡ true
+  unfolding small
+  small_ends l = rw (rest_end marks n i within l) refl
 
-  pub most_over : (limit : ℕ) → i < n → limit < M → at_most limit (drop i (take n marks)) ≡ false
-  unfolding at_most
-  most_over limit l h = rw (rest_at marks n i within l, lt-leb M limit h) refl
+  pub small_over : i < n → 15 < M → small (drop i (take n marks)) ≡ false
+  unfolding small
+  small_over l h = rw (rest_at marks n i within l, lt-leb M 15 h) refl
 
-  pub most_moves : (limit : ℕ) → i < n → M ≤ limit → at_most limit (drop i (take n marks)) ≡ at_most limit (drop (i + 1) (take n marks))
-  unfolding at_most
-  most_moves limit l h = rw (rest_at marks n i within l, le-leb M limit h) refl
+  pub small_moves : i < n → M ≤ 15 → small (drop i (take n marks)) ≡ small (drop (i + 1) (take n marks))
+  unfolding small
+  small_moves l h = rw (rest_at marks n i within l, le-leb M 15 h) refl
 
 module _ (s : State) where
   pub sound_long : 65536 < s.length → false ≡ sound s
@@ -68,11 +68,7 @@ module _ (s : State) where
           unfolding sound
           sound_marks e = rw (le-leb s.length 65536 a, le-leb s.start s.length b, le-leb s.opened 7 d, ← v, ← e) refl
 
-          module _ (m : true ≡ falling s.start s.length (take s.opened s.marks)) where
-            pub sound_numbers : false ≡ at_most 15 (take (s.opened + 1) s.numbers) → false ≡ sound s
-            unfolding sound
-            sound_numbers e = rw (le-leb s.length 65536 a, le-leb s.start s.length b, le-leb s.opened 7 d, ← v, ← m, ← e) refl
-
-            pub sound_tags : {r : Bool} → true ≡ at_most 15 (take (s.opened + 1) s.numbers) → r ≡ at_most 65535 (take s.opened s.tags) → r ≡ sound s
-            unfolding sound
-            sound_tags e q = q ∙ rw (le-leb s.length 65536 a, le-leb s.start s.length b, le-leb s.opened 7 d, ← v, ← m, ← e) refl
+          pub sound_numbers : {r : Bool} → true ≡ falling s.start s.length (take s.opened s.marks)
+              → r ≡ small (take (s.opened + 1) s.numbers) → r ≡ sound s
+          unfolding sound
+          sound_numbers e q = q ∙ rw (le-leb s.length 65536 a, le-leb s.start s.length b, le-leb s.opened 7 d, ← v, ← e) refl

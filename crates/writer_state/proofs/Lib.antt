@@ -6,4 +6,3 @@ pub mod Conditions
 pub mod CallResults
 pub mod Added
 pub mod TagKinds
-pub mod ByOctets

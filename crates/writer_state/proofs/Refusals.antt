@@ -7,7 +7,7 @@ use Rattle.table.specs.Schema.{is_revision}
 use Rattle.table.specs.Valid.{valid}
 use Rattle.table.specs.declared.Table.{Table}
 use Rattle.writer_state.specs.Sound.{sound}
-use Rattle.writer_state.specs.Calls.{or_refuse, start_numbers, start_refusal, finish_refusal}
+use Rattle.writer_state.specs.Calls.{or_refuse, start_refusal, finish_refusal}
 use Rattle.writer_state.specs.declared.State.{State}
 
 module _ (t : Table) (revision number len : ℕ) where
@@ -20,24 +20,19 @@ module _ (t : Table) (revision number len : ℕ) where
     unfolding start_refusal or_refuse
     start_table e = rw (le-leb len 65536 a, ← e) refl
 
-    -- Under a valid table the revision and the number decide.
-    pub start_numbers_lem : true ≡ valid t → start_numbers revision number ≡ start_refusal t revision number len
-    unfolding start_refusal or_refuse
-    start_numbers_lem b = rw (le-leb len 65536 a, ← b) refl
+    module _ (b : true ≡ valid t) where
+      pub start_revision : false ≡ is_revision revision → 2 ≡ start_refusal t revision number len
+      unfolding start_refusal or_refuse
+      start_revision e = rw (le-leb len 65536 a, ← b, ← e) refl
 
-module _ (revision number : ℕ) where
-  pub numbers_revision : false ≡ is_revision revision → 2 ≡ start_numbers revision number
-  unfolding start_numbers or_refuse
-  numbers_revision e = rw (← e) refl
+      module _ (v : true ≡ is_revision revision) where
+        pub start_number : 15 < number → 2 ≡ start_refusal t revision number len
+        unfolding start_refusal or_refuse
+        start_number h = rw (le-leb len 65536 a, ← b, ← v, lt-leb number 15 h) refl
 
-  module _ (v : true ≡ is_revision revision) where
-    pub numbers_number : 15 < number → 2 ≡ start_numbers revision number
-    unfolding start_numbers or_refuse
-    numbers_number h = rw (← v, lt-leb number 15 h) refl
-
-    pub numbers_good : number ≤ 15 → 0 ≡ start_numbers revision number
-    unfolding start_numbers or_refuse
-    numbers_good h = rw (← v, le-leb number 15 h) refl
+        pub start_not_refused : number ≤ 15 → 0 ≡ start_refusal t revision number len
+        unfolding start_refusal or_refuse
+        start_not_refused h = rw (le-leb len 65536 a, ← b, ← v, le-leb number 15 h) refl
 
 module _ (s : State) where
   pub finish_unsound : false ≡ sound s → 10 ≡ finish_refusal s

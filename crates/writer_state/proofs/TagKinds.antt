@@ -1,26 +1,27 @@
--- The refusals that put and open share, case by case, and the answers of `cell_kind` and of `tag_kind_loaded`.
+-- The refusals that put and open share, case by case, and the answers of `cell_kind` and `tag_kind`.
 use Prim.Native.Nat.{ℕ, ◌%◌, ◌≤◌, ◌<◌}
 use native.Mathlib.Omega.{arith}
 use mathlib.Core.Path.{◌≡◌, refl, sym, ap, ◌∙◌}
 use mathlib.Core.Bool.{Bool, true, false, cond, not, false≢true}
 use mathlib.Core.List.{List}
+use lib.ListN.{take, replicate}
 use lib.Dec.{eqb, leb}
 use borrow.Author.Tests.{eq-eqb, ne_eqb, eqb-true, eqb-false, le-leb}
 use Rattle.table.specs.Entry.{entries, kind_number, inner_of}
 use Rattle.table.specs.Mask.{order, has_bit, with_bit}
-use Rattle.table.specs.Schema.{Schema, schema}
+use Rattle.table.specs.Schema.{Schema}
 use Rattle.table.specs.Valid.{valid}
 use Rattle.table.specs.declared.Meaning.{Meaning}
 use Rattle.table.specs.declared.Table.{Table}
-use Rattle.table_index.specs.internal.Cells.{meaning_in, single_in, order_in, cell_for, indexed, noted_in, note_in}
+use Rattle.table_index.specs.internal.Cells.{meaning_in, single_in, order_in, inserted_words, cell_for, indexed, noted_in, note_in}
+use Rattle.table_index.proofs.IndexLaws.{table_schema, table_order}
 use Rattle.table_index.proofs.Meanings.{single_none}
-use Rattle.writer_state.specs.Sound.{sound, usable}
+use Rattle.writer_state.specs.Sound.{sound}
 use Rattle.writer_state.specs.Calls.{or_refuse, level, mask, meant, single, noted, mask_with, of_octets, put_refusal, open_refusal}
-use Rattle.writer_state.specs.internal.Tags.{fits, not_tagged, or_known, tag_kind, cell_kind}
+use Rattle.writer_state.specs.internal.Tags.{fits, or_known, tag_kind, cell_kind}
 use Rattle.writer_state.specs.declared.State.{State}
 use Rattle.writer_state.specs.declared.Tagged.{Tagged}
 use Rattle.writer_state.proofs.Conditions.{put_met}
-use Rattle.writer_state.proofs.SoundStates.{usable_own}
 use Rattle.writer_state.proofs.Tags.{narrow_kind, narrow_octets}
 
 -- ---- the kind that a call wants
@@ -69,59 +70,66 @@ module _ (c mask wanted : ℕ) where
   abbrev agrees_in : Bool
   agrees_in = fits wanted (kind_number (meaning_in c))
 
-  pub cell_other : {r : Tagged} → agrees_in ≡ false → r ≡ not_tagged 8 0 → r ≡ cell_kind c mask wanted
+  pub cell_other : {r : Tagged} → agrees_in ≡ false → r ≡ record { refusal = 8; kind = 0; inner = 0; mask = 0 } → r ≡ cell_kind c mask wanted
   unfolding cell_kind or_known or_refuse
   cell_other e q = q ∙ rw e refl
 
   module _ (a : agrees_in ≡ true) where
-    pub cell_repeated : {r : Tagged} → noted_in mask c ≡ true → r ≡ not_tagged 20 0 → r ≡ cell_kind c mask wanted
+    pub cell_repeated : {r : Tagged} → noted_in mask c ≡ true → r ≡ record { refusal = 20; kind = 0; inner = 0; mask = 0 } → r ≡ cell_kind c mask wanted
     unfolding cell_kind or_known or_refuse
     cell_repeated e q = q ∙ rw (a, e) refl
 
     pub cell_known : {k i m : ℕ} → noted_in mask c ≡ false → k ≡ kind_number (meaning_in c) → i ≡ inner_of (meaning_in c) → m ≡ note_in mask c
-        → record { refusal = 0; place = 0; kind = k; inner = i; mask = m } ≡ cell_kind c mask wanted
+        → record { refusal = 0; kind = k; inner = i; mask = m } ≡ cell_kind c mask wanted
     unfolding cell_kind or_known or_refuse
     cell_known e f g h = rw (a, e, f, g, h) refl
 
 -- ---- a put of no octets
 
 module _ (t : Table) (s : State) (tag len : ℕ) (agrees : Bool) where
-  pub early_unusable : usable s len ≡ false → 10 ≡ put_refusal t s tag len agrees true 0
+  pub early_other : (len ≡ s.length → ⊥) → 10 ≡ put_refusal t s tag len agrees true 0
   unfolding put_refusal or_refuse
-  early_unusable e = rw e refl
+  early_other ne = rw (ne_eqb len s.length ne) refl
 
-  module _ (u : usable s len ≡ true) where
-    pub early_table : false ≡ valid t → 2 ≡ put_refusal t s tag len agrees true 0
+  module _ (a : len ≡ s.length) where
+    pub early_unsound : false ≡ sound s → 10 ≡ put_refusal t s tag len agrees true 0
     unfolding put_refusal or_refuse
-    early_table e = rw (u, ← e) refl
+    early_unsound e = rw (eq-eqb len s.length a, ← e) refl
 
-    -- The tag decides.
-    early_tag : true ≡ valid t → or_refuse agrees 8 (or_refuse (not (noted t s tag)) 20 0) ≡ put_refusal t s tag len agrees true 0
-    unfolding put_refusal or_refuse
-    early_tag d = rw (u, ← d, le-leb 0 s.start (omega arith)) refl
+    module _ (b : true ≡ sound s) where
+      pub early_table : false ≡ valid t → 2 ≡ put_refusal t s tag len agrees true 0
+      unfolding put_refusal or_refuse
+      early_table e = rw (eq-eqb len s.length a, ← b, ← e) refl
+
+      -- The tag decides.
+      early_tag : true ≡ valid t → or_refuse agrees 8 (or_refuse (not (noted t s tag)) 20 0) ≡ put_refusal t s tag len agrees true 0
+      unfolding put_refusal or_refuse
+      early_tag d = rw (eq-eqb len s.length a, ← b, ← d, le-leb 0 s.start (omega arith)) refl
 
 -- ---- after it
 
--- The four tests that come first, and the tests after them.
-unfoldable first : Bool → Bool → Bool → Bool → ℕ → ℕ
-first u d f o next = or_refuse u 10 (or_refuse d 2 (or_refuse f 8 (or_refuse o 20 next)))
+-- The five tests that come first, and the tests after them.
+unfoldable first : Bool → Bool → Bool → Bool → Bool → ℕ → ℕ
+first a b d f o next = or_refuse a 10 (or_refuse b 10 (or_refuse d 2 (or_refuse f 8 (or_refuse o 20 next))))
 
--- If one of the four fails, its refusal is the answer; else the tests after them decide.
-first_kept : (u d f o : Bool) (x y : ℕ) → x ≡ 0 → (first u d f o x ≡ 0 → ⊥) → first u d f o x ≡ first u d f o y
+-- If one of the five fails, its refusal is the answer; else the tests after them decide.
+first_kept : (a b d f o : Bool) (x y : ℕ) → x ≡ 0 → (first a b d f o x ≡ 0 → ⊥) → first a b d f o x ≡ first a b d f o y
 unfolding first or_refuse
-first_kept false d f o x y z n = refl
-first_kept true false f o x y z n = refl
-first_kept true true false o x y z n = refl
-first_kept true true true false x y z n = refl
-first_kept true true true true x y z n = absurd (n z)
+first_kept false b d f o x y z n = refl
+first_kept true false d f o x y z n = refl
+first_kept true true false f o x y z n = refl
+first_kept true true true false o x y z n = refl
+first_kept true true true true false x y z n = refl
+first_kept true true true true true x y z n = absurd (n z)
 
-first_none : (u d f o : Bool) (x y : ℕ) → first u d f o x ≡ 0 → first u d f o y ≡ y
+first_none : (a b d f o : Bool) (x y : ℕ) → first a b d f o x ≡ 0 → first a b d f o y ≡ y
 unfolding first or_refuse
-first_none false d f o x y e = absurd (omega arith)
-first_none true false f o x y e = absurd (omega arith)
-first_none true true false o x y e = absurd (omega arith)
-first_none true true true false x y e = absurd (omega arith)
-first_none true true true true x y e = refl
+first_none false b d f o x y e = absurd (omega arith)
+first_none true false d f o x y e = absurd (omega arith)
+first_none true true false f o x y e = absurd (omega arith)
+first_none true true true false o x y e = absurd (omega arith)
+first_none true true true true false x y e = absurd (omega arith)
+first_none true true true true true x y e = refl
 
 module _ (s : State) where
   abbrev rest : Bool → ℕ → ℕ
@@ -137,48 +145,48 @@ module _ (t : Table) (s : State) (tag len : ℕ) (agrees : Bool) (got : ℕ) (e 
   unfolding put_refusal first
   put_kept reads size ne =
       e
-      ∙ first_kept (usable s len) (valid t) agrees (not (noted t s tag)) (rest s true 0) (rest s reads size) (no_octets s) (λ z. ne (e ∙ z))
+      ∙ first_kept (eqb len s.length) (sound s) (valid t) agrees (not (noted t s tag)) (rest s true 0) (rest s reads size) (no_octets s) (λ z. ne (e ∙ z))
 
   pub put_rest : (reads : Bool) (size : ℕ) → got ≡ 0 → put_refusal t s tag len agrees reads size ≡ or_refuse reads 7 (or_refuse (leb size s.start) 9 0)
   unfolding put_refusal first
   put_rest reads size z =
-      first_none (usable s len) (valid t) agrees (not (noted t s tag)) (rest s true 0) (rest s reads size) (sym e ∙ z)
+      first_none (eqb len s.length) (sound s) (valid t) agrees (not (noted t s tag)) (rest s true 0) (rest s reads size) (sym e ∙ z)
 
 -- An open, which gets no buffer.
 module _ (t : Table) (s : State) (tag : ℕ) (agrees : Bool) (got : ℕ) (e : got ≡ put_refusal t s tag s.length agrees true 0) where
-  early : got ≡ first (sound s) (valid t) agrees (not (noted t s tag)) (rest s true 0)
+  early : got ≡ first true (sound s) (valid t) agrees (not (noted t s tag)) (rest s true 0)
   unfolding put_refusal first
-  early = e ∙ rw (usable_own s) refl
+  early = e ∙ rw (eq-eqb s.length s.length refl) refl
 
   abbrev deep : ℕ
   deep = or_refuse (leb s.opened 6) 5 0
 
   pub open_kept : (got ≡ 0 → ⊥) → got ≡ open_refusal t s tag agrees
   unfolding open_refusal first or_refuse
-  open_kept ne = early ∙ first_kept (sound s) (valid t) agrees (not (noted t s tag)) (rest s true 0) deep (no_octets s) (λ z. ne (early ∙ z))
+  open_kept ne = early ∙ first_kept true (sound s) (valid t) agrees (not (noted t s tag)) (rest s true 0) deep (no_octets s) (λ z. ne (early ∙ z))
 
   pub open_rest : got ≡ 0 → open_refusal t s tag agrees ≡ or_refuse (leb s.opened 6) 5 0
   unfolding open_refusal first or_refuse
-  open_rest z = first_none (sound s) (valid t) agrees (not (noted t s tag)) (rest s true 0) deep (sym early ∙ z)
+  open_rest z = first_none true (sound s) (valid t) agrees (not (noted t s tag)) (rest s true 0) deep (sym early ∙ z)
 
--- ---- the answer of `tag_kind_loaded`
+-- ---- the answer of `tag_kind`
 
--- The cell of a tag in an index with the schema of the table and the orders of its entries tells what the table does.
-module _ (t : Table) (s : State) (tag : ℕ) (cells : List ℕ) (v : valid t ≡ true) (same : indexed cells ≡ schema s.revision t)
-    (orders : (number tag : ℕ) → (cell_for cells number tag ≡ 0 → ⊥) → order_in (cell_for cells number tag) ≡ order (entries t) number tag) where
+-- The cell of a tag in the index of the table tells what the table does.
+module _ (t : Table) (s : State) (tag : ℕ) {cells : List ℕ} (v : valid t ≡ true)
+    (filled : cells ≡ inserted_words s.revision (take t.count t.words) (replicate 128 0)) where
   abbrev cell : ℕ
   cell = cell_for cells (level s) tag
 
   cell_means : meaning_in cell ≡ meant t s tag
   unfolding meant indexed
-  cell_means = ap (λ (sc : Schema). sc.means (level s) tag) same
+  cell_means = ap (λ (sc : Schema). sc.means (level s) tag) (table_schema s.revision t v filled)
 
   cell_single : single_in cell ≡ single t s tag
   unfolding single indexed
-  cell_single = ap (λ (sc : Schema). sc.single (level s) tag) same
+  cell_single = ap (λ (sc : Schema). sc.single (level s) tag) (table_schema s.revision t v filled)
 
   cell_order : single_in cell ≡ true → order_in cell ≡ order (entries t) (level s) tag
-  cell_order e = orders (level s) tag (λ z. false≢true (sym single_none ∙ ap single_in (sym z) ∙ e))
+  cell_order e = table_order s.revision t v filled (level s) tag (λ z. false≢true (sym single_none ∙ ap single_in (sym z) ∙ e))
 
   cell_noted : noted_in (mask s) cell ≡ noted t s tag
   unfolding noted_in noted
@@ -196,10 +204,11 @@ module _ (t : Table) (s : State) (tag : ℕ) (cells : List ℕ) (v : valid t ≡
       go true e = rw (← cell_single, e, cell_order e) refl
       go false e = rw (← cell_single, e) refl
 
-  pub tag_known : {r : Tagged} (len wanted : ℕ) → usable s len ≡ true → r ≡ cell_kind cell (mask s) wanted → r ≡ tag_kind t s len tag wanted
+  pub tag_known : {r : Tagged} {c m : ℕ} (len wanted : ℕ) → len ≡ s.length → true ≡ sound s → c ≡ cell → m ≡ mask s → r ≡ cell_kind c m wanted
+      → r ≡ tag_kind t s len tag wanted
   unfolding cell_kind tag_kind
-  tag_known len wanted u e =
-      e ∙ rw (cell_means, cell_noted, cell_note, early_tag t s tag len (fits wanted (kind_number (meant t s tag))) u (sym v)) refl
+  tag_known len wanted a b p q e =
+      e ∙ rw (p, q, cell_means, cell_noted, cell_note, early_tag t s tag len (fits wanted (kind_number (meant t s tag))) a b (sym v)) refl
 
 module _ (t : Table) (s : State) (len tag wanted : ℕ) where
   abbrev means : Meaning
@@ -209,29 +218,27 @@ module _ (t : Table) (s : State) (len tag wanted : ℕ) where
   suits = fits wanted (kind_number means)
 
   pub tag_refused : {r : Tagged} {k : ℕ} → (k ≡ 0 → ⊥) → k ≡ put_refusal t s tag len suits true 0
-      → r ≡ not_tagged k 0 → r ≡ tag_kind t s len tag wanted
+      → r ≡ record { refusal = k; kind = 0; inner = 0; mask = 0 } → r ≡ tag_kind t s len tag wanted
   unfolding tag_kind or_known
   tag_refused {r} {k} ne e q = q ∙ rw (← e, ne_eqb k 0 ne) refl
 
-  -- What the answer of `tag_kind_loaded` tells.
+  -- What the answer of `tag_kind` tells.
   pub record TagRead (r : Tagged) : Type 0 where
     pub refused : r.refusal ≡ put_refusal t s tag len suits true 0
-    pub at_0 : r.place ≡ 0
     pub kind : r.refusal ≡ 0 → r.kind ≡ kind_number means
     pub inner : r.refusal ≡ 0 → r.inner ≡ inner_of means
     pub mask : r.refusal ≡ 0 → r.mask ≡ mask_with t s tag
 
   pub tag_read : {r : Tagged} → r ≡ tag_kind t s len tag wanted → TagRead r
-  unfolding tag_kind or_known not_tagged
+  unfolding tag_kind or_known
   tag_read {r} e = go (put_refusal t s tag len suits true 0) refl (eqb (put_refusal t s tag len suits true 0) 0) refl e
     where
       go : (k : ℕ) → put_refusal t s tag len suits true 0 ≡ k → (b : Bool) → eqb k 0 ≡ b
-          → r ≡ cond b (record { refusal = 0; place = 0; kind = kind_number means; inner = inner_of means; mask = mask_with t s tag }) (not_tagged k 0)
+          → r ≡ cond b (record { refusal = 0; kind = kind_number means; inner = inner_of means; mask = mask_with t s tag }) (record { refusal = k; kind = 0; inner = 0; mask = 0 })
           → TagRead r
       go k p true q f =
           record {
             refused = ap (λ (x : Tagged). x.refusal) f ∙ sym (p ∙ eqb-true k 0 q);
-            at_0 = ap (λ (x : Tagged). x.place) f;
             kind = λ z. ap (λ (x : Tagged). x.kind) f;
             inner = λ z. ap (λ (x : Tagged). x.inner) f;
             mask = λ z. ap (λ (x : Tagged). x.mask) f;
@@ -239,13 +246,7 @@ module _ (t : Table) (s : State) (len tag wanted : ℕ) where
       go k p false q f =
           let n : r.refusal ≡ k = ap (λ (x : Tagged). x.refusal) f in
           let bad : r.refusal ≡ 0 → ⊥ = λ z. eqb-false k 0 q (sym n ∙ z) in
-          record {
-            refused = n ∙ sym p;
-            at_0 = ap (λ (x : Tagged). x.place) f;
-            kind = λ z. absurd (bad z);
-            inner = λ z. absurd (bad z);
-            mask = λ z. absurd (bad z);
-          }
+          record { refused = n ∙ sym p; kind = λ z. absurd (bad z); inner = λ z. absurd (bad z); mask = λ z. absurd (bad z) }
 
   -- A tag of the kind that a call wants is in range.
   pub tag_narrow : {r : Tagged} → 1 ≤ wanted → r ≡ tag_kind t s len tag wanted → r.refusal ≡ 0 → tag < 65536

@@ -12,7 +12,7 @@ use Rattle.table.specs.declared.Meaning.{Meaning}
 use Rattle.table.specs.declared.Table.{Table}
 use Rattle.message.specs.Shortest.{field}
 use Rattle.octets_store.specs.Store.{stored}
-use Rattle.writer_state.specs.Sound.{sound, usable}
+use Rattle.writer_state.specs.Sound.{sound}
 use Rattle.writer_state.specs.declared.State.{State}
 use Rattle.writer_state.specs.declared.Written.{Written}
 use Rattle.writer_state.specs.declared.Finished.{Finished}
@@ -82,13 +82,12 @@ masked s m =
 
 -- ---- start
 
--- The refusal for the revision or the message number.
-unfoldable pub start_numbers : ℕ → ℕ → ℕ
-start_numbers revision number = or_refuse (is_revision revision) refusals.table (or_refuse (leb number last_number) refusals.table 0)
-
 unfoldable pub start_refusal : Table → ℕ → ℕ → ℕ → ℕ
 start_refusal t revision number len =
-    or_refuse (leb len message_limit) refusals.too_long (or_refuse (valid t) refusals.table (start_numbers revision number))
+    or_refuse (leb len message_limit) refusals.too_long
+    (or_refuse (valid t) refusals.table
+    (or_refuse (is_revision revision) refusals.table
+    (or_refuse (leb number last_number) refusals.table 0)))
 
 -- The state for a buffer of `len` octets in which nothing is stored, with no field open and nothing noted.
 unfoldable pub begun : ℕ → ℕ → ℕ → State
@@ -111,12 +110,13 @@ started t revision number len = call_result (start_refusal t revision number len
 
 unfoldable pub put_refusal : Table → State → ℕ → ℕ → Bool → Bool → ℕ → ℕ
 put_refusal t s tag len agrees readable size =
-    or_refuse (usable s len) refusals.state
+    or_refuse (eqb len s.length) refusals.state
+    (or_refuse (sound s) refusals.state
     (or_refuse (valid t) refusals.table
     (or_refuse agrees refusals.tag_or_kind
     (or_refuse (not (noted t s tag)) refusals.repeated
     (or_refuse readable refusals.text
-    (or_refuse (leb size s.start) refusals.no_room 0)))))
+    (or_refuse (leb size s.start) refusals.no_room 0))))))
 
 unfoldable pub put : Table → State → ℕ → Bool → Bool → List ℕ → ℕ → Written
 put t s tag agrees readable contents len =
@@ -168,16 +168,17 @@ opening t s tag =
 
 -- ---- close
 
--- The control part of the innermost open field. Its contents are all that was stored since.
+-- The control part of the field that was opened last. Its contents are all that was stored since.
 unfoldable pub closing_part : State → List ℕ
 closing_part s = least_control (get_or s.tags (s.opened - 1) 0) (get_or s.marks (s.opened - 1) 0 - s.start)
 
--- The refusals of a close that come after those of the state and of the table.
-unfoldable pub close_rest : State → ℕ
-close_rest s = or_refuse (leb 1 s.opened) refusals.nothing_open (or_refuse (leb (length (closing_part s)) s.start) refusals.no_room 0)
+-- The refusals of a close that come before that for want of room, which is `next`.
+unfoldable pub close_early : Table → State → ℕ → ℕ → ℕ
+close_early t s len next =
+    or_refuse (eqb len s.length) refusals.state (or_refuse (sound s) refusals.state (or_refuse (valid t) refusals.table (or_refuse (leb 1 s.opened) refusals.nothing_open next)))
 
 unfoldable pub close_refusal : Table → State → ℕ → ℕ
-close_refusal t s len = or_refuse (usable s len) refusals.state (or_refuse (valid t) refusals.table (close_rest s))
+close_refusal t s len = close_early t s len (or_refuse (leb (length (closing_part s)) s.start) refusals.no_room 0)
 
 -- The state one level less deep.
 unfoldable pub outer : State → State

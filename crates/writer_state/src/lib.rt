@@ -3,16 +3,12 @@
 #![tactic(auto)]
 ghost use Rattle.std.specs.Prelude.{◌≡◌, ◌≤◌, length as length-of, take, get_or};
 ghost use Rattle.table.specs.Entry.{inner_of};
-ghost use Rattle.writer_state.specs.Sound.{falling, at_most, sound as sound-of, usable as usable-of};
-ghost use Rattle.table_index.specs.internal.Cells.{cell_for, noted_in, note_in};
-ghost use Rattle.writer_state.specs.Calls.{of_octets, call_result, level, mask as mask-of, started, start_numbers, start_refusal, begun, finish_refusal, finished};
-ghost use Rattle.writer_state.specs.ByOctets.{started_octets};
-ghost use Rattle.writer_state.specs.internal.Tags.{fits as fits-of, not_tagged, cell_kind, tag_kind, tag_octets};
+ghost use Rattle.writer_state.specs.Sound.{falling, small, sound as sound-of};
+ghost use Rattle.table_index.specs.internal.Cells.{noted_in, note_in};
+ghost use Rattle.writer_state.specs.Calls.{of_octets, started, start_refusal, begun, finish_refusal, finished};
+ghost use Rattle.writer_state.specs.internal.Tags.{fits as fits-of, cell_kind, tag_kind};
 
 use table::{Meaning, Table};
-
-// The largest tag.
-const LAST_TAG: u64 = 65535;
 
 // The writer's state: the length of the buffer, the offset at which the octets stored so far start, the number of open message fields, and
 // the revision of the start. Each level has a message number and a mask, which notes the single fields that its message has by their order in
@@ -25,12 +21,12 @@ pub struct State {
     pub revision: u64,
     pub numbers: [u64; 8],
     pub masks: [u64; 8],
-    pub marks: [u64; 7],
-    pub tags: [u64; 7],
+    pub marks: [usize; 7],
+    pub tags: [u16; 7],
 }
 
-// The answer of start, put, open and close: the refusal (0 if the call is accepted), the place (0 except for a faulty record in the octets of a
-// table) and the state after the call. A refused call returns the state that it was given. A refused start returns a state of zeros.
+// The answer of start, put, open and close: the refusal (0 if the call is accepted), the place (always 0) and the state after the call. A
+// refused call returns the state that it was given. A refused start returns a state of zeros.
 #[derive(Drop)]
 pub struct Written {
     pub refusal: u64,
@@ -48,30 +44,29 @@ pub struct Finished {
     pub state: State,
 }
 
-// A tag looked up in the innermost open message: the refusal and its place, or 0 and 0 with the number of its kind, the message number of its
-// contents, and the mask of the innermost message with the tag noted.
+// A tag looked up in the innermost open message: the refusal, or 0 with the number of its kind, the message number of its contents, and the
+// mask of the innermost message with the tag noted.
 #[derive(Drop)]
 pub struct Tagged {
     pub refusal: u64,
-    pub place: u64,
     pub kind: u64,
     pub inner: u64,
     pub mask: u64,
 }
 
 // Returns the answer of a refused call: the state as it was given.
-pub fn refused(reason: u64, place: u64, given: State) -> Written
-    ensures { result ≡ record { refusal = reason; place = place; state = given } }
+pub fn refused(reason: u64, given: State) -> Written
+    ensures { result ≡ record { refusal = reason; place = 0; state = given } }
 {
     Written {
         refusal: reason,
-        place,
+        place: 0,
         state: given,
     }
 }
 
 // Returns whether the first n marks lie between `low` and `high` and none is above the one before it.
-fn marks_fall(marks: &[u64], n: usize, low: u64, high: u64) -> bool
+fn marks_fall(marks: &[usize], n: usize, low: usize, high: usize) -> bool
     requires { n ≤ length-of marks.now }
     ensures { result ≡ falling low high (take n marks.now) }
 {
@@ -91,14 +86,14 @@ fn marks_fall(marks: &[u64], n: usize, low: u64, high: u64) -> bool
     true
 }
 
-// Returns whether the first n numbers are at most `limit`.
-fn at_most(limit: u64, numbers: &[u64], n: usize) -> bool
+// Returns whether the first n message numbers are allowed.
+fn numbers_small(numbers: &[u64], n: usize) -> bool
     requires { n ≤ length-of numbers.now }
-    ensures { result ≡ at_most limit (take n numbers.now) }
+    ensures { result ≡ small (take n numbers.now) }
 {
     let mut i = 0;
     while i < n {
-        if limit < numbers[i] {
+        if reading::LAST_NUMBER < numbers[i] {
             return false;
         }
         i += 1;
@@ -124,23 +119,10 @@ pub fn sound(s: State) -> bool
     if !table_index::is_revision(s.revision) {
         return false;
     }
-    if !marks_fall(&s.marks, n, s.start as u64, s.length as u64) {
+    if !marks_fall(&s.marks, n, s.start, s.length) {
         return false;
     }
-    if !at_most(reading::LAST_NUMBER, &s.numbers, n + 1) {
-        return false;
-    }
-    at_most(LAST_TAG, &s.tags, n)
-}
-
-// Returns whether a call with a buffer of `len` octets can use a state: the state is sound, and start got a buffer of this length.
-pub fn usable(s: State, len: usize) -> bool
-    ensures { result ≡ usable-of s len }
-{
-    if len != s.length {
-        return false;
-    }
-    sound(s)
+    numbers_small(&s.numbers, n + 1)
 }
 
 // Returns the number at an index, or 0 if there are fewer numbers.
@@ -207,12 +189,11 @@ fn inner(kind: Meaning) -> u64
     }
 }
 
-fn not_tagged(refusal: u64, place: u64) -> Tagged
-    ensures { result ≡ not_tagged refusal place }
+fn not_tagged(refusal: u64) -> Tagged
+    ensures { result ≡ record { refusal = refusal; kind = 0; inner = 0; mask = 0 } }
 {
     Tagged {
         refusal,
-        place,
         kind: 0,
         inner: 0,
         mask: 0,
@@ -226,69 +207,36 @@ fn cell_kind(cell: u64, mask: u64, wanted: u64) -> Tagged
     let means = table_index::meaning(cell);
     let kind = table_index::kind_number(means);
     if !fits(wanted, kind) {
-        return not_tagged(reading::TAG_OR_KIND, 0);
+        return not_tagged(reading::TAG_OR_KIND);
     }
     if noted(mask, cell) {
-        return not_tagged(reading::REPEATED, 0);
+        return not_tagged(reading::REPEATED);
     }
     Tagged {
         refusal: 0,
-        place: 0,
         kind,
         inner: inner(means),
         mask: note(mask, cell),
     }
 }
 
-// Looks up a tag in the innermost open message of a state, under the index of a table, for a call that wants a kind.
-fn tag_under(cells: &[u32; 128], s: State, tag: u64, wanted: u64) -> Tagged
-    ensures { result ≡ cell_kind (cell_for cells.now (level s) tag) (mask-of s) wanted }
-{
-    let cell = table_index::cell(cells, number_at(&s.numbers, s.opened), tag);
-    cell_kind(cell, number_at(&s.masks, s.opened), wanted)
-}
-
-// Looks up a tag in the innermost open message, for a call that wants a kind and gets a buffer of `len` octets. One pass over the octets of the
-// table tests them and indexes them under the revision of the state. Refusals: STATE, TABLE at the faulty record, TAG_OR_KIND, REPEATED.
-pub fn tag_kind(table: &[u8], s: State, len: usize, tag: u64, wanted: u64) -> Tagged
-    ensures { result ≡ tag_octets table.now s len tag wanted }
-{
-    if !usable(s, len) {
-        return not_tagged(reading::STATE, 0);
-    }
-    let mut cells = [0u32; 128];
-    let end = table_index::index(table, s.revision, &mut cells);
-    if end < table.len() {
-        return not_tagged(reading::TABLE, end as u64);
-    }
-    tag_under(&cells, s, tag, wanted)
-}
-
-// Does the same under a table that was loaded: one pass over its words. Refusals: STATE, TABLE, TAG_OR_KIND, REPEATED.
-pub fn tag_kind_loaded(t: Table, s: State, len: usize, tag: u64, wanted: u64) -> Tagged
+// Looks up a tag in the innermost open message, for a call that wants a kind. One pass over the table's words tests the table and indexes
+// it under the revision of the state. Refusals: STATE, TABLE, TAG_OR_KIND, REPEATED.
+pub fn tag_kind(t: Table, s: State, len: usize, tag: u64, wanted: u64) -> Tagged
     ensures { result ≡ tag_kind t s len tag wanted }
 {
-    if !usable(s, len) {
-        return not_tagged(reading::STATE, 0);
+    if len != s.length {
+        return not_tagged(reading::STATE);
+    }
+    if !sound(s) {
+        return not_tagged(reading::STATE);
     }
     let mut cells = [0u32; 128];
     if !table_index::index_table(&t.words, t.count, s.revision, &mut cells) {
-        return not_tagged(reading::TABLE, 0);
+        return not_tagged(reading::TABLE);
     }
-    tag_under(&cells, s, tag, wanted)
-}
-
-// Returns the refusal of a start for its revision or its message number, or 0.
-fn numbers_refusal(revision: u64, number: u64) -> u64
-    ensures { result ≡ start_numbers revision number }
-{
-    if !table_index::is_revision(revision) {
-        return reading::TABLE;
-    }
-    if reading::LAST_NUMBER < number {
-        return reading::TABLE;
-    }
-    0
+    let cell = table_index::cell(&cells, number_at(&s.numbers, s.opened), tag);
+    cell_kind(cell, number_at(&s.masks, s.opened), wanted)
 }
 
 fn start_refusal(t: Table, revision: u64, number: u64, len: usize) -> u64
@@ -300,7 +248,13 @@ fn start_refusal(t: Table, revision: u64, number: u64, len: usize) -> u64
     if !table_index::valid(t) {
         return reading::TABLE;
     }
-    numbers_refusal(revision, number)
+    if !table_index::is_revision(revision) {
+        return reading::TABLE;
+    }
+    if reading::LAST_NUMBER < number {
+        return reading::TABLE;
+    }
+    0
 }
 
 // Returns the state for a buffer of `len` octets in which nothing is stored, with no field open and nothing noted.
@@ -316,49 +270,25 @@ fn fresh(len: usize, revision: u64, number: u64) -> State
         revision,
         numbers,
         masks: [0u64; 8],
-        marks: [0u64; 7],
-        tags: [0u64; 7],
+        marks: [0usize; 7],
+        tags: [0u16; 7],
     }
 }
 
-// Returns the answer of a start with this refusal, or 0, for a buffer of `len` octets.
-fn begin(refusal: u64, len: usize, revision: u64, number: u64) -> Written
-    ensures { result ≡ call_result refusal (begun 0 0 0) (begun len revision number) }
+// Starts a message with a number at the end of a lent buffer, under a revision of the profile. Refusals, all at place 0: TOO_LONG for a buffer
+// over the limit, TABLE.
+pub fn start(t: Table, revision: u64, number: u64, out: &[u8]) -> Written
+    ensures { result ≡ started t revision number (length-of out.now) }
 {
+    let refusal = start_refusal(t, revision, number, out.len());
     if refusal != 0 {
-        return refused(refusal, 0, fresh(0, 0, 0));
+        return refused(refusal, fresh(0, 0, 0));
     }
     Written {
         refusal: 0,
         place: 0,
-        state: fresh(len, revision, number),
+        state: fresh(out.len(), revision, number),
     }
-}
-
-// Starts a message with a number at the end of a lent buffer, under the octets of a table and a revision of the profile. Refusals: TOO_LONG for a
-// buffer over the limit, TABLE at the faulty record, TABLE at 0 for the revision and the number.
-pub fn start(table: &[u8], revision: u64, number: u64, out: &[u8]) -> Written
-    ensures { result ≡ started_octets table.now revision number (length-of out.now) }
-{
-    if reading::MESSAGE_LIMIT < out.len() {
-        return refused(reading::TOO_LONG, 0, fresh(0, 0, 0));
-    }
-    let mut cells = [0u32; 128];
-    let end = table_index::index(table, 1, &mut cells);
-    if end < table.len() {
-        return refused(reading::TABLE, end as u64, fresh(0, 0, 0));
-    }
-    let refusal = numbers_refusal(revision, number);
-    begin(refusal, out.len(), revision, number)
-}
-
-// Does the same under a table that was loaded. Refusals, all at place 0: TOO_LONG, TABLE.
-pub fn start_loaded(t: Table, revision: u64, number: u64, out: &[u8]) -> Written
-    ensures { result ≡ started t revision number (length-of out.now) }
-{
-    let len = out.len();
-    let refusal = start_refusal(t, revision, number, len);
-    begin(refusal, len, revision, number)
 }
 
 fn finish_refusal(s: State) -> u64

@@ -99,9 +99,9 @@ unfoldable pub writer : Type 0
 unfolding hproto writing.state_fits writing.start_fits writing.int_fits writing.Value writing.value_fits writing.put_fits writing.open_fits
     writing.close_fits writing.start writing.call_of writing.put writing.open_field writing.close_field writing.finish writing.sound_state writes.answer
     writes.buffer calls.or_refuse calls.call_result calls.buffer_after calls.level calls.meant calls.single calls.mask calls.noted calls.mask_with
-    calls.back calls.masked masks.order masks.has_bit masks.with_bit calls.start_numbers calls.start_refusal calls.begun calls.started calls.put_refusal calls.put
-    calls.put_buffer calls.of_octets calls.readable calls.open_refusal calls.deeper calls.opening calls.closing_part calls.close_rest calls.close_refusal
-    calls.outer calls.closing calls.close_buffer calls.finish_refusal calls.finished sounds.falling sounds.at_most sounds.sound sounds.usable signs.least_int
+    calls.back calls.masked masks.order masks.has_bit masks.with_bit calls.start_refusal calls.begun calls.started calls.put_refusal calls.put
+    calls.put_buffer calls.of_octets calls.readable calls.open_refusal calls.deeper calls.opening calls.closing_part calls.close_early calls.close_refusal
+    calls.outer calls.closing calls.close_buffer calls.finish_refusal calls.finished sounds.falling sounds.small sounds.sound signs.least_int
     signs.signed_width signs.signed_bits
 writer = Unit {0}
 

@@ -14,9 +14,9 @@ use Rattle.table.specs.Valid.{valid}
 use Rattle.table.specs.declared.Table.{Table}
 use Rattle.octets.proofs.Bools.{and_left, and_right}
 use Rattle.table.proofs.Valid.{valid_loadable}
-use Rattle.writer_state.specs.Sound.{falling, at_most, sound}
+use Rattle.writer_state.specs.Sound.{falling, small, sound}
 use Rattle.writer_state.specs.declared.State.{State}
-use Rattle.writer_state.proofs.SoundStates.{sound_within, sound_few, last_mark, most_below, open_tag}
+use Rattle.writer_state.proofs.SoundStates.{sound_within, sound_few, last_mark}
 use Rattle.wrong_programs.specs.Kinds.{refusal_of}
 use Rattle.wrong_programs.specs.Faults.{NoRevision, BadTableRuledOut, BadRevisionRuledOut, BadStateRuledOut}
 use Rattle.wrong_programs.proofs.RulingOut.{accepts_some}
@@ -82,6 +82,12 @@ fall_apart low high [] i e = omega arith
 fall_apart low high (m ∷ ms) zero e = fall_below low m ms 0 (fall_rest low high m ms e)
 fall_apart low high (m ∷ ms) (suc i) e = fall_apart low m ms i (fall_rest low high m ms e)
 
+all_small : (ns : List ℕ) (i : ℕ) → small ns ≡ true → get_or ns i 0 ≤ 15
+unfolding small
+all_small [] i e = omega arith
+all_small (n ∷ ns) zero e = leb-true n 15 (and_left (leb n 15) (small ns) e)
+all_small (n ∷ ns) (suc i) e = all_small ns i (and_right (leb n 15) (small ns) e)
+
 module _ (s : State) (e : sound s ≡ true) where
   abbrev lengths : Bool
   lengths = leb s.length 65536 && leb s.start s.length
@@ -93,20 +99,14 @@ module _ (s : State) (e : sound s ≡ true) where
   falls = falling s.start s.length (take s.opened s.marks)
 
   abbrev smalls : Bool
-  smalls = at_most 15 (take (s.opened + 1) s.numbers)
-
-  abbrev tags_fit : Bool
-  tags_fit = at_most 65535 (take s.opened s.tags)
+  smalls = small (take (s.opened + 1) s.numbers)
 
   abbrev before_marks : Bool
   before_marks = lengths && leb s.opened 7 && known
 
-  sound_numbers : before_marks && falls && smalls ≡ true
-  unfolding sound
-  sound_numbers = and_left (before_marks && falls && smalls) tags_fit e
-
   sound_marks : before_marks && falls ≡ true
-  sound_marks = and_left (before_marks && falls) smalls sound_numbers
+  unfolding sound
+  sound_marks = and_left (before_marks && falls) smalls e
 
   sound_before_marks : before_marks ≡ true
   sound_before_marks = and_left before_marks falls sound_marks
@@ -132,9 +132,10 @@ module _ (s : State) (e : sound s ≡ true) where
       rw (get_or-take s.opened s.marks (suc i) 0 h, get_or-take s.opened s.marks i 0 k) at f
 
   number_small : (i : ℕ) → i ≤ s.opened → get_or s.numbers i 0 ≤ 15
+  unfolding sound
   number_small i h =
       let k : i < s.opened + 1 = omega arith in
-      let f = most_below 15 (take (s.opened + 1) s.numbers) i (and_right (before_marks && falls) smalls sound_numbers) in
+      let f = all_small (take (s.opened + 1) s.numbers) i (and_right (before_marks && falls) smalls e) in
       rw (get_or-take (s.opened + 1) s.numbers i 0 k) at f
 
 -- An entry that accepts only sound states.
@@ -160,8 +161,6 @@ module _ {A B : Type 0} {right : A → B} (refusal : B → ℕ) (state : A → S
             accepts_some refusal _ (λ x w e. let h = marks_fall (state x) (only-sound x e) w.0 w.1 in let l = w.2 in omega arith);
         accepts_number_over_15 =
             accepts_some refusal _ (λ x w e. let h = number_small (state x) (only-sound x e) w.0 w.1 in let l = w.2 in omega arith);
-        accepts_tag_over_65535 =
-            accepts_some refusal _ (λ x w e. let h = open_tag (state x) (only-sound x e) w.0 w.1 in let l = w.2 in omega arith);
       }
 
 -- ---- tables

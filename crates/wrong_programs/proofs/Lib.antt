@@ -32,4 +32,3 @@ pub mod Nesting
 pub mod Notes
 pub mod StartFinish
 pub mod WriterFaults
-pub mod Arrays

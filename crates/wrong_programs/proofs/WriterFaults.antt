@@ -3,18 +3,19 @@
 use Prim.Native.Nat.{ℕ, ◌<◌}
 use native.Mathlib.Omega.{arith}
 use mathlib.Core.Path.{◌≡◌}
-use mathlib.Core.Bool.{Bool, true, and-false}
+use mathlib.Core.Bool.{true, and-false}
 use lib.ListN.{length}
+use lib.Dec.{eqb}
+use borrow.Author.Tests.{eqb-true}
 use Rattle.table.specs.Valid.{valid}
 use Rattle.table.specs.declared.Table.{Table}
-use Rattle.writer_state.specs.Sound.{sound, usable}
+use Rattle.writer_state.specs.Sound.{sound}
 use Rattle.writer_state.specs.Answer as writes
 use Rattle.writer_state.specs.Calls as calls
 use Rattle.writer_state.specs.Calls.{or_refuse}
 use Rattle.writer_state.specs.declared.State.{State}
 use Rattle.writer_state.specs.declared.Written.{Written}
 use Rattle.writer_state.specs.declared.Finished.{Finished}
-use Rattle.writer_state.proofs.SoundStates.{usable_parts}
 use Rattle.writer_state.proofs.Conditions.{passed as met, StartMet, start_met}
 use Rattle.wrong_programs.specs.Kinds as kinds
 use Rattle.wrong_programs.specs.Kinds.{RuledOut, AcceptsSome, refusal_of}
@@ -24,23 +25,24 @@ use Rattle.wrong_programs.specs.Faults.{BadTableRuledOut, BadRevisionRuledOut, B
 use Rattle.wrong_programs.proofs.RulingOut.{accepts_some}
 use Rattle.wrong_programs.proofs.Faults.{equal, holds, bad_table_lem, bad_revision, bad_state}
 
--- The tests that put, open and close share, with what comes after them: that of the state, and that of the table.
-state_and_table : (good : Bool) (t : Table) (next : ℕ) → or_refuse good 10 (or_refuse (valid t) 2 next) ≡ 0 → (good ≡ true) × (valid t ≡ true)
-state_and_table good t next e =
-    let a = met good 10 (or_refuse (valid t) 2 next) (omega arith) e in
+-- The tests that put, open and close share, with what comes after them.
+state_and_table : (t : Table) (s : State) (next : ℕ) → or_refuse (sound s) 10 (or_refuse (valid t) 2 next) ≡ 0 → (sound s ≡ true) × (valid t ≡ true)
+state_and_table t s next e =
+    let a = met (sound s) 10 (or_refuse (valid t) 2 next) (omega arith) e in
     (a.0, (met (valid t) 2 next (omega arith) a.1).0)
 
--- In put and close the test of the state includes the length of the buffer.
+-- Those of put and close begin with that of the buffer's length.
 record Passed (t : Table) (s : State) (len : ℕ) : Type 0 where
   same_length : len ≡ s.length
   state_sound : sound s ≡ true
   table_valid : valid t ≡ true
 
-passed : (t : Table) (s : State) (len next : ℕ) → or_refuse (usable s len) 10 (or_refuse (valid t) 2 next) ≡ 0 → Passed t s len
+passed : (t : Table) (s : State) (len next : ℕ)
+    → or_refuse (eqb len s.length) 10 (or_refuse (sound s) 10 (or_refuse (valid t) 2 next)) ≡ 0 → Passed t s len
 passed t s len next e =
-    let a = state_and_table (usable s len) t next e in
-    let b = usable_parts s len a.0 in
-    record { same_length = b.0; state_sound = b.1; table_valid = a.1 }
+    let a = met (eqb len s.length) 10 (or_refuse (sound s) 10 (or_refuse (valid t) 2 next)) (omega arith) e in
+    let b = state_and_table t s next a.1 in
+    record { same_length = eqb-true len s.length a.0; state_sound = b.0; table_valid = b.1 }
 
 -- ---- put_uint, put_int and put_octets
 
@@ -94,7 +96,7 @@ abbrev close_size : CloseCall → ℕ
 close_size x = length x.value.buffer
 
 close_passed : (x : CloseCall) → outcome_refusal (close_field x) ≡ 0 → Passed (close_table x) (close_state x) (close_size x)
-unfolding close_field writes.answer calls.closing calls.call_result calls.close_refusal calls.close_rest
+unfolding close_field writes.answer calls.closing calls.call_result calls.close_refusal calls.close_early
 close_passed x e = passed (close_table x) (close_state x) (close_size x) _ e
 
 pub close_accepts_bad_table : BadTableRuledOut close_field outcome_refusal close_table
@@ -125,7 +127,7 @@ open_state x = x.value.state
 
 open_passed : (x : OpenCall) → refusal (open_field x) ≡ 0 → (sound (open_state x) ≡ true) × (valid (open_table x) ≡ true)
 unfolding open_field writes.answer calls.opening calls.call_result calls.open_refusal
-open_passed x e = state_and_table (sound (open_state x)) (open_table x) _ e
+open_passed x e = state_and_table (open_table x) (open_state x) _ e
 
 pub open_accepts_bad_table : BadTableRuledOut open_field refusal open_table
 unfolding writing.open_fits kinds.table kinds.array

@@ -3,7 +3,6 @@ use Rattle.std.specs.Prelude.{ℕ, suc, ◌≤◌, ◌<◌, ◌≡◌, get_or}
 use Rattle.reading.specs.Reading.{message_limit, last_number}
 use Rattle.table.specs.Load.{Loadable}
 use Rattle.table.specs.declared.Table.{Table}
-use Rattle.writer_state.specs.Sound.{last_tag}
 use Rattle.writer_state.specs.declared.State.{State}
 use Rattle.wrong_programs.specs.Kinds.{RuledOut, AcceptsSome}
 
@@ -19,8 +18,8 @@ NoRevision revision = (revision ≡ 1 → ⊥) × (revision ≡ 2 → ⊥)
 abbrev pub BadRevisionRuledOut : {A B : Type 0} → (A → B) → (B → ℕ) → (A → ℕ) → Type 0
 BadRevisionRuledOut {A} right refusal revision = RuledOut (AcceptsSome refusal (λ (x : A). NoRevision (revision x))) right
 
--- Programs that accept a state with one of the faults that documents 01 and 02 list, or with a tag of more than 16 bits. `state` is the state in a
--- call. A mark, a tag and a message number count where they are in use: with k fields open, k marks, k tags and k + 1 numbers are.
+-- Programs that accept a state with one of the faults that documents 01 and 02 list. `state` is the state in a call. A mark and a message number
+-- count where they are in use: with k fields open, k marks and k + 1 numbers are.
 pub record BadStateRuledOut {A B : Type 0} (right : A → B) (refusal : B → ℕ) (state : A → State) : Type 0 where
   pub accepts_long_buffer : RuledOut (AcceptsSome refusal (λ (x : A). message_limit < (state x).length)) right
   pub accepts_start_beyond_length : RuledOut (AcceptsSome refusal (λ (x : A). (state x).length < (state x).start)) right
@@ -36,5 +35,3 @@ pub record BadStateRuledOut {A B : Type 0} (right : A → B) (refusal : B → �
       right
   pub accepts_number_over_15 :
       RuledOut (AcceptsSome refusal (λ (x : A). (i : ℕ) × (i ≤ (state x).opened) × (last_number < get_or (state x).numbers i 0))) right
-  pub accepts_tag_over_65535 :
-      RuledOut (AcceptsSome refusal (λ (x : A). (i : ℕ) × (i < (state x).opened) × (last_tag < get_or (state x).tags i 0))) right

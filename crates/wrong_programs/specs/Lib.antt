@@ -13,4 +13,3 @@ pub mod Tib
 pub mod Qform
 pub mod Reals
 pub mod Writer
-pub mod Arrays

@@ -15,7 +15,7 @@ use Rattle.wrong_programs.specs.Kinds.{Given, word, array}
 unfoldable pub state_fits : State → Bool
 state_fits s =
     word s.length && word s.start && word s.opened && word s.revision && array 8 0x10000000000000000 s.numbers
-    && array 8 0x10000000000000000 s.masks && array 7 0x10000000000000000 s.marks && array 7 0x10000000000000000 s.tags
+    && array 8 0x10000000000000000 s.masks && array 7 0x10000000000000000 s.marks && array 7 0x10000 s.tags
 
 -- ---- start
 

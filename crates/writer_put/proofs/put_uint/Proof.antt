@@ -1,45 +1,29 @@
 -- `put_uint` meets its contract: a put of the least octets of a number.
-use native.Mathlib.Omega.{arith}
-use mathlib.Core.Path.{refl, sym, ◌∙◌}
-use Prim.Native.Nat.{ℕ}
-use mathlib.Core.Bool.{true}
-use Rattle.octets.specs.Number.{octets_of}
+use mathlib.Core.Path.{refl, ◌∙◌}
 use Rattle.octets.proofs.Number.{uint_octets}
 use Rattle.writer_state.specs.Answer.{answer, buffer}
-use Rattle.writer_state.specs.ByOctets.{answer_octets, buffer_octets, usable_for}
 use Rattle.writer_state.specs.internal.Tags.{fits}
-use Rattle.writer_put.proofs.ByTag.{octets_answer, octets_buffer, octets_puttable}
 use borrow.Author.Rules.{rules}
 use Rattle.writer_put.proofs.put_uint.Statement.{statement}
 use Rattle.writer_put.proofs.put_uint.Tie as tie
-
-tag-kind-requires : tie.Need-tag-kind-requires
-tag-kind-requires c κs = search rules
 
 uint-least-requires : tie.Need-uint-least-requires
 uint-least-requires c κs = search rules
 
 put-least-requires : tie.Need-put-least-requires
-put-least-requires c κs =
-    let a = c.before.before.before.before.before.args in
-    let l = c.before.uint-least in
-    octets_puttable a.s a.tag 1 (λ (kind : ℕ). true) (octets_of l.result.width l.result.bits) a.out.now a.table.now c.before.before.tag-kind.ensures (omega arith)
+put-least-requires c κs = search rules
 
 same_length : tie.Need-same-length
 same_length c = search rules
 
 returns : tie.Need-returns
-unfolding answer_octets buffer_octets usable_for answer buffer fits
+unfolding answer buffer fits
 returns c =
-    let a = c.before.before.before.before.before.before.before.before.args in
-    let d = a.out.now in
-    let k = c.before.before.before.before.before.tag-kind in
-    let p = c.before.before.put-least in
+    let a = c.before.before.before.before.before.before.args in
     let l = c.before.before.before.before.uint-least in
+    let p = c.before.before.put-least in
     let u = uint_octets l.result a.v l.ensures in
-    (p.ensures.0 ∙ octets_answer a.s a.tag 1 (λ (kind : ℕ). true) (octets_of l.result.width l.result.bits) d a.table.now k.ensures ∙ rw u refl, p.ensures.1 ∙ octets_buffer a.s a.tag 1 (λ (kind : ℕ). true) (octets_of l.result.width l.result.bits) d a.table.now k.ensures ∙ rw u refl)
+    (p.ensures.0 ∙ rw u refl, p.ensures.1 ∙ rw u refl)
 
 pub put-uint-spec : {M : Type 1} → statement M
-put-uint-spec =
-    tie.close
-    (tie.spec tag-kind-requires uint-least-requires put-least-requires same_length returns)
+put-uint-spec = tie.close (tie.spec uint-least-requires put-least-requires same_length returns)

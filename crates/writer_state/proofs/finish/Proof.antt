@@ -8,10 +8,10 @@ finish-refusal-requires : tie.Need-finish-refusal-requires
 finish-refusal-requires c κs = search rules
 
 returns : tie.Need-returns
-returns c = finish_refused c.before.before.args.s c.before.finish_refusal.result c.before.finish_refusal.ensures c.if1.true
+returns c = finish_refused c.before.before.args.s c.before.finish-refusal.result c.before.finish-refusal.ensures c.if1.true
 
 returns-2 : tie.Need-returns-2
-returns-2 c = finish_accepted c.before.before.args.s c.before.finish_refusal.result c.before.finish_refusal.ensures c.if1.false
+returns-2 c = finish_accepted c.before.before.args.s c.before.finish-refusal.result c.before.finish-refusal.ensures c.if1.false
 
 pub finish_spec : {M : Type 1} → statement M
 finish_spec = tie.close (tie.spec finish-refusal-requires returns returns-2)

@@ -1,7 +1,7 @@
 -- `sound` meets its contract: each fault of a state in its order.
 use mathlib.Core.Path.{sym, ◌∙◌}
 use borrow.Author.Tests.{not-true, not-false}
-use Rattle.writer_state.proofs.Levels.{sound_long, sound_start, sound_many, sound_revision, sound_marks, sound_numbers, sound_tags}
+use Rattle.writer_state.proofs.Levels.{sound_long, sound_start, sound_many, sound_revision, sound_marks, sound_numbers}
 use borrow.Author.Rules.{rules}
 use Rattle.writer_state.proofs.sound.Statement.{statement}
 use Rattle.writer_state.proofs.sound.Tie as tie
@@ -30,30 +30,21 @@ returns-5 : tie.Need-returns-5
 returns-5 c =
     let v = c.before.before.before.before.before.before.is-revision in
     let m = c.before.marks_fall in
-    sound_marks c.before.before.before.before.before.before.before.before.before.before.args.t1 c.before.before.before.before.before.before.before.before.before.if1.false c.before.before.before.before.before.before.before.before.if2.false c.before.before.before.before.before.before.before.if3.false (sym (not-false v.result c.before.before.before.before.before.if4.false) ∙ v.ensures) (sym (not-true m.result c.if5.true) ∙ m.ensures)
+    sound_marks c.before.before.before.before.before.before.before.before.before.before.args.t1 c.before.before.before.before.before.before.before.before.before.if1.false c.before.before.before.before.before.before.before.before.if2.false c.before.before.before.before.before.before.before.if3.false (sym (not-false v.result c.before.before.before.before.before.if4.false) ∙ v.ensures)
+    (sym (not-true m.result c.if5.true) ∙ m.ensures)
 
-add-at-most : tie.Need-overflow-add-at-most
-add-at-most c = search rules
+add-numbers-small : tie.Need-overflow-add-numbers-small
+add-numbers-small c = search rules
 
-at-most-requires : tie.Need-at-most-requires
-at-most-requires c κs = search rules
+numbers-small-requires : tie.Need-numbers-small-requires
+numbers-small-requires c κs = search rules
 
 returns-6 : tie.Need-returns-6
 returns-6 c =
-    let v = c.before.before.before.before.before.before.before.before.before.before.before.is-revision in
-    let m = c.before.before.before.before.before.before.marks_fall in
-    let n = c.before.at_most in
-    sound_numbers c.before.before.before.before.before.before.before.before.before.before.before.before.before.before.before.args.t1 c.before.before.before.before.before.before.before.before.before.before.before.before.before.before.if1.false c.before.before.before.before.before.before.before.before.before.before.before.before.before.if2.false c.before.before.before.before.before.before.before.before.before.before.before.before.if3.false (sym (not-false v.result c.before.before.before.before.before.before.before.before.before.before.if4.false) ∙ v.ensures) (sym (not-false m.result c.before.before.before.before.before.if5.false) ∙ m.ensures) (sym (not-true n.result c.if6.true) ∙ n.ensures)
-
-at-most-requires-2 : tie.Need-at-most-requires-2
-at-most-requires-2 c κs = search rules
-
-returns-7 : tie.Need-returns-7
-returns-7 c =
-    let v = c.before.before.before.before.before.before.before.before.before.before.before.before.before.before.before.is-revision in
-    let m = c.before.before.before.before.before.before.before.before.before.before.marks_fall in
-    let n = c.before.before.before.before.before.at_most in
-    sound_tags c.before.before.before.before.before.before.before.before.before.before.before.before.before.before.before.before.before.before.before.args.t1 c.before.before.before.before.before.before.before.before.before.before.before.before.before.before.before.before.before.before.if1.false c.before.before.before.before.before.before.before.before.before.before.before.before.before.before.before.before.before.if2.false c.before.before.before.before.before.before.before.before.before.before.before.before.before.before.before.before.if3.false (sym (not-false v.result c.before.before.before.before.before.before.before.before.before.before.before.before.before.before.if4.false) ∙ v.ensures) (sym (not-false m.result c.before.before.before.before.before.before.before.before.before.if5.false) ∙ m.ensures) (sym (not-false n.result c.before.before.before.before.if6.false) ∙ n.ensures) c.at-most2.ensures
+    let v = c.before.before.before.before.before.before.before.before.before.before.is-revision in
+    let m = c.before.before.before.before.before.marks_fall in
+    sound_numbers c.before.before.before.before.before.before.before.before.before.before.before.before.before.before.args.t1 c.before.before.before.before.before.before.before.before.before.before.before.before.before.if1.false c.before.before.before.before.before.before.before.before.before.before.before.before.if2.false c.before.before.before.before.before.before.before.before.before.before.before.if3.false (sym (not-false v.result c.before.before.before.before.before.before.before.before.before.if4.false) ∙ v.ensures)
+    (sym (not-false m.result c.before.before.before.before.if5.false) ∙ m.ensures) c.numbers-small.ensures
 
 pub sound-spec : {M : Type 1} → statement M
 sound-spec =
@@ -66,8 +57,6 @@ sound-spec =
     returns-4
     marks-fall-requires
     returns-5
-    add-at-most
-    at-most-requires
-    returns-6
-    at-most-requires-2
-    returns-7)
+    add-numbers-small
+    numbers-small-requires
+    returns-6)

@@ -1,13 +1,11 @@
--- The answers of the functions `tag_kind` and `tag_kind_loaded`, which put and open share, and of `cell_kind`.
-use Rattle.std.specs.Prelude.{ℕ, Bool, true, cond, not, List, eqb}
+-- The answers of the functions `tag_kind`, which put and open share, and `cell_kind`.
+use Rattle.std.specs.Prelude.{ℕ, Bool, true, cond, not, eqb}
 use Rattle.reading.specs.Refusals as refusals
 use Rattle.table.specs.Entry.{kind_number, inner_of}
 use Rattle.table.specs.declared.Meaning.{Meaning}
 use Rattle.table.specs.declared.Table.{Table}
 use Rattle.table_index.specs.internal.Cells.{meaning_in, noted_in, note_in}
 use Rattle.writer_state.specs.Calls.{or_refuse, meant, mask_with, of_octets, put_refusal}
-use Rattle.writer_state.specs.ByOctets.{by_octets}
-use Rattle.writer_state.specs.Sound.{usable}
 use Rattle.writer_state.specs.declared.State.{State}
 use Rattle.writer_state.specs.declared.Tagged.{Tagged}
 
@@ -15,24 +13,16 @@ use Rattle.writer_state.specs.declared.Tagged.{Tagged}
 unfoldable pub fits : ℕ → ℕ → Bool
 fits wanted kind = cond (eqb wanted 3) (of_octets kind) (eqb kind wanted)
 
--- A refusal at a place.
-unfoldable pub not_tagged : ℕ → ℕ → Tagged
-not_tagged refusal place = record { refusal = refusal; place = place; kind = 0; inner = 0; mask = 0 }
-
--- A refusal at 0; in no refusal the number of a kind, its inner number and a mask.
+-- A refusal; in no refusal the number of a kind, its inner number and a mask.
 unfoldable pub or_known : ℕ → Meaning → ℕ → Tagged
 or_known refusal m mask =
-    cond (eqb refusal 0) (record { refusal = 0; place = 0; kind = kind_number m; inner = inner_of m; mask = mask }) (not_tagged refusal 0)
+    cond (eqb refusal 0) (record { refusal = 0; kind = kind_number m; inner = inner_of m; mask = mask }) (record { refusal = refusal; kind = 0; inner = 0; mask = 0 })
 
 -- The refusal of a put of no octets, which needs no room; in no refusal what the tag means, and the mask with the tag noted.
 unfoldable pub tag_kind : Table → State → ℕ → ℕ → ℕ → Tagged
 tag_kind t s len tag wanted =
     let m = meant t s tag in
     or_known (put_refusal t s tag len (fits wanted (kind_number m)) true 0) m (mask_with t s tag)
-
--- The same by the octets of a table.
-unfoldable pub tag_octets : List ℕ → State → ℕ → ℕ → ℕ → Tagged
-tag_octets octets s len tag wanted = by_octets (usable s len) refusals.state octets (λ t. tag_kind t s len tag wanted) not_tagged
 
 -- The same by the cell of the tag and the mask of the message, where neither the state nor the table is refused.
 unfoldable pub cell_kind : ℕ → ℕ → ℕ → Tagged

@@ -1,18 +1,18 @@
--- `at_most` meets its contract: in each step of the loop the remaining numbers decide.
+-- `numbers_small` meets its contract: in each step of the loop the remaining numbers decide.
 use Prim.Native.Nat.{◌-◌, ◌≤◌}
 use native.Mathlib.Omega.{arith}
 use mathlib.Core.Path.{◌≡◌, refl, sym, ◌∙◌}
 use lib.ListN.{take, drop}
-use Rattle.writer_state.specs.Sound.{at_most}
-use Rattle.writer_state.proofs.Levels.{most_ends, most_over, most_moves}
-use Rattle.writer_state.proofs.at_most.Statement.{statement}
-use Rattle.writer_state.proofs.at_most.Tie as tie
+use Rattle.writer_state.specs.Sound.{small}
+use Rattle.writer_state.proofs.Levels.{small_ends, small_over, small_moves}
+use Rattle.writer_state.proofs.numbers_small.Statement.{statement}
+use Rattle.writer_state.proofs.numbers_small.Tie as tie
 
 abbrev invariant-loop : tie.invariant-loop
-invariant-loop limit numbers n i₀ i = (i ≤ n) × (at_most limit (take n numbers) ≡ at_most limit (drop i (take n numbers)))
+invariant-loop numbers n i₀ i = (i ≤ n) × (small (take n numbers) ≡ small (drop i (take n numbers)))
 
 abbrev decreases-loop : tie.decreases-loop
-decreases-loop limit numbers n i₀ i = n - i
+decreases-loop numbers n i₀ i = n - i
 
 loop-holds : tie.Need-loop-init invariant-loop decreases-loop
 loop-holds c = (omega arith, refl)
@@ -27,7 +27,7 @@ returns : tie.Need-returns invariant-loop decreases-loop
 returns c =
     let a = c.before.before.before.before.args in
     let l = c.before.before.before.loop in
-    sym (l.invariant.1 ∙ most_over a.numbers.now a.n l.i (omega arith) a.limit (omega arith) c.if1.true)
+    sym (l.invariant.1 ∙ small_over a.numbers.now a.n l.i (omega arith) (omega arith) c.if1.true)
 
 add-i : tie.Need-overflow-add-i invariant-loop decreases-loop
 add-i c = omega arith
@@ -39,16 +39,16 @@ loop-again : tie.Need-loop-preserved invariant-loop decreases-loop
 loop-again c =
     let a = c.before.before.before.before.args in
     let l = c.before.before.before.loop in
-    (omega arith, l.invariant.1 ∙ most_moves a.numbers.now a.n l.i (omega arith) a.limit (omega arith) c.if1.false)
+    (omega arith, l.invariant.1 ∙ small_moves a.numbers.now a.n l.i (omega arith) (omega arith) c.if1.false)
 
 returns-2 : tie.Need-returns-2 invariant-loop decreases-loop
 returns-2 c =
     let a = c.before.before.args in
     let l = c.before.loop in
-    sym (l.invariant.1 ∙ most_ends a.numbers.now a.n l.i (omega arith) a.limit (omega arith))
+    sym (l.invariant.1 ∙ small_ends a.numbers.now a.n l.i (omega arith) (omega arith))
 
-pub at-most-spec : {M : Type 1} → statement M
-at-most-spec =
+pub numbers-small-spec : {M : Type 1} → statement M
+numbers-small-spec =
     tie.close
     (tie.spec
     invariant-loop
