@@ -12,7 +12,7 @@ pub struct Table {
 }
 
 // The kind of a tag in messages of a given number. A tag without an entry in the table is raw.
-#[derive(Drop)]
+#[derive(Clone, Copy)]
 pub enum Meaning {
     Raw,
     Uint,
