@@ -2,6 +2,8 @@
 // starts and finishes a message.
 #![tactic(auto)]
 
+pub mod by_octets;
+
 ghost use Rattle.std.specs.Prelude.{◌≡◌, ◌≤◌, length as length-of, take, get_or};
 ghost use Rattle.table.specs.Entry.{inner_of};
 ghost use Rattle.writer_state.specs.Sound.{falling, small, sound as sound-of};
