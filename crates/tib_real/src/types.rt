@@ -10,7 +10,7 @@ pub struct Real {
 }
 
 // The result of reading a real as a whole number, in fractions or in decimals: a refusal and its place, or 0 and the number.
-#[derive(Drop)]
+#[derive(Clone, Copy)]
 pub struct WholeNumber {
     pub refusal: u64,
     pub place: u64,
