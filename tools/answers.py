@@ -470,6 +470,9 @@ def turn(path, module, function, fn, say):
         k = re.search(r": tie\.([A-Z][\w'-]*)", block)
         if k and plain(k[1]) in fn.places:
             here.helpers[name] = fn.places[plain(k[1])]
+            if name == "module":
+                for inner in re.finditer(r"^  (?:abbrev |unfoldable )*(?:pub )?(" + WORD + r")(?: [^\n:]+)? :\s", block, re.M):
+                    here.helpers[inner[1]] = fn.places[plain(k[1])]
             typed.setdefault("c", fn.at[plain(k[1])])
             e = re.search(r"^" + re.escape(name) + r"((?: \S+)*?) =", block, re.M)
             if e and e[1].split():

@@ -8,9 +8,8 @@ use Rattle.table.specs.Mask.{has_bit, with_bit}
 use Rattle.table_index.specs.internal.Cells.{single_in, order_in, noted_in, note_in}
 use Rattle.message_field.specs.internal.Nexts.{noted_of}
 use Rattle.message_field.specs.declared.Noted.TheVariants.{Repeated, Mask}
-use borrow.Author.Rules.{rules}
-use Rattle.message_field.proofs.note.Statement.{statement}
-use Rattle.message_field.proofs.note.Tie as tie
+use Rattle.message_field.proofs.note.Goals as goal
+use Rattle.message_field.proofs.note.Goals.{After-has_bit, Start}
 
 -- An order is below 64.
 low : (cell k : ℕ) → k ≡ order_in cell → k % 64 ≡ order_in cell
@@ -31,42 +30,27 @@ module _ (mask cell : ℕ) where
     unfolding noted_of noted_in note_in
     first h = rw (e, ← low cell k o, h) refl
 
-single-requires : tie.Need-single-requires
-single-requires c κs = search rules
-
-returns : tie.Need-returns
-returns c =
-    let a = c.before.before.args in
-    many a.seen a.cell (sym c.before.single.ensures ∙ not-true _ c.if1.true)
-
-order-requires : tie.Need-order-requires
-order-requires c κs = search rules
-
-has-bit-requires : tie.Need-has-bit-requires
-has-bit-requires c κs = search rules
+pub returns-then-not-single : goal.returns-then-not-single
+returns-then-not-single c =
+    let a = c.args in
+    many a.seen a.cell (sym c.single.ensures ∙ not-true _ c.if-not-single.true-raw)
 
 -- The tag is single, and the order is that of its cell.
-module _ (c : tie.After-has-bit) where
-  abbrev start : tie.Start
+module _ (c : After-has_bit) where
+  abbrev start : Start
   start = c.before.before.before.before
 
   marked : single_in start.args.cell ≡ true
-  marked = sym c.before.before.before.single.ensures ∙ not-false _ c.before.before.if1.false
+  marked = sym c.single.ensures ∙ not-false _ c.if-not-single.false-raw
 
-returns-2 : tie.Need-returns-2
-returns-2 c =
-    let d = c.before in
-    let a = (start d).args in
-    again a.seen a.cell (marked d) _ d.before.order.ensures (sym d.has-bit.ensures ∙ c.if2.true)
+pub returns-then-has_bit : goal.returns-then-has_bit
+returns-then-has_bit c =
+    let d = c in
+    let a = (start (goal.at.returns-then-has_bit c).After-has_bit).args in
+    again a.seen a.cell (marked (goal.at.returns-then-has_bit c).After-has_bit) _ d.order-order.ensures (sym d.has_bit.ensures ∙ c.if-has_bit.true)
 
-with-bit-requires : tie.Need-with-bit-requires
-with-bit-requires c κs = search rules
-
-returns-3 : tie.Need-returns-3
-returns-3 c =
-    let d = c.before.before in
-    let a = (start d).args in
-    ap Mask c.with-bit.ensures ∙ first a.seen a.cell (marked d) _ d.before.order.ensures (sym d.has-bit.ensures ∙ c.before.if2.false)
-
-pub note-spec : {M : Type 1} → statement M
-note-spec = tie.close (tie.spec single-requires returns order-requires has-bit-requires returns-2 with-bit-requires returns-3)
+pub returns : goal.returns
+returns c =
+    let d = c in
+    let a = (start (goal.at.returns c).After-has_bit).args in
+    ap Mask c.with_bit.ensures ∙ first a.seen a.cell (marked (goal.at.returns c).After-has_bit) _ d.order-order.ensures (sym d.has_bit.ensures ∙ c.if-has_bit.false)

@@ -1,17 +1,16 @@
 -- `repeat_fault` tests whether the field is a message where none may be nested.
 use Prim.Native.Nat.{ℕ, ◌≤◌, ◌<◌}
 use native.Mathlib.Omega.{arith}
-use mathlib.Core.Path.{◌≡◌, refl, sym, ap, ◌∙◌}
-use mathlib.Core.Bool.{Bool, true, false, cond}
+use mathlib.Core.Path.{◌≡◌, refl}
+use mathlib.Core.Bool.{true, cond}
 use mathlib.Core.Logic.{⊎_elim}
-use borrow.Author.Tests.{ltb-true, ltb-false}
+use borrow.Author.Tests.{ltb-false}
 use Rattle.reading.specs.Refusals as refusals
-use Rattle.table_index.specs.internal.Cells.{code_in, meaning_of, meaning_in}
+use Rattle.table_index.specs.internal.Cells.{code_in, meaning_in}
 use Rattle.message.specs.Reading.{too_deep}
 use Rattle.message_field.proofs.Nexts.{deep_plain, deep_message, deep_never}
-use borrow.Author.Rules.{rules}
-use Rattle.message_field.proofs.repeat_fault.Statement.{statement}
-use Rattle.message_field.proofs.repeat_fault.Tie as tie
+use Rattle.message_field.proofs.repeat_fault.Goals as goal
+use Rattle.message_field.proofs.repeat_fault.Goals.{else-nested-eq0-via-then-nested-eq0+else-code-gt4, else-nested-eq0-via-else-nested-eq0}
 
 module _ (nested cell : ℕ) where
   deep : nested ≡ 0 → 4 < code_in cell → refusals.too_deep ≡ cond (too_deep nested (meaning_in cell)) refusals.too_deep refusals.repeated
@@ -25,19 +24,16 @@ module _ (nested cell : ℕ) where
   some : (nested ≡ 0 → ⊥) → refusals.repeated ≡ cond (too_deep nested (meaning_in cell)) refusals.too_deep refusals.repeated
   some z = rw (deep_never nested (meaning_in cell) (omega (arith, z))) refl
 
-code-requires : tie.Need-code-requires
-code-requires c κs = search rules
+pub returns-then-code-gt4 : goal.returns-then-code-gt4
+returns-then-code-gt4 c =
+    let b = c in
+    let k = c.code.ensures in
+    deep b.args.nested b.args.cell c.if-nested-eq0.true (rw (← k) (c.if-code-gt4.true))
 
-returns : tie.Need-returns
+pub returns : goal.returns
 returns c =
-    let b = c.before.before.before in
-    let k = c.before.code.ensures in
-    deep b.args.nested b.args.cell c.before.before.if1.true (rw (← k) (ltb-true 4 _ c.if2.true))
-
-returns-2 : tie.Need-returns-2
-returns-2 c =
-    let a = c.before.args in
-    ⊎_elim (λ w. plain a.nested a.cell (rw (← w.1.ensures) (ltb-false 4 _ w.2.left))) (λ w. some a.nested a.cell w.left) c.if1.branch
-
-pub repeat-fault-spec : {M : Type 1} → statement M
-repeat-fault-spec = tie.close (tie.spec code-requires returns returns-2)
+    let a = c.args in
+    elim c.else-nested-eq0.branch [
+      else-nested-eq0-via-then-nested-eq0+else-code-gt4 w ↦ plain a.nested a.cell (rw (← w.code.ensures) w.if-code-gt4.false)
+    | else-nested-eq0-via-else-nested-eq0 w ↦ some a.nested a.cell w.if-nested-eq0.false
+    ]
