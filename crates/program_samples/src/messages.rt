@@ -33,11 +33,7 @@ fn shortened(rt: &impl Print, s: Shortened, out: &[u8; 65546]) -> io::Result<()>
 fn both(rt: &impl Print, t: Table, revision: u64, number: u64, m: &[u8]) -> io::Result<()> {
     let mut out = [0xaau8; 65546];
     print::given(rt, m)?;
-    let same = Table {
-        count: t.count,
-        words: t.words,
-    };
-    checked(rt, message_calls::check_loaded(same, revision, number, m))?;
+    checked(rt, message_calls::check_loaded(t, revision, number, m))?;
     program_lines::text(rt, b", ")?;
     let s = message_calls::shorten_loaded(t, revision, number, m, &mut out);
     shortened(rt, s, &out)

@@ -21,7 +21,7 @@ fn msg(rt: &impl Print, s: &[u8]) -> io::Result<()> {
     let mut k: u64 = 0;
     while k < n {
         let f = tib_msg::field(s, k);
-        print::field(rt, s, k, &f)?;
+        print::field(rt, s, k, f)?;
         if f.kind == 7 {
             let r = f.real;
             print::real(rt, r)?;
@@ -45,7 +45,7 @@ fn rv(rt: &impl Print, s: &[u8]) -> io::Result<()> {
         if f.refusal != 0 {
             return Ok(());
         }
-        print::field(rt, s, k, &f)?;
+        print::field(rt, s, k, f)?;
         k += 1;
     }
     Ok(())

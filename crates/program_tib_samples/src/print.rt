@@ -27,14 +27,15 @@ pub fn real(rt: &impl Print, r: Real) -> io::Result<()> {
     let bits = r.bits;
     program_lines::text(rt, b" real ")?;
     value(rt, r.value)?;
-    print!(rt; " {bits:016x}")?;
+    program_lines::text(rt, b" ")?;
+    print!(rt; "{bits:016x}")?;
     program_lines::text(rt, b" in fractions ")?;
     whole_number(rt, tib_real::fractions(r))?;
     program_lines::text(rt, b" in decimals ")?;
     whole_number(rt, tib_decimals::decimals(r))
 }
 
-fn hint(rt: &impl Print, f: &Field) -> io::Result<()> {
+fn hint(rt: &impl Print, f: Field) -> io::Result<()> {
     if f.hinted {
         program_lines::number(rt, f.hint_kind)?;
         program_lines::text(rt, b" ")?;
@@ -45,7 +46,7 @@ fn hint(rt: &impl Print, f: &Field) -> io::Result<()> {
 }
 
 // Prints the k-th field of a message on a line of its own.
-pub fn field(rt: &impl Print, s: &[u8], k: u64, f: &Field) -> io::Result<()> {
+pub fn field(rt: &impl Print, s: &[u8], k: u64, f: Field) -> io::Result<()> {
     program_lines::text(rt, b"\n")?;
     program_lines::number(rt, k)?;
     program_lines::text(rt, b" name ")?;

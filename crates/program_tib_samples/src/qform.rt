@@ -1,7 +1,7 @@
 // Runs the reader of QForm on a dictionary and a message, each as octets or with the dictionary loaded.
 use reading::Checked;
 use std::io;
-use tib_dictionary::Dictionary;
+use tib_dictionary::{Dictionary, Loaded};
 use tib_qform::types::Field;
 
 // Prints the k-th field of a message on a line of its own.
@@ -50,11 +50,7 @@ fn checked(rt: &impl Print, c: Checked) -> io::Result<()> {
 
 // Checks a message under a dictionary value and shows its first field.
 fn under(rt: &impl Print, d: Dictionary, s: &[u8]) -> io::Result<()> {
-    let same = Dictionary {
-        count: d.count,
-        words: d.words,
-    };
-    checked(rt, tib_qform::check_loaded(same, s))?;
+    checked(rt, tib_qform::check_loaded(d, s))?;
     let f = tib_qform::field_loaded(d, s, 0);
     if f.refusal != 0 {
         program_lines::text(rt, b", ")?;

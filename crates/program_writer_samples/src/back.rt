@@ -1,5 +1,5 @@
 // Reads a message back: prints its octets, the counts of the check, whether it can be shortened, and the value of a field.
-use crate::{compare, print, run};
+use crate::{compare, print};
 use message_calls::Found;
 use std::io;
 use table::Table;
@@ -29,7 +29,7 @@ fn shortest(
 pub fn message(rt: &impl Print, t: Table, revision: u64, number: u64, m: &[u8]) -> io::Result<()> {
     print::octets(rt, m)?;
     program_lines::text(rt, b", ")?;
-    let answer = message_calls::check_loaded(run::copy(&t), revision, number, m);
+    let answer = message_calls::check_loaded(t, revision, number, m);
     let c = answer.checked;
     if c.refusal != 0 {
         return program_lines::refusal(rt, c.refusal, c.place);
@@ -40,7 +40,7 @@ pub fn message(rt: &impl Print, t: Table, revision: u64, number: u64, m: &[u8]) 
 }
 
 // Prints the kind and the value of a field: the number of a uint or an int, the octets of the others.
-pub fn field(rt: &impl Print, f: &Found, m: &[u8]) -> io::Result<()> {
+pub fn field(rt: &impl Print, f: Found, m: &[u8]) -> io::Result<()> {
     if f.refusal != 0 {
         return program_lines::refusal(rt, f.refusal, f.place);
     }

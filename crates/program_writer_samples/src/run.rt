@@ -32,14 +32,6 @@ pub fn fresh() -> Run {
     }
 }
 
-// Returns a table that is equal to t.
-pub fn copy(t: &Table) -> Table {
-    Table {
-        count: t.count,
-        words: t.words,
-    }
-}
-
 fn octets(t: Table, s: State, tag: u64, word: &[u8], out: &mut [u8]) -> Written {
     let mut xs = [0u8; 65546];
     let n = program_lines::octets_in(word, &mut xs);
@@ -114,10 +106,10 @@ fn calls(
         return Ok(r);
     }
     let given = r.state;
-    let w = call(what, line, copy(&r.table), given, &mut buffer[0..n]);
+    let w = call(what, line, r.table, given, &mut buffer[0..n]);
     let was = compare::part(before, 0, n);
-    let after = w.state;
     answered(rt, w, given, was, compare::part(buffer, 0, n))?;
+    let after = w.state;
     let mut next = r;
     next.state = after;
     Ok(next)
@@ -126,12 +118,7 @@ fn calls(
 // Runs a start. A refused start returns a state of zeros.
 fn starts(rt: &impl Print, line: &[u8], r: Run, buffer: &[u8]) -> io::Result<Run> {
     let out = compare::part(buffer, 0, r.lent);
-    let w = writer_state::start(
-        copy(&r.table),
-        input::number(line, 1),
-        input::number(line, 2),
-        out,
-    );
+    let w = writer_state::start(r.table, input::number(line, 1), input::number(line, 2), out);
     let after = w.state;
     if w.refusal != 0 {
         program_lines::refusal(rt, w.refusal, w.place)?;
@@ -156,13 +143,12 @@ fn finishes(rt: &impl Print, r: Run) -> io::Result<Run> {
     }
     print::named(rt, b"start ", f.start as u64)?;
     as_given(rt, given, after)?;
-    let lent = r.lent;
     let mut next = r;
     next.state = after;
     next.revision = after.revision;
     next.number = after.numbers[0];
     next.from = f.start;
-    next.to = lent;
+    next.to = r.lent;
     Ok(next)
 }
 
@@ -185,14 +171,16 @@ fn sets(rt: &impl Print, what: u8, line: &[u8], r: Run) -> io::Result<Run> {
     }
     program_lines::text(rt, b"set")?;
     if what == b'C' {
-        next.table.count = input::number(line, 1) as usize;
+        let mut t = r.table;
+        t.count = input::number(line, 1) as usize;
+        next.table = t;
         return Ok(next);
     }
     if what == b'B' {
         next.lent = input::number(line, 1) as usize;
         return Ok(next);
     }
-    let s = state::changed(what, line, next.state);
+    let s = state::changed(what, line, r.state);
     next.state = s;
     Ok(next)
 }
@@ -212,25 +200,27 @@ fn sum(a: usize, b: usize) -> usize {
 fn reads(rt: &impl Print, what: u8, line: &[u8], r: Run, buffer: &[u8]) -> io::Result<Run> {
     let m = compare::part(buffer, r.from, r.to);
     let tag = input::number(line, 1);
-    let t = copy(&r.table);
     if what == b'w' {
-        back::message(rt, t, r.revision, r.number, m)?;
+        back::message(rt, r.table, r.revision, r.number, m)?;
         return Ok(r);
     }
     if what == b'y' {
-        let f = message_calls::lookup_last_loaded(t, r.revision, r.number, m, tag);
-        back::field(rt, &f, m)?;
+        back::field(
+            rt,
+            message_calls::lookup_last_loaded(r.table, r.revision, r.number, m, tag),
+            m,
+        )?;
         return Ok(r);
     }
     let k = input::number(line, 2);
-    let f = message_calls::lookup_loaded(t, r.revision, r.number, m, tag, k);
-    back::field(rt, &f, m)?;
+    let f = message_calls::lookup_loaded(r.table, r.revision, r.number, m, tag, k);
+    back::field(rt, f, m)?;
     if what == b'x' {
         return Ok(r);
     }
     let mut next = r;
     next.number = input::number(line, 3);
-    next.from = sum(next.from, f.start as usize);
+    next.from = sum(r.from, f.start as usize);
     next.to = sum(next.from, f.length as usize);
     Ok(next)
 }
