@@ -40,7 +40,7 @@ def blocks(text):
         elif line[0] == " ":
             current.append(line)
         else:
-            name = re.match(r"(?:unfoldable |abbrev |pub )*(" + WORD + ")", line)[1]
+            name = re.match(r"(?:unfoldable |abbrev |pub |record |data )*(" + WORD + ")", line)[1]
             if current is not None and line.startswith("unfolding ") or current is not None and name == current_name:
                 current.append(line)
             else:
@@ -118,6 +118,9 @@ def as_record(term, fields):
             found = found[:-1] + last
         else:
             break
+    if not found and not re.match(r"\s*(?:record|search|rw|omega|grind|simp|cc|elim|λ)\b", term[at:]):
+        way = [".1" * k + (".0" if k < len(fields) - 1 else "") for k in range(len(fields))]
+        return term[:at] + "\n    let all = " + term[at:].strip() + " in record { " + "; ".join(f"{f} = all{w}" for f, w in zip(fields, way)) + " }"
     if not found or len(found) != len(fields):
         return term
     return term[:at] + " record { " + "; ".join(f"{f} = {x}" for f, x in zip(fields, found)) + " }"
@@ -165,6 +168,7 @@ class Function:
         self.pre = (names["pre"] or {}).get("fields")
         self.loops = [(loop[0], loop[1], changed) for loop, changed in zip(names["loops"], names["changed"])]
         self.settled = names["settled"]
+        self.args = {a[0].split(".")[-1]: a[1].split(".")[-1] for a in names["args"] if ".args" in a[0]}
 
     def need(self, tie):
         """The new name of the goal that an older file calls tie.Need-.."""
@@ -191,6 +195,11 @@ def balanced(text, at):
                 return i + 1
         i += 1
     return i
+
+
+def declared_name(block):
+    line = next(l for l in block.split("\n") if not l.startswith("--"))
+    return re.match(r"(?:unfoldable |abbrev |pub |record |data )*(" + WORD + ")", line)[1]
 
 
 class Turn:
@@ -266,6 +275,17 @@ class Turn:
             step = plain(m[2])
             if step in self.fn.steps:
                 text = self.of_step(text, m[1], step, bool(m[3]))
+        for m in list(re.finditer(r"\blet (" + WORD + r") = (" + variables + r")(?:\.before)*\.(" + WORD + r")((?:\.\w+)*) in", text)):
+            step, start = plain(m[3]), m[4]
+
+            def part(k):
+                found = self.arm(step, start + k[1])
+                return f"{m[2]}.«{found[0]}»" + (start + k[1])[found[1] :] if found else k[0]
+
+            if any(s == step for s, _ in self.fn.arms) and step not in self.fn.callees:
+                text = re.sub(r"(?<![.\w₀'-])" + re.escape(m[1]) + r"((?:\.[\w-]+)+)", part, text)
+                if len(re.findall(r"(?<![.\w₀'-])" + re.escape(m[1]) + r"(?![\w'-])", text)) == 1:
+                    text = re.sub(r"[ \n]*" + re.escape(m[0]), "", text)
         out, i = [], 0
         path = re.compile(r"(?<![.\w₀'-])(" + variables + r")((?:\.before)*)(?:\.(" + WORD + r"))?(?![\w'₀-])")
         while True:
@@ -277,6 +297,11 @@ class Turn:
             name, field = m[1], m[3]
             here = self.up(contexts[name], m[2].count(".before"))
             i = m.end()
+            if text[i - 1] == "." or text[i : i + 2] == ".«":
+                k = re.match(r"\.«([^»]*)»", text[i:])
+                out.append(f"{name}.{k[1]}")
+                i += k.end()
+                continue
             if field is None:
                 before = re.search(r"(" + WORD + r") \(?$", text[: m.start()])
                 place = self.helpers.get(before[1]) if before else None
@@ -292,12 +317,23 @@ class Turn:
             step = plain(field)
             if field in ("args", "ranges", "type_inv", "lifetimes"):
                 out.append(f"{name}.{field}")
+                k = re.match(r"\.(" + WORD + ")", rest)
+                if k and k[1] in self.fn.args:
+                    out.append("." + self.fn.args[k[1]])
+                    i += k.end()
             elif field == "requires":
                 out.append(f"{name}.requires")
-                k = re.match(r"\.(\d+)(?![\d\w])", rest)
-                if k and self.fn.pre and int(k[1]) < len(self.fn.pre):
-                    out.append("." + self.fn.pre[int(k[1])])
+                pre, at = self.fn.pre or [], 0
+                while len(pre) > 1 and (k := re.match(r"\.(\d+)(?![\d\w])", text[i:])):
                     i += k.end()
+                    if k[1] == "1" and at < len(pre) - 2:
+                        at += 1
+                        continue
+                    out.append("." + pre[at + int(k[1])] if at + int(k[1]) < len(pre) else k[0])
+                    at = -1
+                    break
+                if at > 0:
+                    out.append(".1" * at)
             elif (arm := self.arm(step, rest)) is not None:
                 out.append(f"{name}.{arm[0]}")
                 i += arm[1]
@@ -362,6 +398,16 @@ def turn(path, module, function, fn, say):
             if aliases[name] is None:
                 say(f"{path}: no goal for {name} : tie.Need-{m[1]} (settled {fn.settled})")
     here = Turn(fn, path, say)
+    # what the invariants name goes with them
+    shared, text = [], "\n".join(b for _, b in decls if " : tie.invariant-" in b or " : tie.decreases-" in b)
+    for name, block in reversed(decls):
+        if "tie." not in block and re.search(r"(?<![\w'.-])" + re.escape(declared_name(block)) + r"(?![\w'-])", text):
+            shared.insert(0, (name, block))
+            text += block
+    decls = [d for d in decls if d not in shared]
+    shared = [(n, re.sub(r"^  (?!pub )(?=\S+(?: \S+)* :)", "  pub ", b, flags=re.M) if "record " in b.split(" : ")[0] else b) for n, b in shared]
+    for _, block in shared:
+        invariants.append(re.sub(r"^(abbrev |unfoldable )?(?:pub )?(record |data )?", lambda m: (m[1] or "") + "pub " + (m[2] or ""), block, count=1, flags=re.M) if not block.startswith("--") else re.sub(r"^(?!--)(abbrev |unfoldable )?(?:pub )?(record |data )?", lambda m: (m[1] or "") + "pub " + (m[2] or ""), block, count=1, flags=re.M))
     for name, block in decls:
         if re.search(r"_?-?spec$", name) and "tie.spec" in block:
             continue
@@ -424,6 +470,9 @@ def turn(path, module, function, fn, say):
         k = re.search(r": tie\.([A-Z][\w'-]*)", block)
         if k and plain(k[1]) in fn.places:
             here.helpers[name] = fn.places[plain(k[1])]
+            if name == "module":
+                for inner in re.finditer(r"^  (?:abbrev |unfoldable )*(?:pub )?(" + WORD + r")(?: [^\n:]+)? :\s", block, re.M):
+                    here.helpers[inner[1]] = fn.places[plain(k[1])]
             typed.setdefault("c", fn.at[plain(k[1])])
             e = re.search(r"^" + re.escape(name) + r"((?: \S+)*?) =", block, re.M)
             if e and e[1].split():
@@ -444,6 +493,9 @@ def turn(path, module, function, fn, say):
         text = "\n\n".join(answers)
         used = [u for u in (only(u, text) for u in uses) if u]
         extra = [f"use {module}.Goals as goal"]
+        mine = [declared_name(b) for _, b in shared if re.search(r"(?<![\w'.-])" + re.escape(declared_name(b)) + r"(?![\w'-])", text)]
+        if mine:
+            extra.append(f"use {module}.Invariants.{{{', '.join(mine)}}}")
         if places:
             extra.append(f"use {module}.Goals.{{{', '.join(sorted(places))}}}")
         write(os.path.join(folder, "Answers.antt"), "\n".join([*head, *used, *extra, "", text]))

@@ -4,7 +4,7 @@
 #![tactic(auto)]
 // The step at the front of octets: their end; a field that is rejected with a refusal; a field that is no message, with the lengths of its
 // control part and of its contents; or a field that is a message, with its message number and the same lengths.
-#[derive(Drop)]
+#[derive(Clone, Copy)]
 pub enum Step {
     Done,
     Fault(u64),

@@ -21,14 +21,14 @@ use table::Table;
 
 // The answer of the check, and whether the message is in its shortest form: the shortener would return the same octets. A message that is
 // rejected is not.
-#[derive(Drop)]
+#[derive(Clone, Copy)]
 pub struct CheckedMessage {
     pub checked: Checked,
     pub shortest: bool,
 }
 
 // The shortener's answer: a refusal number (0 if the message was shortened), the place of the fault, and the length written.
-#[derive(Drop)]
+#[derive(Clone, Copy)]
 pub struct Shortened {
     pub refusal: u64,
     pub place: u64,
@@ -37,7 +37,7 @@ pub struct Shortened {
 
 // The lookup's answer: a refusal number (0 if a field was found) and the place of the fault; of the field found its kind, the value of a
 // uint, the value of an int, and where its contents start in the lent buffer and how long they are.
-#[derive(Drop)]
+#[derive(Clone, Copy)]
 pub struct Found {
     pub refusal: u64,
     pub place: u64,

@@ -10,14 +10,14 @@ use message_field::Head;
 use table::Table;
 
 // Which of the fields with a tag is wanted.
-#[derive(Drop)]
+#[derive(Clone, Copy)]
 pub(crate) enum Occurrence {
     Nth(u64),
     Last,
 }
 
 // The span of a field's contents, if there is such a field.
-#[derive(Drop)]
+#[derive(Clone, Copy)]
 enum OptionalSpan {
     Absent,
     At { start: usize, end: usize },

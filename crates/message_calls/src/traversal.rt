@@ -126,7 +126,7 @@ fn next(
 }
 
 // What the traversal of a message returns: its verdict, and whether the message is in its shortest form, which a rejected one is not.
-#[derive(Drop)]
+#[derive(Clone, Copy)]
 struct Traversed {
     verdict: Verdict,
     shortest: bool,

@@ -12,7 +12,7 @@ use octets::Control;
 
 // The head of a field: its tag and the span of its contents. Or there is no field: the message ends there, or it has a fault with this
 // refusal.
-#[derive(Drop)]
+#[derive(Clone, Copy)]
 pub enum Head {
     End,
     Fault(u64),
@@ -22,7 +22,7 @@ pub enum Head {
 // What a message has at an offset: its end; a fault with a refusal; a field that is no message, with the offset after it; a field that is a
 // message, with its message number and the span of its contents. Each field comes with whether it is in its shortest form; of a field that
 // is a message this is said of the control part alone. The last part is the mask of the single tags noted so far, with that of the field.
-#[derive(Drop)]
+#[derive(Clone, Copy)]
 pub enum Next {
     Done,
     Fault(u64),
@@ -31,7 +31,7 @@ pub enum Next {
 }
 
 // The mask of the single tags after a field, or that the field repeats one of them.
-#[derive(Drop)]
+#[derive(Clone, Copy)]
 pub enum Noted {
     Repeated,
     Mask(u64),

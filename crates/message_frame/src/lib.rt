@@ -8,7 +8,7 @@ ghost use Rattle.message_frame.specs.internal.Lead.{LeastPrefix};
 
 // The frame reader's answer: a refusal number (0 if the frame is accepted), its place, and where it is accepted the places where the
 // message starts and ends.
-#[derive(Drop)]
+#[derive(Clone, Copy)]
 pub struct FrameRead {
     pub refusal: u64,
     pub place: u64,
@@ -17,7 +17,7 @@ pub struct FrameRead {
 }
 
 // The frame writer's answer: a refusal number (0 if the frame is written), its place, and how many octets are written.
-#[derive(Drop)]
+#[derive(Clone, Copy)]
 pub struct FrameWritten {
     pub refusal: u64,
     pub place: u64,
@@ -114,7 +114,7 @@ pub fn frame_read(buffer: &[u8]) -> FrameRead
 }
 
 // The first octet of a prefix, and the count of octets after it.
-#[derive(Drop)]
+#[derive(Clone, Copy)]
 struct Lead {
     octet: u8,
     width: u64,

@@ -63,7 +63,7 @@ pub fn int_least(z: i64) -> Least
 }
 
 // A lead, and the number of octets that follow it.
-#[derive(Drop)]
+#[derive(Clone, Copy)]
 struct Lead {
     octet: u8,
     width: u64,

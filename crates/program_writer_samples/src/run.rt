@@ -5,7 +5,7 @@ use writer_state::{State, Written};
 
 // What the lines so far have set: the table, the state, how much of the buffer is lent, and the message to read, with its revision, its number
 // and its span in the buffer.
-#[derive(Drop)]
+#[derive(Clone, Copy)]
 pub struct Run {
     pub table: Table,
     pub state: State,

@@ -55,7 +55,7 @@ pub const NOT_IN_DICTIONARY: u64 = 19;
 pub const REPEATED: u64 = 20;
 
 // The verdict of a traversal of a message: the count of its fields and its depth, or a refusal and its place.
-#[derive(Drop)]
+#[derive(Clone, Copy)]
 pub enum Verdict {
     Accepted(u64, u64),
     Refused(u64, u64),
@@ -63,7 +63,7 @@ pub enum Verdict {
 
 // The answer of a check: a refusal number (0 if the message is accepted), the place of the fault, and for an accepted message the count of
 // fields at all depths and the depth of the deepest message.
-#[derive(Drop)]
+#[derive(Clone, Copy)]
 pub struct Checked {
     pub refusal: u64,
     pub place: u64,

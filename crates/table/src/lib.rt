@@ -5,14 +5,14 @@
 // The entries of a field table, in the order in which they were loaded. The lowest 48 bits of a word are, from the highest to the lowest,
 // an entry's message number (8 bits), tag (16 bits), kind (8 bits), inner message number (8 bits) and mark (8 bits: 0 many, 1 single). The
 // loader sets the words beyond the count to 0.
-#[derive(Drop)]
+#[derive(Clone, Copy)]
 pub struct Table {
     pub count: usize,
     pub words: [u64; 64],
 }
 
 // The kind of a tag in messages of a given number. A tag without an entry in the table is raw.
-#[derive(Drop)]
+#[derive(Clone, Copy)]
 pub enum Meaning {
     Raw,
     Uint,
@@ -23,7 +23,7 @@ pub enum Meaning {
 }
 
 // The loader's result: a refusal (0 if the table is accepted), the place of the fault, and the table, which is empty after a refusal.
-#[derive(Drop)]
+#[derive(Clone, Copy)]
 pub struct Loaded {
     pub refusal: u64,
     pub place: u64,

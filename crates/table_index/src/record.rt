@@ -10,14 +10,14 @@ ghost use Rattle.table_index.specs.declared.record.Record.TheVariants.{Word};
 use table::Table;
 
 // The word of a record and the number of its octets, or `Wrong` for a record that is not well-formed.
-#[derive(Drop)]
+#[derive(Clone, Copy)]
 pub(crate) enum Record {
     Word { word: u64, size: usize },
     Wrong,
 }
 
 // The well-formed records at the start of octets: their table, and the place after them.
-#[derive(Drop)]
+#[derive(Clone, Copy)]
 pub(crate) struct Prefix {
     pub(crate) table: Table,
     pub(crate) end: usize,

@@ -18,7 +18,7 @@ pub const FAULT: u64 = 1048576;
 // A refusal and its place, or 0, 0 and a field of a message: the place and the length of its name, with the closing zero (length 0 if it
 // has no name); its type; the place and the length of its data; whether it has a hint, the hint's type and value; and the value of a real.
 // Places count from the start of the lent buffer.
-#[derive(Drop)]
+#[derive(Clone, Copy)]
 pub struct Field {
     pub refusal: u64,
     pub place: u64,

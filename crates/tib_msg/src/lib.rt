@@ -16,7 +16,7 @@ use tib_msg_field::Sizes;
 use tib_real::types::Real;
 
 // The place and the sizes of a field, or that there is none.
-#[derive(Drop)]
+#[derive(Clone, Copy)]
 enum Kth {
     At { place: usize, sizes: Sizes },
     Absent,

@@ -10,7 +10,7 @@ ghost use Rattle.tib_msg_field.specs.internal.Numbers.{hint_number};
 use tib_field::FAULT;
 
 // The sizes of the parts of a field, and its type octet.
-#[derive(Drop)]
+#[derive(Clone, Copy)]
 pub struct Sizes {
     pub name: usize,
     pub octet: u8,

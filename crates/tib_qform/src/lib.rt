@@ -20,7 +20,7 @@ use tib_field::FAULT;
 use types::Field;
 
 // The place and the fid of a field, or a refusal and its place.
-#[derive(Drop)]
+#[derive(Clone, Copy)]
 enum Kth {
     At { place: usize, fid: u64 },
     Refused { refusal: u64, place: u64 },

@@ -2,7 +2,7 @@
 
 // A refusal and its place, or 0, 0 and a field of a message: its fid, its type, and the place and the length of its data. Places count from the
 // start of the lent buffer.
-#[derive(Drop)]
+#[derive(Clone, Copy)]
 pub struct Field {
     pub refusal: u64,
     pub place: u64,

@@ -15,7 +15,7 @@ use tib_field::Field;
 use tib_rv_field::Sizes;
 
 // The place and the sizes of a field, or that there is none.
-#[derive(Drop)]
+#[derive(Clone, Copy)]
 enum Kth {
     At { place: usize, sizes: Sizes },
     Absent,

@@ -9,7 +9,7 @@ ghost use Rattle.tib_rv_field.specs.internal.Numbers.{number_of};
 
 // The sizes of the parts of a field, and its type octet. For a field that holds a message the width is 1, for the marker alone, and the
 // contents are the message.
-#[derive(Drop)]
+#[derive(Clone, Copy)]
 pub struct Sizes {
     pub name: usize,
     pub octet: u8,

@@ -13,7 +13,7 @@ use table::{Meaning, Table};
 // The writer's state: the length of the buffer, the offset at which the octets stored so far start, the number of open message fields, and
 // the revision of the start. Each level has a message number and a mask, which notes the single fields that its message has by their order in
 // the table; each open field has a mark, the offset at which its contents end, and a tag.
-#[derive(Drop)]
+#[derive(Clone, Copy)]
 pub struct State {
     pub length: usize,
     pub start: usize,
@@ -27,7 +27,7 @@ pub struct State {
 
 // The answer of start, put, open and close: the refusal (0 if the call is accepted), the place (always 0) and the state after the call. A
 // refused call returns the state that it was given. A refused start returns a state of zeros.
-#[derive(Drop)]
+#[derive(Clone, Copy)]
 pub struct Written {
     pub refusal: u64,
     pub place: u64,
@@ -36,7 +36,7 @@ pub struct Written {
 
 // The answer of finish: the refusal (0 if the call is accepted), the place (always 0), the offset at which the message starts (0 in a
 // refusal), and the state that was given.
-#[derive(Drop)]
+#[derive(Clone, Copy)]
 pub struct Finished {
     pub refusal: u64,
     pub place: u64,
@@ -46,7 +46,7 @@ pub struct Finished {
 
 // A tag looked up in the innermost open message: the refusal, or 0 with the number of its kind, the message number of its contents, and the
 // mask of the innermost message with the tag noted.
-#[derive(Drop)]
+#[derive(Clone, Copy)]
 pub struct Tagged {
     pub refusal: u64,
     pub kind: u64,
