@@ -1,5 +1,6 @@
 // Opening and closing the message fields of the backward writer.
 #![tactic(auto)]
+
 ghost use Rattle.std.specs.Prelude.{◌≡◌, ◌-◌, ◌≤◌, []};
 ghost use Rattle.writer_state.specs.Call.{open_field, close_field};
 ghost use Rattle.writer_state.specs.Answer.{answer, buffer};
