@@ -109,13 +109,9 @@ Fieldless End = Unit {0}
 Fieldless (Fault k) = Unit {0}
 Fieldless (Field tag start end) = ⊥
 
-two_not : OneOf (0 ∷ 1 ∷ []) 2 → ⊥
-two_not (inl e) = omega arith
-two_not (inr e) = omega arith
-
--- The variants other than the field, by their numbers.
-pub fieldless : (h : Head) → OneOf (0 ∷ 1 ∷ []) (tag_of the_type h) → Fieldless h
+-- A head that equals no field.
+pub fieldless : (h : Head) → ((tag start end : ℕ) → h ≡ Field tag start end → ⊥) → Fieldless h
 unfolding Fieldless
 fieldless End o = tt
 fieldless (Fault k) o = tt
-fieldless (Field tag start end) o = two_not o
+fieldless (Field tag start end) o = absurd (o tag start end refl)
