@@ -2,17 +2,16 @@
 use Prim.Native.Nat.{ℕ, suc, ◌+◌, ◌-◌, ◌≤◌, ◌<◌}
 use native.Mathlib.Omega.{arith}
 use mathlib.Core.Path.{◌≡◌, refl, sym, ap, ◌∙◌, subst}
-use mathlib.Core.Bool.{Bool, true, false, cond, ◌&&◌, false≢true}
+use mathlib.Core.Bool.{Bool, true, false, ◌&&◌, false≢true}
 use mathlib.Core.List.{List, []}
 use lib.ListN.{length, take, drop, length-take}
 use Rattle.octets.proofs.Bools.{true_second}
 use Rattle.reading.specs.Reading.{Reading}
-use Rattle.reading.specs.Refusals as refusals
 use Rattle.table.specs.Schema.{Schema}
-use Rattle.table_index.specs.internal.Cells.{code_in, meaning_in, single_in, indexed, OneOrder, noted_in, note_in}
+use Rattle.table_index.specs.internal.Cells.{code_in, single_in, indexed, noted_in, note_in}
 use Rattle.message.specs.Cut.{Cut}
 use Rattle.message.specs.Single.{repeats}
-use Rattle.message.specs.Reading.{Inner, tag_at, too_deep, fields_from, message_from}
+use Rattle.message.specs.Reading.{Inner, tag_at, fields_from, message_from}
 use Rattle.message.specs.internal.Short.{short_reading}
 use Rattle.message_field.specs.internal.Nexts.{next_of, Notes, small_at, no_cell, small_cell}
 use Rattle.message_field.specs.declared.Next.{Next}

@@ -1,5 +1,5 @@
 -- `traverse` keeps the progress of `Progress`, and each turn is nearer to the end of the message.
-use Rattle.std.proofs.Common.{◌≡◌, true, false, List, ℕ, ◌+◌, ◌-◌, ◌≤◌, ◌<◌, length, get_or, ◌*◌}
+use Rattle.std.proofs.Common.{◌-◌, length}
 use Rattle.table_index.specs.internal.Cells.{indexed}
 use Rattle.message.specs.Reading.{message_from}
 use Rattle.message_calls.proofs.Progress.{Progress}
