@@ -2,26 +2,26 @@
 // one octet more than the limit, so that it detects input that is too long.
 
 #![tactic(auto)]
+
+use std::io::{self, Read};
+
 // The size of the output buffer.
 const SIZE: usize = 65536;
 
-fn main() {
-    let mut input = [0u8; 65537];
-    let n = io::read_full(0, &mut input);
+fn main(rt: HostRuntime) -> io::Result<()> {
+    let mut input = Vec::new(rt.alloc());
+    rt.stdin().take(65537).read_to_end(&mut input)?;
     let mut out = [0u8; SIZE];
-    let total = text_show::show(&input[..n], 0, &mut out);
+    let total = text_show::show(&input, 0, &mut out);
     let mut from: u64 = 0;
     loop {
         let remaining = total - from;
         if remaining <= SIZE as u64 {
             let end = remaining as usize;
-            io::write_all(1, &out[0..end]);
-            return;
+            return rt.write_all(&out[0..end]);
         }
-        if !io::write_all(1, &out) {
-            return;
-        }
+        rt.write_all(&out)?;
         from += SIZE as u64;
-        text_show::show(&input[..n], from, &mut out);
+        text_show::show(&input, from, &mut out);
     }
 }
