@@ -1,6 +1,7 @@
 // Reads a real of the Tib formats in decimals. With m the significand and e the exponent of a real x, its size is m * 2^(e - 1075). So the size
 // of x times 10^k is m * 5^k * 2^(e + k - 1075). The product m * 5^k has up to 74 bits, so it is kept in two parts.
 #![tactic(auto)]
+
 ghost use Rattle.std.specs.Prelude.{◌≡◌, ◌+◌, ◌*◌, ◌^◌, ◌≤◌, ◌<◌, eqb};
 ghost use Rattle.tib_real.specs.WholeNumber.{signed};
 ghost use Rattle.tib_decimals.specs.Nearest.{nearest};

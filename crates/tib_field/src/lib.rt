@@ -2,6 +2,7 @@
 // the readers of TibMsg and TibrvMsg return. This crate also has the definitions and laws of consecutive fields, of the k-th of them, and of the
 // verdict on them.
 #![tactic(auto)]
+
 ghost use Rattle.std.specs.Prelude.{◌≡◌, false, cond, ◌+◌, ◌≤◌, ◌<◌, eqb, ltb, length};
 ghost use Rattle.octets.specs.internal.Bounded.{unsigned};
 ghost use Rattle.tib_field.specs.internal.Zeros.{ZeroIn, Far, name_fault};

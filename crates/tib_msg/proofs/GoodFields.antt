@@ -11,7 +11,6 @@ use borrow.Author.Tests.{eq-eqb, ne_eqb}
 use Rattle.octets.specs.internal.Bounded.{unsigned}
 use Rattle.octets.proofs.Slices.{tail_part}
 use Rattle.octets.proofs.Number.{unsigned_is}
-use Rattle.tib_msg_field.specs.declared.Sizes.{Sizes}
 use Rattle.tib_msg_field.specs.Layout.{kind, hinted, size_width, Hint, none, array, partial, value, Parts}
 use Rattle.tib_field.specs.Steps.{Over}
 use Rattle.tib_msg_field.specs.Reading.{next_field}

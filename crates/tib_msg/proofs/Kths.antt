@@ -4,7 +4,7 @@ use native.Mathlib.Omega.{arith}
 use mathlib.Core.Path.{◌≡◌, sym, ap, ap₂, ◌∙◌, subst}
 use mathlib.Core.List.{List}
 use mathlib.Core.Option.{Option, none, some}
-use lib.ListN.{length, take, drop, length-append, length-drop}
+use lib.ListN.{length, take, drop, length-drop}
 use Rattle.octets.proofs.Slices.{tail_part}
 use Rattle.reading.specs.internal.Verdicts.{IsAccepted}
 use Rattle.tib_field.specs.Kth.{field_or_absent}

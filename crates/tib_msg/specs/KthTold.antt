@@ -4,8 +4,8 @@ use Rattle.octets.specs.Number.{big_endian}
 use Rattle.tib_field.specs.declared.Field.{Field}
 use Rattle.tib_field.specs.Fields.{joined, KthField}
 use Rattle.tib_field.specs.Stands.{Stands}
-use Rattle.tib_msg_field.specs.Layout.{kind, hinted, Parts, octets}
-use Rattle.tib_msg.specs.CheckAndField.{real_shown, field}
+use Rattle.tib_msg_field.specs.Layout.{kind, Parts, octets}
+use Rattle.tib_msg.specs.CheckAndField.{real_shown}
 
 -- Whether a field has a hint, the hint's type and its number, by the hint's octets. The number of an array's hint and of a partial's is the
 -- octet after the type; in any other hint a size stands there, and the number, big-endian, after it. Without a hint both are 0.

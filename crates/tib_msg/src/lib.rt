@@ -1,5 +1,6 @@
 // Reads TibMsg messages: checks a whole message, and returns its k-th field.
 #![tactic(auto)]
+
 ghost use Rattle.std.specs.Prelude.{◌≡◌, true, suc, ◌+◌, ◌≤◌, ◌<◌, ◌^◌, length, get_or, drop};
 ghost use Rattle.tib_msg_field.specs.Layout.{hinted as hinted-of};
 ghost use Rattle.tib_msg_field.specs.Reading.{next_field, total, parts_at, fields_from, reading};

@@ -1,6 +1,6 @@
 -- What is wrong with a message that is not whole, without saying how it is read: its first fault (document 01, Refusal numbers). A field's
 -- parts come in the order of its octets, and in each part a missing octet before a bad one.
-use Rattle.std.specs.Prelude.{ℕ, ◌+◌, ◌/◌, ◌%◌, ◌≤◌, ◌<◌, ◌≡◌, true, List, [], ◌∷◌, ◌++◌, length, T}
+use Rattle.std.specs.Prelude.{ℕ, ◌/◌, ◌%◌, ◌≤◌, ◌<◌, ◌≡◌, true, List, [], ◌∷◌, ◌++◌, length, T}
 use Rattle.octets.specs.Number.{big_endian}
 use Rattle.reading.specs.Refusals as refusals
 use Rattle.tib_field.specs.WrongName.{WrongNamed}

@@ -1,5 +1,5 @@
 -- What a TibMsg message is, independent of any way to read it: a header, and fields joined, each as the layout allows.
-use Rattle.std.specs.Prelude.{ℕ, ◌+◌, ◌/◌, ◌%◌, ◌≤◌, ◌≡◌, Bool, true, false, cond, ◌||◌, List, [], ◌∷◌, ◌++◌, length, T, eqb}
+use Rattle.std.specs.Prelude.{ℕ, ◌/◌, ◌%◌, ◌≤◌, ◌≡◌, Bool, true, false, cond, ◌||◌, List, [], ◌∷◌, ◌++◌, length, T, eqb}
 use Rattle.octets.specs.Number.{big_endian}
 use Rattle.tib_field.specs.Name.{Name}
 use Rattle.tib_field.specs.Whole.{WholeMessage}

@@ -1,6 +1,7 @@
 // One step of the traversal of a TibMsg message: reads the field at the front of octets. This crate also has the definitions of a message
 // and of its reading, and the laws between them.
 #![tactic(auto)]
+
 ghost use Rattle.std.specs.Prelude.{◌≡◌, ◌+◌, ◌<◌, ◌^◌, length};
 ghost use Rattle.tib_msg_field.specs.Layout.{kind as kind-of, hinted as hinted-of, size_width, is_width, size_allowed};
 ghost use Rattle.tib_msg_field.specs.Reading.{type_allowed, array_hint, partial_hint, value_hint, read_hint, hint_at, from_data, from_size, from_type, next_field, total};

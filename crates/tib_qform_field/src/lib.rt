@@ -1,6 +1,7 @@
 // One step of the traversal of a QForm message: measures the field at an offset. This crate also has the definitions of a message and of its
 // reading, and the laws between them.
 #![tactic(auto)]
+
 ghost use Rattle.std.specs.Prelude.{◌≡◌, ◌<◌, ◌^◌, drop};
 ghost use Rattle.tib_qform_field.specs.Layout.{flagged as flagged-of, fid as fid-of};
 ghost use Rattle.tib_qform_field.specs.internal.Octets.{octets_by};

@@ -1,6 +1,6 @@
 -- What widening keeps: the sign, the size exactly, and of a not-a-number the fraction bits.
 use Rattle.std.proofs.Common.{◌≡◌, ℕ, zero, suc, ◌+◌, ◌-◌, ◌*◌, ◌/◌, ◌^◌, ◌<◌, Bool, true, false, cond, not, T, eqb, ltb, ℤ, sym, refl, ap, ◌∙◌, mul_assoc, mul_right_comm, mul-div_cancel, arith, ltb-false, ltb-true, lt-ltb, ne_eqb}
-use lib.Ieee.{Float, fin, binary32, binary64, hid, top, up, down, size, fits, is_nan, of_bits, to_bits}
+use lib.Ieee.{Float, fin, binary32, binary64, hid, top, up, down, size, fits, is_nan, of_bits, to_bits, nan, inf}
 use lib.Ieee.Bits.{of_bits-to_bits, of_bits-fits, to_bits-of_bits}
 use lib.Ieee.Exact.{HasValue}
 use lib.Ieee.Fits.{down_pos, fits_widens}
@@ -58,6 +58,10 @@ bits_of_value s m e a h =
 same_bits : (x y : Float) (s : Bool) (a : ℕ) → HasValue x s a (2 ^ 1074) → HasValue y s a (2 ^ 1074) → to_bits binary64 x ≡ to_bits binary64 y
 same_bits (fin t m e) (fin u n d) s a v w =
     bits_of_value t m e a v.1 ∙ rw (v.0 ∙ sym w.0) (sym (bits_of_value u n d a w.1))
+same_bits nan y s a v w = elim v [ ]
+same_bits (inf _) y s a v w = elim v [ ]
+same_bits (fin t m e) nan s a v w = elim w [ ]
+same_bits (fin t m e) (inf _) s a v w = elim w [ ]
 
 same_float : (x y : Float) (s : Bool) (a : ℕ) → T (fits binary64 x) → T (fits binary64 y) → HasValue x s a (2 ^ 1074) → HasValue y s a (2 ^ 1074) → x ≡ y
 same_float x y s a p q v w = sym (of_bits-to_bits binary64 x p) ∙ ap (of_bits binary64) (same_bits x y s a v w) ∙ of_bits-to_bits binary64 y q
@@ -68,6 +72,8 @@ finer (fin t m e) s a v = (
   v.0,
   sym (mul_assoc (m * up e) (2 ^ 149) (2 ^ 925)) ∙ ap (λ (n : ℕ). n * 2 ^ 925) v.1 ∙ mul_right_comm a (down e) (2 ^ 925),
 )
+finer nan s a v = elim v [ ]
+finer (inf _) s a v = elim v [ ]
 
 -- Moving a fraction up leaves no fraction where there is none, and only there.
 moved_zero : (t : ℕ) → eqb (t * 2 ^ 29) 0 ≡ eqb t 0

@@ -1,7 +1,7 @@
 -- The product of a real and a power of two is exact where its size is below 2 ^ 53.
 use Rattle.std.proofs.Common.{◌≡◌, ℕ, ◌+◌, ◌-◌, ◌*◌, ◌%◌, ◌^◌, ◌<◌, ◌≤◌, Bool, true, false, T, pos, sym, ap, ◌∙◌, subst, lt_of_lt_of_le, mod-eq_of_lt, mul_assoc, mul-pos, one-mul, mul-one, mul_right_comm, mul_left_comm, arith, le→leb, pow-add, shl_lt}
 use native.Mathlib.Nat.{eq_of_mul-eq-mul_right}
-use lib.Ieee.{Float, fin, binary64, up, down, unlike, round, mul, of_int, of_bits, in_float}
+use lib.Ieee.{Float, fin, binary64, up, down, unlike, round, mul, of_int, of_bits, in_float, nan, inf}
 use lib.Ieee.Back.{round_whole}
 use lib.Ieee.Exact.{HasValue, round_exact}
 use lib.Ieee.Fits.{down_pos}
@@ -21,6 +21,8 @@ rescale (fin t m e) s a c n d p h v = (
       ∙ ap (λ (k : ℕ). k * down e) (sym h)
       ∙ mul_right_comm n c (down e)),
 )
+rescale nan s a c n d p h v = elim v [ ]
+rescale (inf _) s a c n d p h v = elim v [ ]
 
 unlike_plus : (s t : Bool) → t ≡ false → unlike s t ≡ s
 unlike_plus true t e = rw e
@@ -46,6 +48,10 @@ product_exact (fin t m e) (fin u n g) s q j h v w k l =
     rescale (round binary64 (unlike t u) (m * up e * (n * up g)) den) s (m * up e * (n * up g)) den (q * 2 ^ j * 2 ^ h) (2 ^ 1074) z (sym f)
     (subst (λ (p : Bool). HasValue (round binary64 (unlike t u) (m * up e * (n * up g)) den) p (m * up e * (n * up g)) den) (unlike_plus t u w.0 ∙ v.0)
     (round_exact binary64 (unlike t u) (m * up e * (n * up g)) den q (j + h) z k b (f ∙ ap (λ (i : ℕ). i * den) r)))
+product_exact nan y s q j h v w k l = elim v [ ]
+product_exact (inf _) y s q j h v w k l = elim v [ ]
+product_exact (fin t m e) nan s q j h v w k l = elim w [ ]
+product_exact (fin t m e) (inf _) s q j h v w k l = elim w [ ]
 
 power_value : (h : ℕ) → h ≤ 8 → HasValue (of_int binary64 (pos (2 ^ h))) false (2 ^ h) 1
 unfolding of_int

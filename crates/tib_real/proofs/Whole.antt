@@ -2,7 +2,7 @@
 use Rattle.std.proofs.Common.{◌≡◌, ℕ, zero, suc, ◌+◌, ◌-◌, ◌*◌, ◌/◌, ◌%◌, ◌^◌, ◌<◌, min, Bool, true, false, ◌||◌, T, eqb, ◌⊎◌, pos, sym, refl, ap, ◌∙◌, inl, inr, mul_assoc, add_comm, lt_of_mul-lt-mul_right, mul-lt-mul_of_pos_right, mul-pos, div-add-mod', zero-mul, mul-one, mul_right_comm, arith, le→leb, lt→ltb, pow_pos, eq-eqb, ne_eqb, eqb-true}
 use native.Mathlib.Nat.{eq_of_mul-eq-mul_right}
 use mathlib.Core.Bool.{beq}
-use lib.Ieee.{Float, fin, binary64, up, down, level, lt, le, eq, to_signed, of_int, in_float}
+use lib.Ieee.{Float, fin, binary64, up, down, level, lt, le, eq, to_signed, of_int, in_float, nan, inf}
 use lib.Ieee.Back.{round_whole}
 use lib.Ieee.Exact.{HasValue}
 use lib.Ieee.Fits.{down_pos}
@@ -37,6 +37,8 @@ in_range_lem (fin false m e) s a v h =
           (lt→ltb 0 (2 ^ 63 * down e + m * up e * 1) (rw (add_comm (2 ^ 63 * down e) (m * up e * 1)) (some_size (m * up e * 1) (down e) (down_pos e)))),
       lt→ltb (m * up e * 1) (2 ^ 63 * down e) (rw (mul-one (m * up e)) k),
     )
+in_range_lem nan s a v h = elim v [ ]
+in_range_lem (inf _) s a v h = elim v [ ]
 
 -- ---- what truncating gives
 
@@ -49,6 +51,8 @@ truncated (fin t m e) s a v h =
     let q = div_same (m * up e) (down e) a (2 ^ 1074) (down_pos e) (pow_pos 1074) v.1 in
     let k = uncapped (a / 2 ^ 1074) h in
     rw (v.0, q, k.0, k.1)
+truncated nan s a v h = elim v [ ]
+truncated (inf _) s a v h = elim v [ ]
 
 -- ---- it becomes a real again
 
@@ -101,6 +105,10 @@ eq_values (fin t m e) (fin u k g) s r n a v w h =
     rw (v.0, w.0)
     (either_zero s r p q n h (λ z. ap (λ (o : ℕ). o * down g) (x ∙ ap (λ (o : ℕ). o * down e) z ∙ zero-mul (down e)) ∙ zero-mul (down g))
     ∙ same_products p q (n * c) a c (down e * down g) (pow_pos 1074) (mul-pos (down_pos e) (down_pos g)) i j)
+eq_values nan y s r n a v w h = elim v [ ]
+eq_values (inf _) y s r n a v w h = elim v [ ]
+eq_values (fin t m e) nan s r n a v w h = elim w [ ]
+eq_values (fin t m e) (inf _) s r n a v w h = elim w [ ]
 
 quotient_whole : (a : ℕ) → eqb (a / 2 ^ 1074 * 2 ^ 1074) a ≡ eqb (a % 2 ^ 1074) 0
 quotient_whole a = go (a / 2 ^ 1074 * 2 ^ 1074) (a % 2 ^ 1074) (div-add-mod' a (2 ^ 1074))

@@ -1,5 +1,6 @@
 // Reads the reals of the Tib formats from four or eight octets, and reads a real in fractions.
 #![tactic(auto)]
+
 pub mod types;
 
 ghost use Rattle.std.specs.Prelude.{◌≡◌, ◌^◌, ◌<◌, ◌≤◌, from_bits};

@@ -1,6 +1,7 @@
 // One step of the traversal of a TibrvMsg message: reads the field at the front of octets. This crate also has the definitions of a message
 // and of its reading, and the laws between them.
 #![tactic(auto)]
+
 ghost use Rattle.std.specs.Prelude.{◌≡◌, cond, ◌-◌, ◌≤◌, ◌<◌, ◌^◌, ltb, length, take};
 ghost use Rattle.octets.specs.Number.{big_endian};
 ghost use Rattle.reading.specs.Refusals as refusals;
