@@ -45,8 +45,8 @@ build() {
     before=$(sources)
     rm -f "$archive" "$record"
     rm -f "$built"
-    rt lib crudvim || fail "rt lib crudvim failed"
-    [ -f "$built" ] || fail "rt lib crudvim wrote no $built"
+    (cd crates/crudvim && rt lib) || fail "rt lib failed in crates/crudvim"
+    [ -f "$built" ] || fail "rt lib wrote no $built"
     mkdir -p "$(dirname "$archive")"
     cp "$built" "$archive"
     [ "$(sources)" = "$before" ] || fail "the sources changed during the build: start it again"

@@ -9,6 +9,6 @@ mod input;
 mod line;
 mod print;
 
-pub use input::{front, number_in, octets_in, room_in};
+pub use input::{front, number_in, octets_in, read_full, room_in};
 pub use line::{find, word};
 pub use print::{counts, label, number, octets, part, refusal, signed, text};

@@ -17,7 +17,7 @@ mod messages;
 mod print;
 mod tables;
 
-use std::io::{self, Read};
+use std::io;
 
 fn run(rt: &impl Print, line: &[u8], what: u8) -> io::Result<()> {
     match what {
@@ -51,8 +51,8 @@ fn samples(rt: &impl Print, s: &[u8]) -> io::Result<()> {
 }
 
 fn main(rt: HostRuntime) -> io::Result<()> {
-    let mut input = Vec::new(rt.alloc());
-    rt.stdin().take(65536).read_to_end(&mut input)?;
-    samples(&rt, &input)?;
+    let mut input = [0u8; 65536];
+    let n = program_lines::read_full(&mut rt.stdin(), &mut input)?;
+    samples(&rt, &input[..n])?;
     tables::values(&rt)
 }

@@ -3,16 +3,16 @@
 
 #![tactic(auto)]
 
-use std::io::{self, Read};
+use std::io;
 
 // The size of the output buffer.
 const SIZE: usize = 65536;
 
 fn main(rt: HostRuntime) -> io::Result<()> {
-    let mut input = Vec::new(rt.alloc());
-    rt.stdin().take(65537).read_to_end(&mut input)?;
+    let mut input = [0u8; 65537];
+    let n = program_lines::read_full(&mut rt.stdin(), &mut input)?;
     let mut out = [0u8; SIZE];
-    let total = text_show::show(&input, 0, &mut out);
+    let total = text_show::show(&input[..n], 0, &mut out);
     let mut from: u64 = 0;
     loop {
         let remaining = total - from;
@@ -22,6 +22,6 @@ fn main(rt: HostRuntime) -> io::Result<()> {
         }
         rt.write_all(&out)?;
         from += SIZE as u64;
-        text_show::show(&input, from, &mut out);
+        text_show::show(&input[..n], from, &mut out);
     }
 }

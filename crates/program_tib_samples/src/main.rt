@@ -8,7 +8,7 @@
 mod print;
 mod qform;
 
-use std::io::{self, Read};
+use std::io;
 
 // Checks a TibMsg message and shows its fields, the reals read in fractions and in decimals too.
 fn msg(rt: &impl Print, s: &[u8]) -> io::Result<()> {
@@ -107,8 +107,8 @@ fn samples(rt: &impl Print, s: &[u8]) -> io::Result<()> {
 }
 
 fn main(rt: HostRuntime) -> io::Result<()> {
-    let mut input = Vec::new(rt.alloc());
-    rt.stdin().take(65536).read_to_end(&mut input)?;
-    samples(&rt, &input)?;
+    let mut input = [0u8; 65536];
+    let n = program_lines::read_full(&mut rt.stdin(), &mut input)?;
+    samples(&rt, &input[..n])?;
     qform::values(&rt)
 }

@@ -20,7 +20,7 @@ mod print;
 mod run;
 mod state;
 
-use std::io::{self, Read};
+use std::io;
 
 fn script(rt: &impl Print, s: &[u8]) -> io::Result<()> {
     let mut buffer = [0xaau8; 65546];
@@ -39,7 +39,7 @@ fn script(rt: &impl Print, s: &[u8]) -> io::Result<()> {
 }
 
 fn main(rt: HostRuntime) -> io::Result<()> {
-    let mut input = Vec::new(rt.alloc());
-    rt.stdin().take(16384).read_to_end(&mut input)?;
-    script(&rt, &input)
+    let mut input = [0u8; 16384];
+    let n = program_lines::read_full(&mut rt.stdin(), &mut input)?;
+    script(&rt, &input[..n])
 }

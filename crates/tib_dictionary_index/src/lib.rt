@@ -1,9 +1,10 @@
 // Loads a dictionary of QForm messages, and notes its entries in cells, one for each fid, so that a reader finds a field without a search.
 #![tactic(auto)]
+
 ghost use Rattle.std.specs.Prelude.{◌≡◌, true, map, ◌+◌, ◌/◌, ◌≤◌, ◌<◌, length, take, drop, get_or};
 ghost use Rattle.octets.specs.Number.{big_endian};
 ghost use Rattle.reading.specs.Refusals as refusals;
-ghost use Rattle.tib_dictionary.specs.Entry.{in_range, entry_with, word_of, entry as entry_of};
+ghost use Rattle.tib_dictionary.specs.Entry.{in_range, entry_with, word_of, entry as entry_of_word};
 ghost use Rattle.tib_dictionary.specs.Load.{entry_of, formed as formed-of, dictionary_of, load as load_of, refused as refused-at};
 ghost use Rattle.tib_dictionary.specs.internal.Cells.{cell_for, can_note, with_entry, note_from, note_all, all_noted, cells_after};
 ghost use Rattle.tib_dictionary.specs.internal.Search.{records_of};
@@ -120,7 +121,7 @@ pub fn note_records(s: &[u8], cells: &mut [u16; 16384]) -> usize
 
 // Returns the entry in a word.
 fn entry_in(w: u64) -> Entry
-    ensures { result ≡ entry_of w }
+    ensures { result ≡ entry_of_word w }
 {
     Entry {
         fid: w >> 24,
@@ -241,7 +242,7 @@ pub fn find_record(s: &[u8], fid: u64) -> Entry
 
 // Returns the first entry with a fid among the first `count` words, or an entry of zeros if there is none.
 fn find_in(words: &[u64], count: usize, fid: u64) -> Entry
-    ensures { result ≡ entry_with (map entry_of (take count words.now)) fid }
+    ensures { result ≡ entry_with (map entry_of_word (take count words.now)) fid }
 {
     let n = numbers::smaller(count, words.len());
     let mut i: usize = 0;
@@ -257,7 +258,7 @@ fn find_in(words: &[u64], count: usize, fid: u64) -> Entry
 
 // Does the same for a dictionary value.
 pub fn find_word(words: &[u64; 512], count: usize, fid: u64) -> Entry
-    ensures { result ≡ entry_with (map entry_of (take count words.now)) fid }
+    ensures { result ≡ entry_with (map entry_of_word (take count words.now)) fid }
 {
     find_in(words, count, fid)
 }

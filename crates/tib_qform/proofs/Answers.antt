@@ -45,7 +45,7 @@ module _ (dictionary : List ℕ) (o : Octets dictionary) (s : List ℕ) where
       (λ h es e. under h es ((load_exactly dictionary o es).0 e) (reading es s) refl)
 
   given : (r : Checked) → Answered dictionary s r → check_octets dictionary s ≡ r
-  given r (too_long h) = faults.too_long s h dictionary
+  given r (too_long h) = faults.too_long_lem s h dictionary
   given r (badDictionary h p f) = dictionary_refused s h dictionary o p f
   given r (badMessage h es d k p f) = fault_checked s dictionary o es d k p f
   given r (whole es d fs w) = octets_counted s dictionary o es fs d w

@@ -1,6 +1,7 @@
 // Reads QForm messages under a dictionary: checks a whole message, and returns its k-th field. Each call comes twice: one takes the octets of
 // a dictionary, the other a dictionary that was loaded. A message that is too long is rejected before the dictionary is read.
 #![tactic(auto)]
+
 pub mod types;
 
 ghost use Rattle.std.specs.Prelude.{◌≡◌, List, suc, ◌+◌, ◌≤◌, ◌<◌, ◌^◌, length, drop, get_or};

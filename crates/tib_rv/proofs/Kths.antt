@@ -4,7 +4,7 @@ use native.Mathlib.Omega.{arith}
 use mathlib.Core.Path.{◌≡◌, refl, sym, ap, ◌∙◌}
 use mathlib.Core.List.{List, ◌++◌}
 use mathlib.Core.Option.{Option, none, some}
-use lib.ListN.{length, take, drop, length-append, length-drop}
+use lib.ListN.{length, take, drop, length-drop}
 use Rattle.octets.proofs.Slices.{tail_part}
 use Rattle.tib_field.specs.declared.Field.{Field as Shown}
 use Rattle.reading.specs.internal.Verdicts.{IsAccepted}

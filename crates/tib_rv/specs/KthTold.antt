@@ -4,8 +4,8 @@ use Rattle.tib_field.specs.Refused.{no_real}
 use Rattle.tib_field.specs.declared.Field.{Field}
 use Rattle.tib_field.specs.Fields.{joined as joinedParts, KthField}
 use Rattle.tib_field.specs.Stands.{Stands}
-use Rattle.tib_rv_field.specs.Layout.{octets, Fields, message, Whole}
-use Rattle.tib_rv.specs.CheckAndField.{outermost, field}
+use Rattle.tib_rv_field.specs.Layout.{octets, Fields, Whole}
+use Rattle.tib_rv.specs.CheckAndField.{outermost}
 
 -- An answer tells the k-th outermost field of a division: the one with k outermost fields before it. Its name, with the closing zero, and
 -- its data stand at the places that the answer gives; the octet before the name is its size, and the type octet and the data's size are

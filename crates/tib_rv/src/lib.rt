@@ -1,5 +1,6 @@
 // Reads TibrvMsg messages: checks a whole message, and returns its k-th outermost field.
 #![tactic(auto)]
+
 ghost use Rattle.std.specs.Prelude.{◌≡◌, ◌+◌, ◌≤◌, ◌<◌, ◌^◌, length};
 ghost use Rattle.std.proofs.Math.Option.{some};
 ghost use Rattle.tib_rv_field.specs.Reading.{following as following-of, counted, next_field, lead as lead-of, total, header_fault, message_from, reading};

@@ -16,10 +16,13 @@ pub returns-then-message-gt-MESSAGE_LIMIT : goal.returns-then-message-gt-MESSAGE
 unfolding check_octets short_octets
 returns-then-message-gt-MESSAGE_LIMIT c =
     let a = c.args in
-    let h = c.if-message-gt-MESSAGE_LIMIT.true in record { checked_value = c.refused.ensures.checked_value
-          ∙ message_too_long a.table.now a.message.now (λ (t : Table). check t a.revision a.number a.message.now) refusal h; shortest_value = c.refused.ensures.shortest_value
+    let h = c.if-message-gt-MESSAGE_LIMIT.true in record {
+      checked_value = c.refused.ensures.checked_value
+          ∙ message_too_long a.table.now a.message.now (λ (t : Table). check t a.revision a.number a.message.now) refusal h;
+      shortest_value = c.refused.ensures.shortest_value
           ∙ message_too_long a.table.now a.message.now (λ (t : Table). short t a.revision a.number a.message.now)
-          (λ (reason place : ℕ). false) h }
+          (λ (reason place : ℕ). false) h;
+    }
 
 pub returns-then-end-table : goal.returns-then-end-table
 unfolding check_octets short_octets
@@ -27,11 +30,14 @@ returns-then-end-table c =
     let a = c.args in
     let x = c.index-end in
     let h = c.if-message-gt-MESSAGE_LIMIT.false in
-    let l = c.if-end-table.true in record { checked_value = c.refused-then-end-table.ensures.checked_value
+    let l = c.if-end-table.true in record {
+      checked_value = c.refused-then-end-table.ensures.checked_value
           ∙ index_refused a.table.now a.revision x.result x.ensures.value a.message.now h
-          (λ (t : Table). check t a.revision a.number a.message.now) refusal l; shortest_value = c.refused-then-end-table.ensures.shortest_value
+          (λ (t : Table). check t a.revision a.number a.message.now) refusal l;
+      shortest_value = c.refused-then-end-table.ensures.shortest_value
           ∙ index_refused a.table.now a.revision x.result x.ensures.value a.message.now h
-          (λ (t : Table). short t a.revision a.number a.message.now) (λ (reason place : ℕ). false) l }
+          (λ (t : Table). short t a.revision a.number a.message.now) (λ (reason place : ℕ). false) l;
+    }
 
 pub returns-then-not-is_revision : goal.returns-then-not-is_revision
 returns-then-not-is_revision c =
@@ -57,6 +63,9 @@ returns c =
     let o = octets_of_slice a.table.now (λ i. (d.type_inv.table i).fits) in
     let l = c.if-end-table.false in
     let known = sym v.ensures ∙ not-false v.result c.if-not-is_revision.false-raw in
-    let h = d.if-message-gt-MESSAGE_LIMIT.false in record { checked_value = c.check_under.ensures.checked_value
-          ∙ check_by_index a.table.now a.revision x.result x.ensures.value l known o x.new.cells x.ensures.cells_after a.number a.message.now h; shortest_value = c.check_under.ensures.shortest_value
-          ∙ short_by_index a.table.now a.revision x.result x.ensures.value l known o x.new.cells x.ensures.cells_after a.number a.message.now h }
+    let h = d.if-message-gt-MESSAGE_LIMIT.false in record {
+      checked_value = c.check_under.ensures.checked_value
+          ∙ check_by_index a.table.now a.revision x.result x.ensures.value l known o x.new.cells x.ensures.cells_after a.number a.message.now h;
+      shortest_value = c.check_under.ensures.shortest_value
+          ∙ short_by_index a.table.now a.revision x.result x.ensures.value l known o x.new.cells x.ensures.cells_after a.number a.message.now h;
+    }

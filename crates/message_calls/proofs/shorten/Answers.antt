@@ -13,9 +13,12 @@ pub returns-then-message-gt-MESSAGE_LIMIT : goal.returns-then-message-gt-MESSAGE
 unfolding shorten_octets shorten_buffer
 returns-then-message-gt-MESSAGE_LIMIT c =
     let a = c.args in
-    let h = c.if-message-gt-MESSAGE_LIMIT.true in record { value = c.refused.ensures
-          ∙ message_too_long a.table.now a.message.now (λ (t : Table). answer t a.revision a.number a.message.now a.out.now) refusal h; out_after = message_too_long a.table.now a.message.now (λ (t : Table). buffer t a.revision a.number a.message.now a.out.now)
-          (λ (reason place : ℕ). a.out.now) h }
+    let h = c.if-message-gt-MESSAGE_LIMIT.true in record {
+      value = c.refused.ensures
+          ∙ message_too_long a.table.now a.message.now (λ (t : Table). answer t a.revision a.number a.message.now a.out.now) refusal h;
+      out_after = message_too_long a.table.now a.message.now (λ (t : Table). buffer t a.revision a.number a.message.now a.out.now)
+          (λ (reason place : ℕ). a.out.now) h;
+    }
 
 pub returns-then-end-table : goal.returns-then-end-table
 unfolding shorten_octets shorten_buffer
@@ -23,10 +26,13 @@ returns-then-end-table c =
     let a = c.args in
     let x = c.index-end in
     let h = c.if-message-gt-MESSAGE_LIMIT.false in
-    let l = c.if-end-table.true in record { value = c.refused-then-end-table.ensures
+    let l = c.if-end-table.true in record {
+      value = c.refused-then-end-table.ensures
           ∙ index_refused a.table.now a.revision x.result x.ensures.value a.message.now h
-          (λ (t : Table). answer t a.revision a.number a.message.now a.out.now) refusal l; out_after = index_refused a.table.now a.revision x.result x.ensures.value a.message.now h
-          (λ (t : Table). buffer t a.revision a.number a.message.now a.out.now) (λ (reason place : ℕ). a.out.now) l }
+          (λ (t : Table). answer t a.revision a.number a.message.now a.out.now) refusal l;
+      out_after = index_refused a.table.now a.revision x.result x.ensures.value a.message.now h
+          (λ (t : Table). buffer t a.revision a.number a.message.now a.out.now) (λ (reason place : ℕ). a.out.now) l;
+    }
 
 pub returns-then-not-is_revision : goal.returns-then-not-is_revision
 returns-then-not-is_revision c =
@@ -53,6 +59,9 @@ returns c =
     let l = c.if-end-table.false in
     let known = sym v.ensures ∙ not-false v.result c.if-not-is_revision.false-raw in
     let h = d.if-message-gt-MESSAGE_LIMIT.false in
-    let s = c.shorten_under.ensures in record { value = s.value
-          ∙ shorten_by_index a.table.now a.revision x.result x.ensures.value l known o x.new.cells x.ensures.cells_after a.number a.message.now h a.out.now; out_after = s.out_after
-          ∙ buffer_by_index a.table.now a.revision x.result x.ensures.value l known o x.new.cells x.ensures.cells_after a.number a.message.now h a.out.now }
+    let s = c.shorten_under.ensures in record {
+      value = s.value
+          ∙ shorten_by_index a.table.now a.revision x.result x.ensures.value l known o x.new.cells x.ensures.cells_after a.number a.message.now h a.out.now;
+      out_after = s.out_after
+          ∙ buffer_by_index a.table.now a.revision x.result x.ensures.value l known o x.new.cells x.ensures.cells_after a.number a.message.now h a.out.now;
+    }

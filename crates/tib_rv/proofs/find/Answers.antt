@@ -1,6 +1,5 @@
 -- `tib_rv::find` meets its contract: at each turn the field that is looked for is among those that remain.
 use native.Mathlib.Omega.{arith}
-use Prim.Native.Nat.{◌-◌}
 use Rattle.tib_rv.proofs.Kths.{start, field_here, ended, one_more}
 use Rattle.tib_rv.proofs.find.Goals as goal
 

@@ -1,7 +1,5 @@
 -- `tib_rv::header_fault` meets its contract.
-use borrow.Author.Tests.{not-true, not-false}
 use Rattle.tib_rv.proofs.Headers.{header_cut_lem, other_magic_lem, other_size_lem, no_fault}
-use borrow.Author.Rules.{rules}
 use Rattle.tib_rv.proofs.header_fault.Goals as goal
 
 pub returns-then-s-lt8 : goal.returns-then-s-lt8

@@ -3,7 +3,6 @@ use native.Mathlib.Omega.{arith}
 use Prim.Native.Nat.{ℕ}
 use mathlib.Core.Path.{◌≡◌, sym, ap, ◌∙◌}
 use Rattle.table_index.specs.internal.Cells.{indexed}
-use Rattle.message_calls.specs.Check.{check_under}
 use Rattle.reading.specs.declared.Checked.{Checked}
 use Rattle.message_calls.proofs.LookupAnswers.{refused-under, absent, Present, present}
 use Rattle.message_calls.proofs.outermost.look_under.Goals as goal

@@ -1,15 +1,5 @@
-use Rattle.std.proofs.Common.{◌≡◌, ◌≤◌, length, leb, ℕ, ◌+◌, ◌-◌, ◌*◌, ◌<◌}
-use Rattle.reading.specs.Reading.{message_limit, depth_limit}
-use Rattle.octets.specs.Number.{Octets}
-use Rattle.octets.specs.Number.{big_endian as number_of_lem}
-use Rattle.octets.specs.Number.{least_uint}
-use Rattle.octets.specs.Signed.{integer, least_int}
-use Rattle.table_index.specs.internal.Cells.{meaning_of, indexed}
-use Rattle.message.specs.Cut.{Contents}
-use Rattle.message.specs.internal.Accepts.{Accepts}
-use Rattle.message.specs.Tree.{value}
-use Rattle.message.specs.Shortest.{field, least_contents}
-use Rattle.message_calls.specs.internal.Stores.{shortest_within}
+use Rattle.std.proofs.Common.{length, ◌-◌}
+use Rattle.table_index.specs.internal.Cells.{indexed}
 use Rattle.message_calls.proofs.MeasureLoop.{Counted}
 use Rattle.message_calls.proofs.sizes.+measure.Given as goal
 

@@ -29,5 +29,8 @@ returns c =
     let a = b.args in
     let m = a.message.now in
     let n = c.traverse-t in
-    let o = octets_of_slice m (λ i. (k.type_inv.message i).fits) in record { checked_value = c.answer.ensures
-          ∙ by-verdict (indexed a.cells.now) a.number m c.if-message-gt-MESSAGE_LIMIT.false c.if-number-gt-LAST_NUMBER.false n.result.verdict n.ensures.verdict_value; shortest_value = n.ensures.shortest_value ∙ short-by-reading (indexed a.cells.now) a.number m o c.if-message-gt-MESSAGE_LIMIT.false c.if-number-gt-LAST_NUMBER.false }
+    let o = octets_of_slice m (λ i. (k.type_inv.message i).fits) in record {
+      checked_value = c.answer.ensures
+          ∙ by-verdict (indexed a.cells.now) a.number m c.if-message-gt-MESSAGE_LIMIT.false c.if-number-gt-LAST_NUMBER.false n.result.verdict n.ensures.verdict_value;
+      shortest_value = n.ensures.shortest_value ∙ short-by-reading (indexed a.cells.now) a.number m o c.if-message-gt-MESSAGE_LIMIT.false c.if-number-gt-LAST_NUMBER.false;
+    }

@@ -2,10 +2,8 @@
 use Prim.Native.Nat.{ℕ, ◌+◌, ◌-◌, ◌≤◌, ◌<◌}
 use native.Mathlib.Omega.{arith}
 use mathlib.Core.Path.{◌≡◌, refl, sym, ◌∙◌, subst}
-use mathlib.Core.Logic.{⊎_elim}
 use lib.Bits.{bit_and, mask_lt}
 use lib.ListN.{length, get_or}
-use borrow.Author.Tests.{eqb-false, not-true}
 use Rattle.octets.proofs.Number.{octets_of_slice}
 use Rattle.message_field.specs.internal.Nexts.{NoText}
 use Rattle.message_field.proofs.Nexts.{small_inside, text_passes}
@@ -81,12 +79,12 @@ bounds-s-first c =
     let a = d.args in
     let n = bit_and (get_or a.s.now a.i 0) 15 in
     elim c.if-n-eq0.branch [
-      then-n-eq0 w ↦ let e = w.first-is in let h = (start_inside (goal.at.bounds-s-first c).Else-code-ge4).0 in omega arith
-    | else-n-eq0 w ↦
-        let e = w.first-is in
-        let h = (start_inside (goal.at.bounds-s-first c).Else-code-ge4).1 in
-        let z : n ≡ 0 → ⊥ = w.if-n-eq0.false in
-        omega (arith, z)
+      | then-n-eq0 w ↦ let e = w.first-is in let h = (start_inside (goal.at.bounds-s-first c).Else-code-ge4).0 in omega arith
+      | else-n-eq0 w ↦
+          let e = w.first-is in
+          let h = (start_inside (goal.at.bounds-s-first c).Else-code-ge4).1 in
+          let z : n ≡ 0 → ⊥ = w.if-n-eq0.false in
+          omega (arith, z)
     ]
 
 pub returns-then-s-first-ne0 : goal.returns-then-s-first-ne0
@@ -101,16 +99,19 @@ returns-then-s-first-ne0 c =
     let z : e - (a.i + 1) ≡ n = omega arith in
     let few : n ≤ 8 = c.if-n-le8.true in
     let inside = start_inside (goal.at.returns-then-s-first-ne0 c).Else-code-ge4 in
-    let o = octets_of_slice s (λ k. (c.type_inv.s k).fits) in record { no_text = λ y. absurd (omega arith); code_bound = λ h. (
+    let o = octets_of_slice s (λ k. (c.type_inv.s k).fits) in record {
+      no_text = λ y. absurd (omega arith);
+      code_bound = λ h. (
         omega arith,
         refl,
         elim c.if-n-eq0.branch [
-          then-n-eq0 w ↦ none_passes a.code s (a.i + 1) e (omega arith, inside.1) four (let y : n ≡ 0 = w.if-n-eq0.true in omega arith)
-        | else-n-eq0 w ↦
-            first_passes a.code s (a.i + 1) e (omega arith, inside.1) four o (let y : n ≡ 0 → ⊥ = w.if-n-eq0.false in omega (arith, y)) (omega arith)
-            (subst (λ (q : ℕ). bit_and (get_or s q 0) 127 ≡ 0 → ⊥) w.first-is c.if-s-first-ne0.true)
+          | then-n-eq0 w ↦ none_passes a.code s (a.i + 1) e (omega arith, inside.1) four (let y : n ≡ 0 = w.if-n-eq0.true in omega arith)
+          | else-n-eq0 w ↦
+              first_passes a.code s (a.i + 1) e (omega arith, inside.1) four o (let y : n ≡ 0 → ⊥ = w.if-n-eq0.false in omega (arith, y)) (omega arith)
+              (subst (λ (q : ℕ). bit_and (get_or s q 0) 127 ≡ 0 → ⊥) w.first-is c.if-s-first-ne0.true)
         ],
-      ) }
+      );
+    }
 
 pub short_by_first_octets-requires : goal.short_by_first_octets-requires
 short_by_first_octets-requires c = let d = c in (d.if-code-ge4.false, omega arith, (start_inside (goal.at.short_by_first_octets-requires c).Else-code-ge4).1)

@@ -1,11 +1,8 @@
 -- `small_cell` tests what its definition tests.
 use native.Mathlib.Omega.{arith}
 use mathlib.Core.Path.{◌∙◌}
-use mathlib.Core.Logic.{⊎_elim}
 use lib.Bits.{bit_and, mask_lt}
-use lib.ListN.{length, get_or}
-use Prim.Native.Nat.{◌+◌}
-use borrow.Author.Tests.{leb-true, leb-false, ltb-true}
+use lib.ListN.{get_or}
 use Rattle.message_field.proofs.Nexts.{none_past, none_by_tag, none_by_length, none_by_end, cell_found}
 use Rattle.message_calls.proofs.traversal.small_cell.Goals as goal
 use Rattle.message_calls.proofs.traversal.small_cell.Goals.{then-c-ge224-via-then-c-ge224, then-c-ge224-via-else-c-ge224+then-n-ge12, then-c-ge224-via-else-c-ge224+else-n-ge12+then-s-i-2}
@@ -34,10 +31,10 @@ returns-then-c-ge224 c =
     let h = c.if-s-i.false in
     let n = bit_and (get_or s a.i 0) 15 in
     elim c.then-c-ge224.branch [
-      then-c-ge224-via-then-c-ge224 w ↦ none_by_tag a.cells.now a.number s a.i h w.if-c-ge224.true
-    | then-c-ge224-via-else-c-ge224+then-n-ge12 w ↦ none_by_length a.cells.now a.number s a.i h w.if-c-ge224.false w.if-n-ge12.true
-    | then-c-ge224-via-else-c-ge224+else-n-ge12+then-s-i-2 w ↦
-        none_by_end a.cells.now a.number s a.i h w.if-c-ge224.false w.if-n-ge12.false w.if-s-i-2.true
+      | then-c-ge224-via-then-c-ge224 w ↦ none_by_tag a.cells.now a.number s a.i h w.if-c-ge224.true
+      | then-c-ge224-via-else-c-ge224+then-n-ge12 w ↦ none_by_length a.cells.now a.number s a.i h w.if-c-ge224.false w.if-n-ge12.true
+      | then-c-ge224-via-else-c-ge224+else-n-ge12+then-s-i-2 w ↦
+          none_by_end a.cells.now a.number s a.i h w.if-c-ge224.false w.if-n-ge12.false w.if-s-i-2.true
     ]
 
 pub returns : goal.returns
