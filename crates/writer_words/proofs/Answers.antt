@@ -10,7 +10,7 @@ use Rattle.writer_state.specs.ByOctets.{started_octets, answer_octets, buffer_oc
 use Rattle.writer_state.specs.declared.State.{State}
 use Rattle.writer_state.specs.declared.Written.{Written}
 use Rattle.writer_state.specs.declared.Finished.{Finished}
-use Rattle.writer_words.specs.Words.{state_of, words_after, start_words, call_words, call_buffer, finish_words}
+use Rattle.writer_words.specs.Words.{state_of, words_after, array_after, start_words, call_words, call_buffer, finish_words}
 
 module _ (octets : List ℕ) (revision number len : ℕ) (ws : List ℕ) where
   pub start_other : (length ws ≡ 34 → ⊥) → {after : List ℕ} → after ≡ replicate (length ws) 0
@@ -23,17 +23,21 @@ module _ (octets : List ℕ) (revision number len : ℕ) (ws : List ℕ) where
   unfolding start_words words_after
   start_stored e p q = rw (q, p, eq-eqb (length ws) 34 e) refl
 
-module _ (octets ws d : List ℕ) (c : Call) {s : State} (e : s ≡ state_of ws) where
-  -- A refused call leaves the array as it was.
-  pub call_refused : {w : Written} → w ≡ answer_octets octets s d c → (w.refusal ≡ 0 → ⊥)
-      → call_words octets ws d c ≡ record { refusal = w.refusal; place = w.place; array = ws }
-  unfolding call_words
-  call_refused {w} p ne = let q : w ≡ answer_octets octets (state_of ws) d c = p ∙ rw e refl in rw (← q, ne_eqb w.refusal 0 ne) refl
+-- The array after a call.
+module _ (ws : List ℕ) (w : Written) where
+  pub refused_array : (w.refusal ≡ 0 → ⊥) → ws ≡ array_after ws w
+  unfolding array_after
+  refused_array ne = rw (ne_eqb w.refusal 0 ne) refl
 
-  pub call_accepted : {w : Written} {after : List ℕ} → w ≡ answer_octets octets s d c → w.refusal ≡ 0 → after ≡ words_after ws w.state
+  pub accepted_array : w.refusal ≡ 0 → words_after ws w.state ≡ array_after ws w
+  unfolding array_after
+  accepted_array z = rw (eq-eqb w.refusal 0 z) refl
+
+module _ (octets ws d : List ℕ) (c : Call) {s : State} (e : s ≡ state_of ws) where
+  pub called : {w : Written} {after : List ℕ} → w ≡ answer_octets octets s d c → after ≡ array_after ws w
       → call_words octets ws d c ≡ record { refusal = w.refusal; place = w.place; array = after }
   unfolding call_words
-  call_accepted {w} p z a = let q : w ≡ answer_octets octets (state_of ws) d c = p ∙ rw e refl in rw (← q, eq-eqb w.refusal 0 z, a) refl
+  called p q = rw (q, p, e) refl
 
   pub called_buffer : {after : List ℕ} → after ≡ buffer_octets octets s d c → after ≡ call_buffer octets ws d c
   unfolding call_buffer

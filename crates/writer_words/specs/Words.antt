@@ -5,6 +5,7 @@ use Rattle.writer_state.specs.ByOctets.{started_octets, answer_octets, buffer_oc
 use Rattle.writer_state.specs.Call.{Call}
 use Rattle.writer_state.specs.Calls.{begun, finished}
 use Rattle.writer_state.specs.declared.State.{State}
+use Rattle.writer_state.specs.declared.Written.{Written}
 
 -- How many numbers an array with a state has.
 abbrev pub state_words : ℕ
@@ -50,6 +51,10 @@ state_of ws =
 unfoldable pub words_after : List ℕ → State → List ℕ
 words_after ws s = cond (eqb (length ws) state_words) (words_of s) ws
 
+-- The array after a call between start and finish. A refused call leaves it as it was.
+unfoldable pub array_after : List ℕ → Written → List ℕ
+array_after ws w = cond (eqb w.refusal 0) (words_after ws w.state) ws
+
 -- The answer of a call: the refusal, its place, and the array after the call.
 pub record CallAnswer : Type 0 where
   pub refusal : ℕ
@@ -63,12 +68,11 @@ start_words octets revision number len ws =
     cond (eqb (length ws) state_words) (record { refusal = w.refusal; place = w.place; array = words_of w.state })
     (record { refusal = refusals.state; place = 0; array = replicate (length ws) 0 })
 
--- A call between start and finish, with the octets of a table, an array and a buffer; then the buffer after it. A refused call leaves the array as
--- it was.
+-- A call between start and finish, with the octets of a table, an array and a buffer; then the buffer after it.
 unfoldable pub call_words : List ℕ → List ℕ → List ℕ → Call → CallAnswer
 call_words octets ws d c =
     let w = answer_octets octets (state_of ws) d c in
-    record { refusal = w.refusal; place = w.place; array = cond (eqb w.refusal 0) (words_after ws w.state) ws }
+    record { refusal = w.refusal; place = w.place; array = array_after ws w }
 
 unfoldable pub call_buffer : List ℕ → List ℕ → List ℕ → Call → List ℕ
 call_buffer octets ws d c = buffer_octets octets (state_of ws) d c

@@ -4,9 +4,9 @@
 ghost use Rattle.std.specs.Prelude.{◌≡◌, length as length-of, replicate};
 ghost use Rattle.octets_store.specs.Store.{stored};
 ghost use Rattle.writer_state.specs.Calls.{begun};
-ghost use Rattle.writer_words.specs.Words.{at_most, low as low-of, state_of, words_after};
+ghost use Rattle.writer_words.specs.Words.{at_most, low as low-of, state_of, words_after, array_after};
 
-use writer_state::State;
+use writer_state::{State, Written};
 
 // How many numbers the array of a state has. In this order they are the length of the buffer, the start, the count of open fields, the revision,
 // eight message numbers, eight masks, seven marks and seven tags.
@@ -159,6 +159,15 @@ pub fn store(words: &mut [u64], s: State)
         copy(words, 12, &s.masks);
         copy(words, 20, &marks);
         copy(words, 27, &tags);
+    }
+}
+
+// Stores the state after an accepted call. A refused call leaves the array as it was.
+pub fn store_accepted(words: &mut [u64], w: Written)
+    ensures { words.new ≡ array_after words.old w }
+{
+    if w.refusal == 0 {
+        store(words, w.state);
     }
 }
 
