@@ -9,7 +9,7 @@ archive=${ARCHIVE:-target/staticlib/libcrudvim.a}
 cc=${CC:-gcc}
 build=target/bench
 if [ ! -f "$archive" ]; then
-    rt staticlib crudvim
+    tools/archive.sh
 fi
 mkdir -p "$build"
 # Each side is compiled on its own, so that no call is folded into the loop that times it.

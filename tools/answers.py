@@ -137,6 +137,7 @@ MUTABLE = {}
 class Function:
     def __init__(self, names):
         self.needs = names["needs"]
+        self.params = names["params"]
         self.asked = {new: names["asked"].get(old) for old, new in names["needs"]}
         self.places = {}
         self.tree = []
@@ -205,7 +206,30 @@ def declared_name(block):
 class Turn:
     def __init__(self, fn, path, say):
         self.fn, self.path, self.say = fn, path, say
+        self.aliases, self.shown = {}, {}
         self.helpers, self.goal, self.first = {}, None, "c"
+        self.inside, self.own_place, self.depth_of = {}, None, {}
+
+    def depth(self, place):
+        """How many places lie above one."""
+        n = 0
+        while place is not None and self.fn.tree[place][0] is not None:
+            place, n = self.fn.tree[place][0], n + 1
+        return n
+
+    def take_aliases(self, block):
+        """A section without its names for the records of earlier places, which today's flat records do not need."""
+        m = re.search(r"^module _ \((" + WORD + r") : tie\.([A-Z][\w'-]*)", block, re.M)
+        self.inside = {}
+        if not m:
+            return block
+        while True:
+            k = re.search(r"^  (?:abbrev )?(" + WORD + r") : tie\.([A-Z][\w'-]*)[^\n]*\n  \1 = (" + WORD + r")((?:\.before)*)\n(?:\n|$)", block + "\n", re.M)
+            if not k or plain(k[2]) not in self.fn.at:
+                return block
+            block = block[: k.start()] + block[k.end() :]
+            self.aliases[k[1]] = self.fn.at[plain(k[2])]
+            self.inside[k[1]] = (m[1], self.fn.at[plain(k[2])])
 
     def clause(self, fields, rest):
         m = re.match(r"\.(\d+)(?![\d\w])", rest)
@@ -216,16 +240,20 @@ class Turn:
     def of_step(self, text, variable, step, ensures):
         """A term in which a variable stands for a step, or for what it ensures: the clauses and arguments get their names."""
         names = (self.fn.clauses.get(step) or {}).get("fields") or []
-        given = references(self.fn.callees[step]) if step in self.fn.callees else []
+        params = self.fn.params.get(self.fn.callees.get(step)) or []
 
         def named(fields):
             return lambda m: m[1] + (fields[int(m[2])] if int(m[2]) < len(fields) else m[2])
+
+        def changed(m):
+            at = m[2].count(".1")
+            return m[1] + "." + params[at] if at < len(params) and m[3] else m[0]
 
         v = r"(?<![.\w₀'-])(" + re.escape(variable)
         if ensures:
             return re.sub(v + r"\.)(\d+)(?!\w)", named(names), text) if len(names) > 1 else text
         text = re.sub(v + r"\.ensures\.)(\d+)(?!\w)", named(names), text)
-        text = re.sub(v + r"\.new\.)(\d+)(?!\w)", named(given), text)
+        text = re.sub(v + r"\.new)((?:\.1)*)(\.0)?(?![\w])", lambda m: changed(m) if m[2] or m[3] else m[0], text)
         if len(names) == 1:
             text = re.sub(v + r"\.ensures)(?![.\w-])", lambda m: m[1] + "." + names[0], text)
         return text
@@ -264,6 +292,17 @@ class Turn:
         """A term with the flat names of today's contexts. `contexts` gives the variables that stand for one, and the place of each."""
         contexts = dict(contexts)
         text = text.replace(".type-inv", ".type_inv")
+        # a name of the file's own for the record of an earlier place
+        self.shown = {n: v for n, (v, place) in self.inside.items()}
+        contexts.update({n: place for n, (v, place) in self.inside.items()})
+        while True:
+            m = re.search(r"(?<![\w'.‡-])\(?(" + "|".join(re.escape(n) for n in self.aliases) + r") (" + WORD + r")((?:\.before)*)(\)|(?=\s))", text) if self.aliases else None
+            if not m or (m[0][0] == "(") != (m[4] == ")"):
+                break
+            new = f"{m[2]}‡{m[1]}"
+            text = text[: m.start()] + new + text[m.end() :]
+            contexts[new] = self.aliases[m[1]]
+            self.shown[new] = self.shown.get(m[2], m[2])
         while True:
             known = "|".join(re.escape(c) for c in contexts)
             found = {m[1]: self.up(contexts[m[2]], m[3].count(".before")) for m in re.finditer(r"\blet (" + WORD + r") = (" + known + r")((?:\.before)*) in", text) if m[1] not in contexts}
@@ -296,7 +335,9 @@ class Turn:
             out.append(text[i : m.start()])
             name, field = m[1], m[3]
             here = self.up(contexts[name], m[2].count(".before"))
+            depth = self.depth_of.get(self.shown.get(name, name))
             i = m.end()
+            name = self.shown.get(name, name)
             if text[i - 1] == "." or text[i : i + 2] == ".«":
                 k = re.match(r"\.«([^»]*)»", text[i:])
                 out.append(f"{name}.{k[1]}")
@@ -306,7 +347,11 @@ class Turn:
                 before = re.search(r"(" + WORD + r") \(?$", text[: m.start()])
                 place = self.helpers.get(before[1]) if before else None
                 alias = text[: m.start()].endswith(" = ") and re.match(r"\s+in\b", text[i:])
-                if place and self.goal:
+                if place and not self.goal and place == self.own_place:
+                    out.append(name)
+                elif place == "Start" and not self.goal and depth is not None:
+                    out.append(name + ".before" * (depth + 1))
+                elif place and self.goal:
                     out.append(f"(goal.at.{self.goal} {self.first}).{place}")
                 else:
                     out.append(name if alias or not m[2] else name + m[2])
@@ -315,13 +360,13 @@ class Turn:
                 continue
             rest = text[i:]
             step = plain(field)
-            if field in ("args", "ranges", "type_inv", "lifetimes"):
+            if field in ("args", "ranges", "type_inv", "lifetimes", "well_formed"):
                 out.append(f"{name}.{field}")
                 k = re.match(r"\.(" + WORD + ")", rest)
                 if k and k[1] in self.fn.args:
                     out.append("." + self.fn.args[k[1]])
                     i += k.end()
-            elif field == "requires":
+            elif field in ("requires", "pre"):
                 out.append(f"{name}.requires")
                 pre, at = self.fn.pre or [], 0
                 while len(pre) > 1 and (k := re.match(r"\.(\d+)(?![\d\w])", text[i:])):
@@ -344,8 +389,8 @@ class Turn:
                 _, _, new, fields = self.fn.tree[at]
                 out.append(f"{name}.{new}")
                 k = re.match(r"\.(\w+)(?![\w-])", rest)
-                if k and k[1] in fields:
-                    out.append("." + fields[k[1]])
+                if k and (k[1] in fields or k[1] in ("left", "taken")):
+                    out.append("." + fields.get(k[1], {"left": "false", "taken": "true"}.get(k[1])))
                     i += k.end()
                     continue
                 k = re.match(r"\.ensures\.(\d+)(?![\d\w])", rest)
@@ -356,19 +401,25 @@ class Turn:
                 elif k and names and int(k[1]) < len(names) and names[int(k[1])]:
                     out.append(".ensures." + names[int(k[1])])
                     i += k.end()
-                k = re.match(r"\.(new|auto)\.(\d+)(?![\d\w])", rest)
-                given = []
-                if k and step in self.fn.callees:
-                    given = references(self.fn.callees[step])
-                    if k[1] == "auto":
-                        given = changed_by(self.fn.callees[step])
-                if k and int(k[2]) < len(given):
-                    out.append(f".{k[1]}." + given[int(k[2])])
+                k = re.match(r"\.new((?:\.1)*)(\.0)?(?![\d\w])", rest)
+                callee = self.fn.callees.get(step)
+                params = self.fn.params.get(callee) or []
+                if k and (k[1] or k[2]) and params:
+                    at = k[1].count(".1")
+                    if at < len(params) and k[2]:
+                        out.append(".new." + params[at])
+                        i += k.end()
+                k = re.match(r"\.auto\.(\d+)(?![\d\w])", rest)
+                given = (references(callee) and changed_by(callee)) if k and callee else []
+                if k and int(k[1]) < len(given):
+                    out.append(".auto." + given[int(k[1])])
                     i += k.end()
             else:
                 out.append(f"{name}.{field}")
                 self.say(f"{self.path}: no step for {name}{m[2]}.{field}")
         text = "".join(out)
+        for old, new in self.fn.args.items():
+            text = re.sub(r"(?<=\.)" + re.escape(old) + r"(?![\w'-])", new, text)
         one = r"(?:\([^()]*(?:\([^()]*\)[^()]*)*\)|[^\s()]+)"
         return re.sub(r"\b(?:ltb|leb|eqb)-(?:true|false) " + one + " " + one + r" ((?:" + variables + r")\.[^\s(),;.]+\.(?:true|false))-raw\b", r"\1", text)
 
@@ -467,9 +518,15 @@ def turn(path, module, function, fn, say):
             return new
 
         typed = {m[1]: fn.at.get(plain(m[2])) for m in re.finditer(r"\(?\b(" + WORD + r") : tie\.([A-Z][\w'-]*)", block)}
+        k = re.match(r"(?:--[^\n]*\n)*(?:abbrev )?(" + WORD + r") : tie\.([A-Z][\w'-]*)[^\n→]* → tie\.([A-Z][\w'-]*)[^\n]*\n\1 (" + WORD + r") = \4((?:\.before)*)$", block)
+        if k and plain(k[3]) in fn.at:
+            here.aliases[name] = fn.at[plain(k[3])]
+            continue
+        block = here.take_aliases(block)
         k = re.search(r": tie\.([A-Z][\w'-]*)", block)
         if k and plain(k[1]) in fn.places:
             here.helpers[name] = fn.places[plain(k[1])]
+            here.own_place = fn.places[plain(k[1])]
             if name == "module":
                 for inner in re.finditer(r"^  (?:abbrev |unfoldable )*(?:pub )?(" + WORD + r")(?: [^\n:]+)? :\s", block, re.M):
                     here.helpers[inner[1]] = fn.places[plain(k[1])]
@@ -479,7 +536,9 @@ def turn(path, module, function, fn, say):
                 typed.setdefault(e[1].split()[0], fn.at[plain(k[1])])
         block = re.sub(r"tie\.([A-Z][\w'-]*)((?: (?:invariant|decreases)-[^\s)]+)*)", place, block)
         if typed:
+            here.depth_of = {n: here.depth(place) for n, place in typed.items() if place is not None}
             block = here.body(block, typed)
+        here.inside, here.own_place, here.depth_of = {}, None, {}
         answers.append(block)
     folder = os.path.dirname(path)
     renamed = {n: g for n, g in aliases.items() if g and n != g}

@@ -8,6 +8,7 @@
 # of `rt version`), and a checksum of the archive. Times of files do not count.
 set -euo pipefail
 cd "$(dirname "$0")/.."
+built=crates/crudvim/out/libcrudvim.a
 archive=target/staticlib/libcrudvim.a
 record=target/staticlib/libcrudvim.record
 
@@ -43,8 +44,11 @@ build() {
     local before
     before=$(sources)
     rm -f "$archive" "$record"
-    rt staticlib crudvim || fail "rt staticlib crudvim failed"
-    [ -f "$archive" ] || fail "rt staticlib crudvim wrote no $archive"
+    rm -f "$built"
+    (cd crates/crudvim && rt lib) || fail "rt lib failed in crates/crudvim"
+    [ -f "$built" ] || fail "rt lib wrote no $built"
+    mkdir -p "$(dirname "$archive")"
+    cp "$built" "$archive"
     [ "$(sources)" = "$before" ] || fail "the sources changed during the build: start it again"
     fitting "$before" > "$record.new"
     mv "$record.new" "$record"

@@ -8,7 +8,7 @@ import pathlib
 import re
 import sys
 
-IMPORT = re.compile(r'use Rattle·(\w+?)(?:·specs\.specs|\.specs)\.((?:internal\.)?[A-Z]\w*)(?: as (\w+))?(?:\.\{(.*?)\})?')
+IMPORT = re.compile(r'use Rattle\.(\w+)\.specs\.((?:internal\.)?[A-Z]\w*)(?: as (\w+))?(?:\.\{(.*?)\})?')
 FUNCTION = re.compile(r'^pub (?:extern "C" )?fn (\w+)\(.*?^\{', re.M | re.S)
 ENTRIES = {
     'table_index': 'load',

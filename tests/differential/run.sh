@@ -1,6 +1,7 @@
 #!/usr/bin/env bash
 # The oracle's own tests, and the quick run of the differential test: a fixed seed, about a minute. It needs the archive that
-# `rt staticlib crudvim` makes and the program target/bin/program_show.
+# tools/archive.sh makes and the program target/bin/program_show, which
+# tools/program_show.sh builds.
 set -eu
 cd "$(dirname "$0")"
 root=$(cd ../.. && pwd)

@@ -139,14 +139,14 @@ cp docs/C-LIBRARY.md "$copy/docs/"
 cat > "$work/bin/rt" <<'END'
 #!/bin/sh
 # A stand-in for rt: writes a line for each build, and copies an archive.
-case "$1 $2" in
-"version ") echo "${KIT:-the kit}" ;;
-"staticlib crudvim")
+case "$1" in
+version) echo "${KIT:-the kit}" ;;
+lib)
     echo build >> "$BUILDS"
     ${BUILD_FAILS:+exit 1}
-    mkdir -p target/staticlib
-    cp "$ARCHIVE" target/staticlib/libcrudvim.a
-    ${SOURCE_CHANGES:+touch crates/crudvim/src/meanwhile.rt}
+    mkdir -p out
+    cp "$ARCHIVE" out/libcrudvim.a
+    ${SOURCE_CHANGES:+touch src/meanwhile.rt}
     ;;
 *) exit 2 ;;
 esac
@@ -220,7 +220,7 @@ refuses() {
 }
 rm -r "$work/copied"
 echo '// yet more' >> "$copy/crates/crudvim/src/lib.rt"
-BUILD_FAILS=yes refuses "a build that fails" "rt staticlib crudvim failed"
+BUILD_FAILS=yes refuses "a build that fails" "rt lib failed in crates/crudvim"
 [ ! -e "$copy/target/staticlib/libcrudvim.a" ] || fail "a build that fails leaves the old archive"
 SOURCE_CHANGES=yes refuses "a source that changes during the build" "changed during the build"
 [ ! -e "$copy/target/staticlib/libcrudvim.record" ] || fail "a source changed during the build, but there is a record"

@@ -1,6 +1,6 @@
 #!/bin/sh
 # Runs the built program `show` on each input that make_inputs.py writes and compares what it prints with what is expected. Build the
-# program first, by `rt check program_show` at the root.
+# program first, by `tools/program_show.sh` at the root.
 here=$(dirname "$0")
 program=${1:-$here/../../target/bin/program_show}
 if [ ! -x "$program" ]; then

@@ -1,6 +1,5 @@
 -- The fields of Tib messages as the numbers that the C functions store.
 use Rattle.std.specs.Prelude.{ℕ, Bool, true, false, not, eqb}
-use Rattle.tib_real.specs.declared.types.Real.{Real}
 use Rattle.tib_field.specs.declared.Field.{Field}
 
 -- A truth value is stored as 1 or 0; every number but 0 counts as true.

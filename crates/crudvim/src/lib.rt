@@ -1,6 +1,9 @@
 // The C library. Each function passes its arguments to the Rattle function that does the work. It returns the refusal, 0 if the call is
 // accepted, and stores the rest of the result through the pointers that the caller passes. include/crudvim.h has the C prototypes.
 #![tactic(auto)]
+
+pub mod writer;
+
 ghost use Rattle.std.specs.Prelude.{◌≡◌, length};
 ghost use Rattle.message_calls.specs.Calls.{check_octets, short_octets, shorten_octets, shorten_buffer, lookup_octets, lookup_last_octets};
 ghost use Rattle.message_frame.specs.Frame.{frame_read, frame_written, frame_stored};

@@ -5,8 +5,7 @@ use mathlib.Core.Path.{◌≡◌, refl, sym, ap, ◌∙◌, subst, subst₃}
 use mathlib.Core.List.{List, ◌++◌}
 use lib.ListN.{length, take, drop, length-append}
 use Rattle.octets.specs.Control.{control}
-use Rattle.octets.specs.declared.Control.{Control}
-use Rattle.octets.specs.declared.Control.TheVariants.{Absent, Partial, Whole}
+use Rattle.octets.specs.declared.Control.TheVariants.{Whole}
 use Rattle.octets.proofs.ControlPart.{control_nil, part_size}
 use Rattle.table.specs.Schema.{Schema}
 use Rattle.table.specs.declared.Meaning.{Meaning}

@@ -14,7 +14,6 @@ use Rattle.table.specs.declared.Table.{Table}
 use Rattle.message.specs.Cut.{Cut}
 use Rattle.reading.specs.Reading.{Reading, accepted, refused, message_limit, last_number}
 use Rattle.reading.specs.Checks.{refusal, counts}
-use Rattle.reading.specs.declared.Checked.{Checked}
 use Rattle.message.specs.Reading.{reading}
 use Rattle.message.proofs.Refusals.{refusal_positive}
 use Rattle.message_calls.specs.Check.{tree_counts, check, check_under}

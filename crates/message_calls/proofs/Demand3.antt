@@ -9,14 +9,11 @@ use lib.Dec.{ltb, eqb}
 use Rattle.octets.specs.Number.{Octets}
 use Rattle.table.specs.Load.{load}
 use Rattle.table.specs.Schema.{is_revision, schema}
-use Rattle.table.specs.declared.Table.{Table}
-use Rattle.table.specs.declared.Loaded.{Loaded}
 use Rattle.reading.specs.Reading.{message_limit, last_number}
 use Rattle.reading.specs.Checks as answers
 use Rattle.reading.specs.declared.Checked.{Checked}
-use Rattle.message_calls.specs.Check.{check}
 use Rattle.message_calls.proofs.AcceptedByCheck.{check_passed}
-use Rattle.message_calls.specs.Shorten.{answer, buffer, refusal}
+use Rattle.message_calls.specs.Shorten.{refusal}
 use Rattle.message_calls.specs.Demand3.{Demand3, Demand3Holds}
 use Rattle.message_calls.specs.declared.Shortened.{Shortened}
 use Rattle.message_calls.proofs.Demand3Loaded.{demand_3_under, refused_alike_under}

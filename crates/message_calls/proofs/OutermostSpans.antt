@@ -1,13 +1,12 @@
 -- The outermost fields of a message with a good cut: the spans by heads are the spans of their contents, and the contents show the fields.
 use Prim.Native.Nat.{ℕ, zero, suc, ◌+◌, ◌-◌, ◌^◌, ◌≤◌, ◌<◌}
 use native.Mathlib.Omega.{arith}
-use mathlib.Core.Path.{◌≡◌, refl, sym, ap, ◌∙◌, subst}
+use mathlib.Core.Path.{◌≡◌, refl, sym, ap, ◌∙◌}
 use mathlib.Core.Bool.{cond}
 use mathlib.Core.List.{List, ◌∷◌, ◌++◌, map}
 use lib.ListN.{length, take, drop, length-append, length-drop}
 use lib.Seq.{drop-drop}
 use lib.Dec.{eqb}
-use borrow.Author.Tests.{le-leb}
 use Rattle.octets.specs.Number.{Octets}
 use Rattle.octets.proofs.Number.{octets_before, octets_after}
 use Rattle.octets.proofs.ControlPart.{control_nil, part_size, part_bounds}

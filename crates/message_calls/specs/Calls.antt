@@ -5,7 +5,6 @@ use Rattle.reading.specs.Reading.{message_limit}
 use Rattle.reading.specs.Checks as answers
 use Rattle.table.specs.Load.{load}
 use Rattle.table.specs.declared.Table.{Table}
-use Rattle.table.specs.declared.Loaded.{Loaded}
 use Rattle.message_calls.specs.Check as checks
 use Rattle.reading.specs.declared.Checked.{Checked}
 use Rattle.message_calls.specs.Short as shorts

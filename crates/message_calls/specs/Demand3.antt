@@ -8,7 +8,6 @@ use Rattle.reading.specs.declared.Checked.{Checked}
 use Rattle.octets.specs.Number.{Octets}
 use Rattle.table.specs.Load.{load}
 use Rattle.table.specs.Schema.{Schema, is_revision, schema}
-use Rattle.table.specs.declared.Loaded.{Loaded}
 use Rattle.message.specs.Cut.{Cut, Good}
 use Rattle.message.specs.ReadTheSame.{HasCut, IsShortest}
 use Rattle.message_calls.specs.declared.Shortened.{Shortened}

@@ -12,7 +12,6 @@ use Rattle.reading.specs.Refusals as refusals
 use Rattle.reading.specs.Reading.{Reading, accepted, refused}
 use Rattle.message.specs.Reading.{reading}
 use Rattle.message_calls.specs.Check.{check}
-use Rattle.reading.specs.declared.Checked.{Checked}
 use Rattle.message_calls.specs.declared.outermost.Occurrence.{Occurrence}
 use Rattle.message_calls.specs.declared.outermost.Occurrence.TheVariants.{Nth, Last}
 use Rattle.message_calls.specs.declared.Found.{Found}

@@ -3,6 +3,7 @@
 // rejected before the table is read, and a faulty table before the revision and the message number are tested. The calls that take octets build
 // only the index of the table: if it lacks a record, the first one that it lacks is faulty.
 #![tactic(auto)]
+
 mod outermost;
 mod shortest;
 mod sizes;

@@ -3,14 +3,11 @@ use Prim.Native.Nat.{ℕ, ◌+◌, ◌-◌, ◌≤◌, ◌<◌, min}
 use native.Mathlib.Omega.{arith}
 use mathlib.Core.Path.{◌≡◌, refl, sym, ap, ◌∙◌}
 use mathlib.Core.Bool.{Bool, true, false, cond}
-use mathlib.Core.List.{List, [], ◌∷◌}
-use mathlib.Core.Logic.{inl, inr}
+use mathlib.Core.List.{List, []}
 use lib.ListN.{length, take, drop, length-take, length-drop, drop_of_length-le}
 use lib.Seq.{take_all, take-add, drop_at, length-take-le}
 use lib.Dec.{leb}
 use borrow.Author.Tests.{leb-true, leb-false, le-leb, lt-leb}
-use denote.Enum.Declared.{tag_of}
-use types.Run.{OneOf}
 use Rattle.octets.specs.Control.{control}
 use Rattle.octets.specs.declared.Control.{Control}
 use Rattle.octets.specs.declared.Control.TheVariants.{Absent, Partial, Whole}
@@ -18,7 +15,6 @@ use Rattle.octets.proofs.ControlPart.{control_nil, control_size}
 use Rattle.message_field.specs.internal.Heads.{head_from, head_at}
 use Rattle.message_field.specs.declared.Head.{Head}
 use Rattle.message_field.specs.declared.Head.TheVariants.{End, Fault, Field}
-use Rattle.message_field.specs.contracts.Head.{the_type}
 
 -- ---- the octets of a message from an offset on, as the code takes them
 
@@ -109,13 +105,9 @@ Fieldless End = Unit {0}
 Fieldless (Fault k) = Unit {0}
 Fieldless (Field tag start end) = ⊥
 
-two_not : OneOf (0 ∷ 1 ∷ []) 2 → ⊥
-two_not (inl e) = omega arith
-two_not (inr e) = omega arith
-
--- The variants other than the field, by their numbers.
-pub fieldless : (h : Head) → OneOf (0 ∷ 1 ∷ []) (tag_of the_type h) → Fieldless h
+-- A head that equals no field.
+pub fieldless : (h : Head) → ((tag start end : ℕ) → h ≡ Field tag start end → ⊥) → Fieldless h
 unfolding Fieldless
 fieldless End o = tt
 fieldless (Fault k) o = tt
-fieldless (Field tag start end) o = two_not o
+fieldless (Field tag start end) o = absurd (o tag start end refl)

@@ -2,16 +2,15 @@
 use Prim.Native.Nat.{ℕ, zero, suc, ◌≤◌, ◌<◌}
 use native.Mathlib.Omega.{arith}
 use mathlib.Core.Path.{◌≡◌, refl, sym, ap, ◌∙◌}
-use mathlib.Core.Bool.{Bool, true, false, cond, ◌&&◌, false≢true}
+use mathlib.Core.Bool.{Bool, true, false, cond, false≢true}
 use mathlib.Core.List.{List, [], ◌∷◌}
 use lib.Dec.{eqb, ltb}
 use lib.ListN.{drop}
 use borrow.Author.Tests.{eqb-true, eqb-false, ne_eqb, ltb-true, ltb-false}
-use Rattle.table.specs.Mask.{has_bit}
 use Rattle.table_index.specs.internal.Cells.{cell_for, single_in, order_in, indexed, noted_in, note_in, OneOrder}
 use Rattle.table_index.proofs.Meanings.{cell_large}
 use Rattle.message.specs.Single.{among, repeats}
-use Rattle.message.specs.Reading.{step, tag_at}
+use Rattle.message.specs.Reading.{tag_at}
 use Rattle.message.specs.internal.Notes as specs
 use Rattle.message.proofs.Steps.{step_any_before}
 use Rattle.message.proofs.Notes as masks

@@ -1,5 +1,6 @@
 // Reads the field at an offset of a message: its head, or the step over it or into it.
 #![tactic(auto)]
+
 ghost use Rattle.std.specs.Prelude.{◌≡◌, true, cond, ◌&&◌, List, ℕ, ◌-◌, ◌≤◌, ◌<◌, length, take, drop};
 ghost use Rattle.reading.specs.Refusals as refusals;
 ghost use Rattle.message.specs.Reading.{too_deep};

@@ -1,5 +1,6 @@
 // Reads the prefix of a framed message, and writes a message with its prefix.
 #![tactic(auto)]
+
 ghost use Rattle.std.specs.Prelude.{◌≡◌, ◌≤◌, length};
 ghost use Rattle.reading.specs.Reading.{message_limit};
 ghost use Rattle.octets.specs.Control.{following, coded};

@@ -1,6 +1,7 @@
 // Small functions on numbers that several crates share. As a function each spares its callers a proof: that an octet fits, the two cases of
 // a comparison, or that a magnitude is in range.
 #![tactic(auto)]
+
 ghost use Rattle.std.specs.Prelude.{◌≡◌, min, max};
 ghost use Rattle.numbers.specs.internal.Signed.{below_zero};
 

@@ -1,5 +1,6 @@
 // The least forms of numbers, signed numbers and control parts: how many octets they have, and their value.
 #![tactic(auto)]
+
 ghost use Rattle.std.specs.Prelude.{◌≡◌, ◌<◌, ◌≤◌, ◌^◌, negsuc};
 ghost use Rattle.octets.specs.Number.{width as width_of_lem};
 ghost use Rattle.octets.specs.internal.Least.{uint_width_bits, int_width_bits, control_widths};

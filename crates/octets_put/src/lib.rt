@@ -1,5 +1,6 @@
 // Storing numbers and control parts into a lent buffer. Octets that do not fit are not stored.
 #![tactic(auto)]
+
 ghost use Rattle.std.specs.Prelude.{◌≡◌, ◌+◌, ◌≤◌, length as length-of};
 ghost use Rattle.octets.specs.Number.{octets_of};
 ghost use Rattle.octets.specs.Control.{least_control};

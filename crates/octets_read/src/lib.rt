@@ -1,6 +1,7 @@
 // Reading octets: numbers, signed numbers and control parts. Each public function accepts every slice and returns what a definition of
 // crate octets says, and whether the octets are the shortest form of it.
 #![tactic(auto)]
+
 ghost use Rattle.std.specs.Prelude.{◌≡◌, ◌∷◌, ◌+◌, ◌<◌, ◌≤◌, ◌^◌, leb, length, take, drop, pos, neg_ℤ};
 ghost use Rattle.octets.specs.Number.{big_endian};
 ghost use Rattle.octets.specs.internal.Bounded.{unsigned, signed};

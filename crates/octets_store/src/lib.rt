@@ -1,6 +1,7 @@
 // Storing octets into a lent buffer, and moving octets towards its end. Octets that do not fit are not stored, so that no call reaches
 // beyond the buffer.
 #![tactic(auto)]
+
 ghost use Rattle.std.specs.Prelude.{◌≡◌, ◌+◌, ◌≤◌, leb, length as length-of, take};
 ghost use Rattle.octets_store.specs.Store.{stored};
 ghost use Rattle.octets_store.specs.internal.Moved.{moved};

@@ -1,5 +1,6 @@
 // Tests whether octets are text: UTF-8 as RFC 3629 defines it.
 #![tactic(auto)]
+
 ghost use Rattle.std.specs.Prelude.{◌≡◌, ◌+◌, ◌-◌, ◌<◌, ◌≤◌, max, not, ◌||◌, ltb, length, drop, if◌then◌else◌, ◌==◌, nat_eq, nat_le, nat_lt, slice_index};
 ghost use Rattle.octets.specs.Utf8.{tail};
 ghost use Rattle.octets.specs.Text.{text as text_of, within};

@@ -1,7 +1,23 @@
-// Reads a word of a line: a number, or octets.
-ghost use Rattle.std.specs.Prelude.{◌≤◌};
+// Reads the input, and a word of a line: a number, or octets.
+ghost use Rattle.std.specs.Prelude.{◌≤◌, length, IfOk};
 
 use crate::{line, print};
+use std::io::{self, Read};
+
+// Reads until the buffer is full or the input ends, and returns how many octets it stored at the front of the buffer.
+pub fn read_full<R: Read>(reader: &mut R, buffer: &mut [u8]) -> io::Result<usize>
+    ensures { IfOk result (λ n. n ≤ length buffer.new) }
+{
+    let mut done = 0;
+    while done < buffer.len() {
+        let n = reader.read(&mut buffer[done..])?;
+        if n == 0 {
+            return Ok(done);
+        }
+        done += n;
+    }
+    Ok(done)
+}
 
 pub fn wide(x: u8) -> u64 {
     x as u64

@@ -4,10 +4,11 @@
 // character among the digits is ignored, so that commas can separate records. A number and `:` before them give the count of octets; those
 // that are not written are 0. A buffer has 65,546 octets, one more than the longest that a function under test takes.
 #![tactic(auto)]
+
 mod input;
 mod line;
 mod print;
 
-pub use input::{front, number_in, octets_in, room_in};
+pub use input::{front, number_in, octets_in, read_full, room_in};
 pub use line::{find, word};
 pub use print::{counts, label, number, octets, part, refusal, signed, text};

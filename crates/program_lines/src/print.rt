@@ -1,20 +1,21 @@
-// Prints labels, numbers, octets and refusals to standard output.
+// Prints labels, numbers, octets and refusals to standard output. Each function ends at the first write that fails, and returns its error.
 ghost use Rattle.std.specs.Prelude.{◌<◌, ◌^◌};
 
 use crate::{input, line};
+use std::io;
 
-pub fn text(s: &[u8]) {
-    io::write_all(1, s);
+pub fn text(rt: &impl Print, s: &[u8]) -> io::Result<()> {
+    rt.write_all(s)
 }
 
 // Prints the label of a line, which comes before its result.
-pub fn label(s: &[u8]) {
-    text(line::label(s));
-    text(b": ");
+pub fn label(rt: &impl Print, s: &[u8]) -> io::Result<()> {
+    text(rt, line::label(s))?;
+    text(rt, b": ")
 }
 
-pub fn number(n: u64) {
-    io::print_decimal(1, n);
+pub fn number(rt: &impl Print, n: u64) -> io::Result<()> {
+    rt.print(n)
 }
 
 // Returns n, or -1 - n for a negative n: the lowest number has no opposite.
@@ -27,12 +28,12 @@ fn size(n: i64) -> u64
     n as u64
 }
 
-pub fn signed(n: i64) {
+pub fn signed(rt: &impl Print, n: i64) -> io::Result<()> {
     if n < 0 {
-        text(b"-");
-        number(size(n) + 1);
+        text(rt, b"-")?;
+        number(rt, size(n) + 1)
     } else {
-        number(size(n));
+        number(rt, size(n))
     }
 }
 
@@ -51,34 +52,34 @@ pub fn part(s: &[u8], from: u64, n: u64) -> &[u8] {
 }
 
 // Prints octets in hexadecimal, or only their count where there are more than 40.
-pub fn octets(s: &[u8]) {
+pub fn octets(rt: &impl Print, s: &[u8]) -> io::Result<()> {
     if s.len() == 0 {
-        text(b"-");
-        return;
+        return text(rt, b"-");
     }
     if 40 < s.len() {
-        number(s.len() as u64);
-        text(b" octets");
-        return;
+        number(rt, s.len() as u64)?;
+        return text(rt, b" octets");
     }
     let mut i = 0;
     while i < s.len() {
-        io::print_hex(1, input::wide(s[i]), 2);
+        let x = input::wide(s[i]);
+        print!(rt; "{x:02x}")?;
         i += 1;
     }
+    Ok(())
 }
 
-pub fn refusal(n: u64, place: u64) {
-    text(b"refused ");
-    number(n);
-    text(b" at ");
-    number(place);
+pub fn refusal(rt: &impl Print, n: u64, place: u64) -> io::Result<()> {
+    text(rt, b"refused ")?;
+    number(rt, n)?;
+    text(rt, b" at ")?;
+    number(rt, place)
 }
 
 // Prints what a check returns for a message that it accepts.
-pub fn counts(fields: u64, depth: u64) {
-    text(b"fields ");
-    number(fields);
-    text(b" depth ");
-    number(depth);
+pub fn counts(rt: &impl Print, fields: u64, depth: u64) -> io::Result<()> {
+    text(rt, b"fields ")?;
+    number(rt, fields)?;
+    text(rt, b" depth ")?;
+    number(rt, depth)
 }

@@ -10,45 +10,49 @@
 //
 // A line that starts with # is ignored. Samples that no line can express run after the last line. Where no revision is named it is 2.
 #![tactic(auto)]
+
 mod frames;
 mod lookups;
 mod messages;
 mod print;
 mod tables;
 
-fn run(line: &[u8], what: u8) {
+use std::io;
+
+fn run(rt: &impl Print, line: &[u8], what: u8) -> io::Result<()> {
     match what {
-        b'm' => messages::message(line),
-        b's' => messages::shorten(line),
-        b'f' => lookups::find(line),
-        b't' => tables::table(line),
-        b'r' => frames::read(line),
-        b'w' => frames::write(line),
-        _ => program_lines::text(b"not a line"),
+        b'm' => messages::message(rt, line),
+        b's' => messages::shorten(rt, line),
+        b'f' => lookups::find(rt, line),
+        b't' => tables::table(rt, line),
+        b'r' => frames::read(rt, line),
+        b'w' => frames::write(rt, line),
+        _ => program_lines::text(rt, b"not a line"),
     }
 }
 
-fn sample(line: &[u8]) {
+fn sample(rt: &impl Print, line: &[u8]) -> io::Result<()> {
     if line.len() == 0 || line[0] == b'#' {
-        return;
+        return Ok(());
     }
-    program_lines::label(line);
-    run(line, line[0]);
-    program_lines::text(b"\n");
+    program_lines::label(rt, line)?;
+    run(rt, line, line[0])?;
+    program_lines::text(rt, b"\n")
 }
 
-fn samples(s: &[u8]) {
+fn samples(rt: &impl Print, s: &[u8]) -> io::Result<()> {
     let mut at: usize = 0;
     while at < s.len() {
         let end = program_lines::find(s, at, b'\n');
-        sample(&s[at..end]);
+        sample(rt, &s[at..end])?;
         at = end + 1;
     }
+    Ok(())
 }
 
-fn main() {
+fn main(rt: HostRuntime) -> io::Result<()> {
     let mut input = [0u8; 65536];
-    let n = io::read_full(0, &mut input);
-    samples(&input[..n]);
-    tables::values();
+    let n = program_lines::read_full(&mut rt.stdin(), &mut input)?;
+    samples(&rt, &input[..n])?;
+    tables::values(&rt)
 }

@@ -2,12 +2,15 @@
 // one octet more than the limit, so that it detects input that is too long.
 
 #![tactic(auto)]
+
+use std::io;
+
 // The size of the output buffer.
 const SIZE: usize = 65536;
 
-fn main() {
+fn main(rt: HostRuntime) -> io::Result<()> {
     let mut input = [0u8; 65537];
-    let n = io::read_full(0, &mut input);
+    let n = program_lines::read_full(&mut rt.stdin(), &mut input)?;
     let mut out = [0u8; SIZE];
     let total = text_show::show(&input[..n], 0, &mut out);
     let mut from: u64 = 0;
@@ -15,12 +18,9 @@ fn main() {
         let remaining = total - from;
         if remaining <= SIZE as u64 {
             let end = remaining as usize;
-            io::write_all(1, &out[0..end]);
-            return;
+            return rt.write_all(&out[0..end]);
         }
-        if !io::write_all(1, &out) {
-            return;
-        }
+        rt.write_all(&out)?;
         from += SIZE as u64;
         text_show::show(&input[..n], from, &mut out);
     }

@@ -12,6 +12,7 @@
 //   N K M LEVEL NUMBER  change the message number, the mask or the mark of a level
 //   #                   a heading
 #![tactic(auto)]
+
 mod back;
 mod compare;
 mod input;
@@ -19,23 +20,26 @@ mod print;
 mod run;
 mod state;
 
-fn script(s: &[u8]) {
+use std::io;
+
+fn script(rt: &impl Print, s: &[u8]) -> io::Result<()> {
     let mut buffer = [0xaau8; 65546];
     let mut r = run::fresh();
     let mut at: usize = 0;
     while at < s.len() {
         let end = program_lines::find(s, at, b'\n');
         if s.len() <= end {
-            return;
+            return Ok(());
         }
         let before = buffer;
-        r = run::line(&s[at..end], r, &before, &mut buffer);
+        r = run::line(rt, &s[at..end], r, &before, &mut buffer)?;
         at = end + 1;
     }
+    Ok(())
 }
 
-fn main() {
+fn main(rt: HostRuntime) -> io::Result<()> {
     let mut input = [0u8; 16384];
-    let n = io::read_full(0, &mut input);
-    script(&input[..n]);
+    let n = program_lines::read_full(&mut rt.stdin(), &mut input)?;
+    script(&rt, &input[..n])
 }

@@ -1,5 +1,6 @@
 // Shared by the readers of every format: the limits and refusals of document 01, the verdict of a traversal, and the answer of a check.
 #![tactic(auto)]
+
 ghost use Rattle.std.specs.Prelude.{◌≡◌};
 ghost use Rattle.reading.specs.Checks.{refusal};
 ghost use Rattle.reading.specs.internal.Verdicts.{checked_by};

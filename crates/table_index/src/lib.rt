@@ -1,6 +1,7 @@
 // Loads a field table and builds its index: a hash table from message number and tag to kind, inner number and mark. The index has 64 buckets.
 // A search compares the whole key, so a bucket with several entries is slower but never wrong. The loader finds repeated pairs by an index.
 #![tactic(auto)]
+
 mod record;
 
 ghost use Rattle.std.specs.Prelude.{◌≡◌, true, List, ℕ, ◌*◌, ◌%◌, ◌^◌, ◌≤◌, ◌<◌, min, eqb, length, take, drop};

@@ -1,9 +1,9 @@
 -- The loop invariant of counting the fields of an accepted message.
-use Prim.Native.Nat.{ℕ, suc, ◌+◌, ◌-◌, ◌≤◌, ◌<◌}
+use Prim.Native.Nat.{ℕ, suc, ◌+◌, ◌≤◌}
 use native.Mathlib.Omega.{arith}
 use mathlib.Core.Path.{◌≡◌, refl, sym, ap, ◌∙◌}
 use mathlib.Core.List.{List}
-use lib.ListN.{length, drop}
+use lib.ListN.{drop}
 use Rattle.message.specs.Items.{items}
 use Rattle.message.specs.internal.Accepts.{Accepts}
 use Rattle.message.proofs.Accepted.{accepts_good, good_accepted}

@@ -1,18 +1,14 @@
 -- The loop invariant of writing the lines of an accepted message.
-use Prim.Native.Nat.{ℕ, suc, ◌+◌, ◌-◌, ◌≤◌, ◌<◌}
+use Prim.Native.Nat.{ℕ, suc, ◌-◌, ◌≤◌}
 use native.Mathlib.Omega.{arith}
-use mathlib.Core.Path.{◌≡◌, sym, ap, ◌∙◌, subst}
-use mathlib.Core.List.{List, [], ◌∷◌, ◌++◌, append_assoc, append-nil}
-use mathlib.Core.Logic.{inl, inr}
-use denote.Enum.Declared.{tag_of}
-use types.Run.{OneOf}
-use lib.ListN.{length, drop}
+use mathlib.Core.Path.{◌≡◌, refl, sym, ap, ◌∙◌, subst}
+use mathlib.Core.List.{List, [], ◌++◌, append_assoc, append-nil}
+use lib.ListN.{drop}
 use Rattle.message.specs.internal.Accepts.{Accepts}
 use Rattle.message.proofs.Accepted.{accepts_good, accepts_levels, good_accepts}
 use Rattle.table.specs.Schema.{Schema}
 use Rattle.table.specs.declared.Meaning.{Meaning}
 use Rattle.table.specs.declared.Meaning.TheVariants.{Raw, Uint, Int, String, Text, Message}
-use Rattle.table.specs.contracts.Meaning.{the_type}
 use Rattle.message.specs.Cut.{Cut, Contents, Good}
 use Rattle.message.specs.Tree.{Tree, value, tree}
 use Rattle.message.proofs.Next.{Plain}
@@ -25,26 +21,19 @@ use Rattle.text_window.specs.Digits.{decimal}
 use Rattle.text_window.specs.Window.{Printed}
 use Rattle.text_message.specs.Text.{kind_name, value_text, line, lines}
 use Rattle.text_message.specs.internal.OfTree.{lines_of, direct_of}
-use Rattle.text_window.proofs.Windows.{then, printed_nothing, printed_length, same_place}
+use Rattle.text_window.proofs.Windows.{then, printed_nothing, same_place}
 use Rattle.message_field.proofs.FieldsByHead.{Remaining, all_remaining, none_remaining, field_contents, Ends, ends, leaf_next, nested_next, good_deeper}
 use Rattle.text_message.proofs.CountLoop.{tree_is, direct_is}
 
-message_not : OneOf (0 ∷ 1 ∷ 2 ∷ 3 ∷ 4 ∷ []) 5 → ⊥
-message_not (inl e) = omega arith
-message_not (inr (inl e)) = omega arith
-message_not (inr (inr (inl e))) = omega arith
-message_not (inr (inr (inr (inl e)))) = omega arith
-message_not (inr (inr (inr (inr e)))) = omega arith
-
--- The kinds other than message, by their variants' numbers.
-pub plain_kind : (k : Meaning) → OneOf (0 ∷ 1 ∷ 2 ∷ 3 ∷ 4 ∷ []) (tag_of the_type k) → Plain k
+-- The kinds other than message.
+pub plain_kind : (k : Meaning) → ((m : ℕ) → k ≡ Message m → ⊥) → Plain k
 unfolding Plain
 plain_kind Raw o = tt
 plain_kind Uint o = tt
 plain_kind Int o = tt
 plain_kind String o = tt
 plain_kind Text o = tt
-plain_kind (Message m) o = message_not o
+plain_kind (Message m) o = o m refl
 
 pub lines_is : (sc : Schema) (levels n : ℕ) (s : List ℕ) (cut : Cut) → Good sc levels n s cut → lines_of sc levels n s ≡ lines (9 - levels) (tree sc n cut)
 unfolding lines_of
@@ -81,9 +70,6 @@ module _ (sc : Schema) (levels n : ℕ) (s before : List ℕ) (from at : ℕ) wh
       same_place whole
       (sym (p.whole_is ∙ ap (λ (c : Cut). p.written ++ lines depth (tree sc n c)) (none_remaining sc (levels - 1) n s i p.remaining h e q) ∙ append-nil p.written))
       p.printed
-
-  pub same_length : (i end : ℕ) (out : List ℕ) → Progress i end out → length out ≡ length before
-  same_length i end out p = printed_length before from at p.written end out p.printed
 
   module _ (i end : ℕ) (out : List ℕ) (p : Progress i end out) (tag start stop : ℕ) (found : head_at i (drop i s) ≡ Field tag start stop) (k : Meaning) (means : k ≡ sc.means n tag) where
     abbrev pub contents : List ℕ

@@ -1,6 +1,7 @@
 // Prints a message, field by field, and a refusal as text. The text of a message may be longer than the caller's buffer, so each call
 // stores the octets of the text from an offset on.
 #![tactic(auto)]
+
 mod lines;
 
 ghost use Rattle.std.specs.Prelude.{◌≡◌, length};

@@ -2,6 +2,7 @@
 // function prints a piece at the offset `at` of the text and returns the offset after it. Every `at` is allowed: an octet at the offset
 // 2^64 - 1 or above is neither stored nor counted, so the returned offset fits 64 bits.
 #![tactic(auto)]
+
 ghost use Rattle.std.specs.Prelude.{◌≡◌, [], ◌∷◌, ◌<◌, ◌^◌, negsuc};
 ghost use Rattle.text_window.specs.Digits.{glyph, decimal_within, decimal as decimal-of, signed_decimal, four_digits, hex as hex-of, hex_or_dash};
 ghost use Rattle.text_window.specs.Window.{Printed};

@@ -1,1 +1,3 @@
 pub mod Closes
+pub mod Opens
+pub mod ClosesByOctets

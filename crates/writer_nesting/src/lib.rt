@@ -1,5 +1,8 @@
 // Opening and closing the message fields of the backward writer.
 #![tactic(auto)]
+
+pub mod by_octets;
+
 ghost use Rattle.std.specs.Prelude.{◌≡◌, ◌-◌, ◌≤◌, []};
 ghost use Rattle.writer_state.specs.Call.{open_field, close_field};
 ghost use Rattle.writer_state.specs.Answer.{answer, buffer};

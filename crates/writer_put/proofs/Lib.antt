@@ -3,3 +3,5 @@ pub mod Refusals
 pub mod OctetKinds
 pub mod Before
 pub mod PutResults
+pub mod FoundResults
+pub mod ByTag

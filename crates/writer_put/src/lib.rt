@@ -1,5 +1,8 @@
 // The put calls of the backward writer. Each stores a uint, int, string or text field before the fields that were put earlier.
 #![tactic(auto)]
+
+pub mod by_octets;
+
 ghost use Rattle.std.specs.Prelude.{◌≡◌, true, ◌+◌, ◌≤◌, leb, length as length-of};
 ghost use Rattle.octets.specs.Number.{octets_of};
 ghost use Rattle.octets.specs.Control.{least_control};

@@ -6,3 +6,4 @@ pub mod Conditions
 pub mod CallResults
 pub mod Added
 pub mod TagKinds
+pub mod ByOctets

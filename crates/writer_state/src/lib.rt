@@ -1,6 +1,9 @@
 // The state of the backward writer, which fills a lent buffer from its end towards its start. This file tests states, looks up tags, and
 // starts and finishes a message.
 #![tactic(auto)]
+
+pub mod by_octets;
+
 ghost use Rattle.std.specs.Prelude.{◌≡◌, ◌≤◌, length as length-of, take, get_or};
 ghost use Rattle.table.specs.Entry.{inner_of};
 ghost use Rattle.writer_state.specs.Sound.{falling, small, sound as sound-of};

@@ -6,7 +6,6 @@ use mathlib.Core.Bool.{Bool, ◌&&◌}
 use mathlib.Core.List.{List}
 use mathlib.Core.Logic.{◌⊎◌, inl, inr, ⊎_elim}
 use lib.ListN.{length, take, drop}
-use borrow.Author.Tests.{eqb-true}
 use Rattle.octets.proofs.Bools.{first_decides, second_decides, true_second}
 use Rattle.table_index.specs.internal.Cells.{meaning_of}
 use Rattle.message.specs.internal.Short.{short_contents}

@@ -2,9 +2,7 @@
 use Prim.Native.Nat.{ℕ, ◌≤◌, ◌<◌}
 use native.Mathlib.Omega.{arith}
 use mathlib.Core.Path.{◌≡◌, refl}
-use mathlib.Core.Bool.{true, cond}
-use mathlib.Core.Logic.{⊎_elim}
-use borrow.Author.Tests.{ltb-false}
+use mathlib.Core.Bool.{cond}
 use Rattle.reading.specs.Refusals as refusals
 use Rattle.table_index.specs.internal.Cells.{code_in, meaning_in}
 use Rattle.message.specs.Reading.{too_deep}
@@ -34,6 +32,6 @@ pub returns : goal.returns
 returns c =
     let a = c.args in
     elim c.else-nested-eq0.branch [
-      else-nested-eq0-via-then-nested-eq0+else-code-gt4 w ↦ plain a.nested a.cell (rw (← w.code.ensures) w.if-code-gt4.false)
-    | else-nested-eq0-via-else-nested-eq0 w ↦ some a.nested a.cell w.if-nested-eq0.false
+      | else-nested-eq0-via-then-nested-eq0+else-code-gt4 w ↦ plain a.nested a.cell (rw (← w.code.ensures) w.if-code-gt4.false)
+      | else-nested-eq0-via-else-nested-eq0 w ↦ some a.nested a.cell w.if-nested-eq0.false
     ]

@@ -10,7 +10,7 @@ use Rattle.octets.specs.declared.Control.TheVariants.{Absent, Partial, Whole}
 use Rattle.reading.specs.Refusals as refusals
 use Rattle.table.specs.Schema.{Schema}
 use Rattle.table.specs.declared.Meaning.{Meaning}
-use Rattle.table_index.specs.internal.Cells.{cell_for, code_in, meaning_of, single_in, order_in, indexed, noted_in, note_in}
+use Rattle.table_index.specs.internal.Cells.{cell_for, meaning_of, single_in, order_in, indexed, noted_in, note_in}
 use Rattle.message.specs.Reading.{step, step_by_kind, too_deep, tag_at}
 use Rattle.message.specs.internal.Notes as masks
 use Rattle.message.specs.internal.Short.{short_contents}

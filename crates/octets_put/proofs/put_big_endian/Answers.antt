@@ -1,5 +1,4 @@
 -- `octets_put::put_big_endian` meets its contract: at each turn the last octets of the number are stored.
-use Prim.Native.Nat.{◌-◌}
 use native.Mathlib.Omega.{arith}
 use Rattle.octets_put.proofs.Digits.{number_begun, number_step, number_ended}
 use Rattle.octets_put.proofs.put_big_endian.Goals as goal

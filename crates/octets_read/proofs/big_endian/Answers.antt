@@ -1,5 +1,4 @@
 -- `octets_read::big_endian` meets its contract: the octets passed hold the number so far.
-use Prim.Native.Nat.{◌-◌}
 use native.Mathlib.Omega.{arith}
 use Rattle.octets_read.proofs.Numbers.{no_octets, all_octets}
 use Rattle.octets_read.proofs.big_endian.Goals as goal

@@ -17,5 +17,8 @@ returns c =
     let s = b.args.s.now in
     let h = b.ranges.c.fits in
     let t = c.wide.ensures in
-    let l = c.wide-2.ensures in record { control_value = c.after_leads.ensures.control_value ∙ read_octet b.args.c _ _ s h t l; shortest_value = c.after_leads.ensures.shortest_value
-          ∙ short_octet b.args.c _ _ s h (octets_of_slice s (λ i. (k.type_inv.s i).fits)) t l }
+    let l = c.wide-2.ensures in record {
+      control_value = c.after_leads.ensures.control_value ∙ read_octet b.args.c _ _ s h t l;
+      shortest_value = c.after_leads.ensures.shortest_value
+          ∙ short_octet b.args.c _ _ s h (octets_of_slice s (λ i. (k.type_inv.s i).fits)) t l;
+    }

@@ -23,8 +23,11 @@ pub returns-then-l-eq12 : goal.returns-then-l-eq12
 unfolding least_of_lead
 returns-then-l-eq12 c =
     let k = c in
-    let b = k in record { value_value = length_of_one b.args.l b.args.s.now b.requires.0 b.requires.1 k.if-l-lt12.false c.one_more-a.result c.if-l-eq12.true
-          c.one_more-a.ensures; shortest_value = least_at length_code b.args.l 12 12 c.one_more-a.result c.if-l-eq12.true refl }
+    let b = k in record {
+      value_value = length_of_one b.args.l b.args.s.now b.requires.0 b.requires.1 k.if-l-lt12.false c.one_more-a.result c.if-l-eq12.true
+          c.one_more-a.ensures;
+      shortest_value = least_at length_code b.args.l 12 12 c.one_more-a.result c.if-l-eq12.true refl;
+    }
 
 pub one_more-b-requires : goal.one_more-b-requires
 one_more-b-requires c =
@@ -35,8 +38,11 @@ pub returns-then-l-eq13 : goal.returns-then-l-eq13
 unfolding least_of_lead
 returns-then-l-eq13 c =
     let k = c in
-    let b = k in record { value_value = length_of_two b.args.l b.args.s.now b.requires.0 b.requires.1 k.if-l-lt12.false c.one_more-b.result c.if-l-eq13.true
-          c.one_more-b.ensures; shortest_value = least_at length_code b.args.l 13 0x100 c.one_more-b.result c.if-l-eq13.true refl }
+    let b = k in record {
+      value_value = length_of_two b.args.l b.args.s.now b.requires.0 b.requires.1 k.if-l-lt12.false c.one_more-b.result c.if-l-eq13.true
+          c.one_more-b.ensures;
+      shortest_value = least_at length_code b.args.l 13 0x100 c.one_more-b.result c.if-l-eq13.true refl;
+    }
 
 -- At the third and the fourth octet neither one nor two octets follow.
 four : (c : Else-l-eq13) → (3 < length c.args.s.now)
@@ -57,8 +63,11 @@ unfolding least_of_lead
 returns-then-l-eq14 c =
     let j = c in
     let k = j in
-    let b = k in record { value_value = length_of_four b.args.l b.args.s.now b.requires.0 b.requires.1 k.if-l-lt12.false c.one_more-d.result c.if-l-eq14.true
-          c.one_more-d.ensures; shortest_value = least_at length_code b.args.l 14 0x1_0000 c.one_more-d.result c.if-l-eq14.true refl }
+    let b = k in record {
+      value_value = length_of_four b.args.l b.args.s.now b.requires.0 b.requires.1 k.if-l-lt12.false c.one_more-d.result c.if-l-eq14.true
+          c.one_more-d.ensures;
+      shortest_value = least_at length_code b.args.l 14 0x1_0000 c.one_more-d.result c.if-l-eq14.true refl;
+    }
 
 pub four_more-e-requires : goal.four_more-e-requires
 four_more-e-requires c =
@@ -71,5 +80,8 @@ unfolding least_of_lead
 returns c =
     let j = c in
     let k = j in
-    let b = k in record { value_value = coded_after length_code b.args.l b.args.s.now c.four_more-e.result k.if-l-lt12.false c.four_more-e.ensures; shortest_value = least_at length_code b.args.l 15 0x1_0000_0000 c.four_more-e.result
-          (omega (arith, b.requires.0, k.if-l-lt12.false, j.if-l-eq12.false, j.if-l-eq13.false, c.if-l-eq14.false)) refl }
+    let b = k in record {
+      value_value = coded_after length_code b.args.l b.args.s.now c.four_more-e.result k.if-l-lt12.false c.four_more-e.ensures;
+      shortest_value = least_at length_code b.args.l 15 0x1_0000_0000 c.four_more-e.result
+          (omega (arith, b.requires.0, k.if-l-lt12.false, j.if-l-eq12.false, j.if-l-eq13.false, c.if-l-eq14.false)) refl;
+    }

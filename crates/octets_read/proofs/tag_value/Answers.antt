@@ -20,8 +20,11 @@ pub returns-then-t-eq14 : goal.returns-then-t-eq14
 unfolding least_of_lead
 returns-then-t-eq14 c =
     let k = c in
-    let b = k in record { value_value = tag_of_one b.args.t b.args.s.now b.requires.0 b.requires.1 k.if-t-lt14.false c.one_more-a.result c.if-t-eq14.true
-          c.one_more-a.ensures; shortest_value = least_at tag_code b.args.t 14 14 c.one_more-a.result c.if-t-eq14.true refl }
+    let b = k in record {
+      value_value = tag_of_one b.args.t b.args.s.now b.requires.0 b.requires.1 k.if-t-lt14.false c.one_more-a.result c.if-t-eq14.true
+          c.one_more-a.ensures;
+      shortest_value = least_at tag_code b.args.t 14 14 c.one_more-a.result c.if-t-eq14.true refl;
+    }
 
 pub one_more-b-requires : goal.one_more-b-requires
 one_more-b-requires c =

@@ -1,5 +1,4 @@
 -- `octets_store::copy` meets its contract: at each turn the first octets are stored.
-use Prim.Native.Nat.{◌-◌}
 use native.Mathlib.Omega.{arith}
 use Rattle.octets_store.proofs.StoreLoops.{copy_begun, copy_step, copy_ended}
 use Rattle.octets_store.proofs.copy.Goals as goal

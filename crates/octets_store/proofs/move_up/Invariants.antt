@@ -1,5 +1,4 @@
 -- `octets_store::move_up` meets its contract: at each turn the last octets are moved, and those before them are as they were.
-use Prim.Native.Nat.{◌-◌}
 use Rattle.octets_store.proofs.StoreLoops.{MovedDown}
 use Rattle.octets_store.proofs.move_up.Given as goal
 

@@ -1,5 +1,4 @@
 -- `octets_store::put_octets` meets its contract: at each turn the last octets are stored.
-use Prim.Native.Nat.{◌-◌}
 use Rattle.octets_store.proofs.StoreLoops.{StoredDown}
 use Rattle.octets_store.proofs.put_octets.Given as goal
 

@@ -1,5 +1,5 @@
 -- `octets_text::any_of_64` meets its contract: at each turn the bits are those of the octets so far.
-use Rattle.std.proofs.Common.{◌-◌, arith}
+use Rattle.std.proofs.Common.{arith}
 use Rattle.octets_text.proofs.Plain.{none_read, one_read, all_read}
 use Rattle.octets_text.proofs.any_of_64.Goals as goal
 

@@ -1,5 +1,5 @@
 -- `octets_text::long_text` meets its contract: at each turn the last three octets tell what is to come.
-use Rattle.std.proofs.Common.{◌-◌, leb, arith}
+use Rattle.std.proofs.Common.{leb, arith}
 use Rattle.octets_text.proofs.Turns.{first_three, next_seen, all_seen}
 use Rattle.octets_text.proofs.long_text.Goals as goal
 

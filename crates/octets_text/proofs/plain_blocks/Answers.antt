@@ -1,5 +1,5 @@
 -- `octets_text::plain_blocks` meets its contract: the octets passed are below 0x80, so that the rest decides.
-use Rattle.std.proofs.Common.{◌-◌, ◌<◌, subst, arith}
+use Rattle.std.proofs.Common.{◌<◌, subst, arith}
 use Rattle.octets_text.proofs.Plain.{start, block_plain}
 use Rattle.octets_text.proofs.plain_blocks.Goals as goal
 

@@ -1,5 +1,5 @@
 -- `octets_text::plain_run` meets its contract: the octets passed are below 0x80, so that the rest decides.
-use Rattle.std.proofs.Common.{◌-◌, arith}
+use Rattle.std.proofs.Common.{arith}
 use Rattle.octets_text.proofs.Plain.{plain}
 use Rattle.octets_text.proofs.plain_run.Goals as goal
 

@@ -1,5 +1,5 @@
 -- `octets_text::short_text` meets its contract: the octets passed are whole characters, so that the rest decides.
-use Rattle.std.proofs.Common.{◌+◌, ◌-◌, arith}
+use Rattle.std.proofs.Common.{◌+◌, arith}
 use Rattle.octets_text.specs.internal.Plain.{Passed}
 use Rattle.octets_text.proofs.Plain.{at_end}
 use Rattle.octets_text.proofs.Characters.{stopped, passed}

@@ -1,6 +1,6 @@
 -- `insert_words` inserts the words one by one, up to the first that is not insertable. Before each iteration of the inner loop the rest of
 -- the chain decides whether the word is insertable.
-use Prim.Native.Nat.{ℕ, ◌-◌}
+use Prim.Native.Nat.{ℕ}
 use native.Mathlib.Omega.{arith}
 use mathlib.Core.Path.{sym, ap, ◌∙◌}
 use lib.ListN.{get_or}

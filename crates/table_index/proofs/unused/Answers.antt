@@ -1,5 +1,4 @@
 -- `unused` returns what its definition says: the bits of the words so far and the remaining words decide.
-use Prim.Native.Nat.{◌-◌}
 use native.Mathlib.Omega.{arith}
 use mathlib.Core.Path.{refl, sym, ◌∙◌}
 use Rattle.table_index.proofs.Zeros.{zero_ends, zero_moves}

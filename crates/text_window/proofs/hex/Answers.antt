@@ -1,5 +1,4 @@
 -- `text_window::hex` meets its contract: in each iteration the hex digits of the first octets are printed.
-use Prim.Native.Nat.{◌-◌}
 use native.Mathlib.Omega.{arith}
 use Rattle.text_window.specs.Digits.{hex}
 use Rattle.text_window.proofs.Pieces.{hex_nil, hex_append, copied_none, copied_length, copied_all, copied_turn}

@@ -1,6 +1,6 @@
 -- `text_window::hex_or_dash` meets its contract.
 use mathlib.Core.Path.{sym}
-use Rattle.text_window.specs.Digits.{hex, hex_or_dash}
+use Rattle.text_window.specs.Digits.{hex_or_dash}
 use Rattle.text_window.proofs.Pieces.{dash_is, hex_is}
 use Rattle.text_window.proofs.Windows.{same_place}
 use Rattle.text_window.proofs.hex_or_dash.Goals as goal

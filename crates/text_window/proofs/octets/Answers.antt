@@ -1,5 +1,4 @@
 -- `text_window::octets` meets its contract: in each iteration the first octets are printed.
-use Prim.Native.Nat.{◌-◌}
 use native.Mathlib.Omega.{arith}
 use Rattle.text_window.proofs.Pieces.{same, same_nil, same_append, copied_none, copied_length, copied_all, copied_turn}
 use Rattle.text_window.proofs.octets.Goals as goal

@@ -2,7 +2,7 @@
 use mathlib.Core.Path.{◌≡◌, sym, ap}
 use lib.IntN.{negsuc}
 use Rattle.numbers.proofs.Signs.{below_zero_is, from_zero}
-use Rattle.text_window.specs.Digits.{decimal, signed_decimal}
+use Rattle.text_window.specs.Digits.{signed_decimal}
 use Rattle.text_window.proofs.Windows.{same_place}
 use Rattle.text_window.proofs.Numbers.{from_zero_text}
 use Rattle.text_window.proofs.signed.Goals as goal

@@ -1,5 +1,4 @@
 -- `place_at` steps from record to record; none of them begins after the octets end.
-use Prim.Native.Nat.{◌-◌}
 use native.Mathlib.Omega.{arith}
 use mathlib.Core.Path.{◌≡◌, refl, ap, ◌∙◌}
 use Rattle.table.specs.Load.{place_at}

@@ -1,5 +1,4 @@
 -- `records` stores the words in the order of the records, up to the first that is not well-formed.
-use Prim.Native.Nat.{◌-◌}
 use native.Mathlib.Omega.{arith}
 use mathlib.Core.Path.{sym, ◌∙◌}
 use Rattle.table_index.proofs.LoadLaws.{records_start, records_continue, records_stop, records_end}

@@ -1,0 +1,14 @@
+-- `crudvim_put_uint` meets its contract: the call on the state in the array.
+use Rattle.writer_state.specs.Call.{put_uint}
+use Rattle.writer_words.proofs.Answers.{called, called_buffer}
+use Rattle.crudvim.proofs.writer.crudvim_put_uint.Goals as goal
+
+pub returns : goal.returns
+returns c =
+    let a = c.args in
+    let e = c.state_of-given.ensures in
+    let p = c.put_uint_by_octets-put_uint.ensures in
+    record {
+      value_value = called a.table.now a.state.now a.buffer.now (put_uint a.tag a.value) e p.value c.store_accepted.ensures;
+      buffer_after = called_buffer a.table.now a.state.now a.buffer.now (put_uint a.tag a.value) e p.out_after;
+    }

@@ -1,0 +1,16 @@
+-- `traverse` keeps the progress of `Progress`, and each turn is nearer to the end of the message.
+use Rattle.std.proofs.Common.{◌-◌, length}
+use Rattle.table_index.specs.internal.Cells.{indexed}
+use Rattle.message.specs.Reading.{message_from}
+use Rattle.message_calls.proofs.Progress.{Progress}
+use Rattle.message_calls.proofs.traversal.+traverse.Given as goal
+
+abbrev pub decreases-traverse : goal.decreases-traverse
+decreases-traverse l = l.levels
+
+abbrev pub invariant-loop-mask : goal.invariant-loop-mask
+invariant-loop-mask l =
+    Progress l.fn.cells (l.fn.levels - 1) (message_from (indexed l.fn.cells) (l.fn.levels - 1)) l.fn.n l.fn.at l.fn.s l.seen l.i l.fields l.depth l.shortest
+
+abbrev pub decreases-loop-mask : goal.decreases-loop-mask
+decreases-loop-mask l = length l.fn.s - l.i

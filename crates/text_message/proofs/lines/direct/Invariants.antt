@@ -1,0 +1,12 @@
+-- `text_message::lines::direct` meets its contract: the fields before i are counted.
+use Prim.Native.Nat.{◌-◌}
+use lib.ListN.{length}
+use Rattle.table_index.specs.internal.Cells.{indexed}
+use Rattle.text_message.proofs.CountLoop.{Counted}
+use Rattle.text_message.proofs.lines.direct.Given as goal
+
+abbrev pub invariant-loop-end : goal.invariant-loop-end
+invariant-loop-end l = Counted (indexed l.cells) l.number l.s l.i l.n
+
+abbrev pub decreases-loop-end : goal.decreases-loop-end
+decreases-loop-end l = length l.s - l.i

@@ -1,0 +1,16 @@
+-- `store_number` meets its contract: the control part, then the octets of the number.
+use mathlib.Core.Path.{refl, sym, ◌∙◌}
+use Rattle.octets.specs.Number.{octets_of}
+use Rattle.octets.proofs.Number.{length_octets_of}
+use Rattle.writer_put.proofs.Before.{field_before}
+use Rattle.writer_put.proofs.store_number.Goals as goal
+
+pub returns : goal.returns
+returns c =
+    let k = c in
+    let a = k.args in
+    let w = a.least.width in
+    let z = c.control_size-size in
+    field_before a.out.now a.start a.tag w z.result (octets_of w a.least.bits) c.put_number.new.out
+    (sym (length_octets_of w a.least.bits)) z.ensures k.requires.width_bound k.requires.start_in_bounds
+    (c.put_number.ensures ∙ rw c.put_control.ensures refl)

@@ -1,0 +1,272 @@
+-- A state and its array.
+use Prim.Native.Nat.{ℕ, zero, suc, ◌+◌, ◌%◌, ◌≤◌, ◌<◌}
+use native.Mathlib.Omega.{arith}
+use native.Mathlib.Numerals.{add-one}
+use mathlib.Core.Path.{◌≡◌, refl, sym, ap, ◌∙◌}
+use mathlib.Core.Bool.{Bool, true, false, ◌&&◌}
+use mathlib.Core.List.{List, [], ◌∷◌, ◌++◌, append-nil, append_assoc, map}
+use lib.ListN.{length, get_or, set, take, drop, replicate, length-set, length-append, length-drop, length-replicate, replicate-append-replicate, drop_of_length-le}
+use lib.Seq.{length-take-le, take-add, take_all, take_at, drop_at, drop-drop, drop-cons, drop-length, set_at, append_snoc, get_or-drop}
+use lib.Dec.{eqb, leb}
+use borrow.Author.Tests.{eqb-true, eq-eqb, ne_eqb, le-leb, lt-leb, leb-true}
+use Rattle.octets.proofs.Bools.{and_left, and_right, and_both}
+use Rattle.octets_store.specs.Store.{stored}
+use Rattle.octets_store.proofs.Stores.{stored_parts, stored_after}
+use Rattle.writer_state.specs.Calls.{begun}
+use Rattle.writer_state.specs.declared.State.{State}
+use Rattle.writer_words.specs.Words.{at_most, words_of, holds, low, state_of, words_after}
+
+-- Numbers stored over a whole array are the array.
+pub stored_whole : (d xs : List ℕ) → length xs ≡ length d → stored d 0 xs ≡ xs
+stored_whole d xs e =
+    let none : drop (0 + length xs) d ≡ [] = drop_of_length-le d {i = 0 + length xs} (omega arith) in
+    stored_parts d 0 xs (omega arith) ∙ ap (λ (l : List ℕ). xs ++ l) none ∙ append-nil xs
+
+-- A part of an array, stored over an array of the length of the part.
+pub part_stored : (d ws : List ℕ) (at n : ℕ) → n ≡ length d → at + n ≤ length ws → stored d 0 (take n (drop at ws)) ≡ take n (drop at ws)
+part_stored d ws at n e h =
+    let k = length-drop at ws in
+    stored_whole d (take n (drop at ws)) (length-take-le n (drop at ws) (omega arith) ∙ e)
+
+-- Two stores at the front of an array, of which the second begins where the first ends.
+joined : (d xs ys : List ℕ) (n : ℕ) → n ≡ length xs → n + length ys ≤ length d → stored (stored d 0 xs) n ys ≡ stored d 0 (xs ++ ys)
+joined d xs ys n e h =
+    let z : n ≡ 0 + length xs = omega arith in
+    rw z (stored_after d 0 xs ys (omega arith))
+
+-- ---- `at_most`
+
+module _ (limit : ℕ) (ns : List ℕ) (i : ℕ) where
+  pub most_ends : length ns ≤ i → true ≡ at_most limit (drop i ns)
+  unfolding at_most
+  most_ends h = rw (drop_of_length-le ns {i = i} h) refl
+
+  pub most_over : i < length ns → limit < get_or ns i 0 → false ≡ at_most limit (drop i ns)
+  unfolding at_most
+  most_over h o = rw (drop-cons ns i 0 h, lt-leb (get_or ns i 0) limit o) refl
+
+  pub most_moves : i < length ns → get_or ns i 0 ≤ limit → at_most limit (drop i ns) ≡ at_most limit (drop (i + 1) ns)
+  unfolding at_most
+  most_moves h l = rw (drop-cons ns i 0 h, le-leb (get_or ns i 0) limit l, add-one i) refl
+
+-- ---- `state_of`
+
+module _ (ws : List ℕ) where
+  pub other_unheld : (length ws ≡ 34 → ⊥) → holds ws ≡ false
+  unfolding holds
+  other_unheld ne = rw (ne_eqb (length ws) 34 ne) refl
+
+  module _ (e : length ws ≡ 34) where
+    pub open_unheld : 7 < get_or ws 2 0 → holds ws ≡ false
+    unfolding holds
+    open_unheld h = rw (eq-eqb (length ws) 34 e, lt-leb (get_or ws 2 0) 7 h) refl
+
+    pub tags_hold : get_or ws 2 0 ≤ 7 → {r : Bool} {n : ℕ} → n ≡ get_or ws 2 0 → r ≡ at_most 65535 (take n (drop 27 ws)) → holds ws ≡ r
+    unfolding holds
+    tags_hold h k q = rw (q, k, eq-eqb (length ws) 34 e, le-leb (get_or ws 2 0) 7 h) refl
+
+  pub unheld : holds ws ≡ false → {s : State} → s ≡ begun 0 0 0 → s ≡ state_of ws
+  unfolding state_of
+  unheld f q = q ∙ rw f refl
+
+  pub held_length : holds ws ≡ true → length ws ≡ 34
+  unfolding holds
+  held_length h =
+      let a = eqb (length ws) 34 in
+      let b = leb (get_or ws 2 0) 7 in
+      eqb-true (length ws) 34 (and_left a b (and_left (a && b) (at_most 65535 (take (get_or ws 2 0) (drop 27 ws))) h))
+
+  pub state_parts : (numbers masks marks tags : List ℕ) → holds ws ≡ true → numbers ≡ take 8 (drop 4 ws) → masks ≡ take 8 (drop 12 ws)
+      → marks ≡ take 7 (drop 20 ws) → tags ≡ map low (take 7 (drop 27 ws))
+      → ◌≡◌ {A = State} (record {
+        length = get_or ws 0 0;
+        start = get_or ws 1 0;
+        opened = get_or ws 2 0;
+        revision = get_or ws 3 0;
+        numbers = numbers;
+        masks = masks;
+        marks = marks;
+        tags = tags;
+      }) (state_of ws)
+  unfolding state_of
+  state_parts numbers masks marks tags h a b c d = rw (h, a, b, c, d) refl
+
+-- Seven numbers of an array, one by one.
+seven : (xs : List ℕ) → 7 ≤ length xs
+    → get_or xs 0 0 ∷ get_or xs 1 0 ∷ get_or xs 2 0 ∷ get_or xs 3 0 ∷ get_or xs 4 0 ∷ get_or xs 5 0 ∷ get_or xs 6 0 ∷ [] ≡ take 7 xs
+seven [] h = absurd (omega arith)
+seven (a ∷ []) h = absurd (omega arith)
+seven (a ∷ b ∷ []) h = absurd (omega arith)
+seven (a ∷ b ∷ c ∷ []) h = absurd (omega arith)
+seven (a ∷ b ∷ c ∷ d ∷ []) h = absurd (omega arith)
+seven (a ∷ b ∷ c ∷ d ∷ e ∷ []) h = absurd (omega arith)
+seven (a ∷ b ∷ c ∷ d ∷ e ∷ f ∷ []) h = absurd (omega arith)
+seven (a ∷ b ∷ c ∷ d ∷ e ∷ f ∷ g ∷ xs) h = refl
+
+pub seven_marks : (ws : List ℕ) → length ws ≡ 34
+    → get_or ws 20 0 ∷ get_or ws 21 0 ∷ get_or ws 22 0 ∷ get_or ws 23 0 ∷ get_or ws 24 0 ∷ get_or ws 25 0 ∷ get_or ws 26 0 ∷ [] ≡ take 7 (drop 20 ws)
+seven_marks ws e =
+    let at : (i : ℕ) → get_or ws (20 + i) 0 ≡ get_or (drop 20 ws) i 0 = λ i. sym (get_or-drop 20 ws i 0) in
+    rw (at 0, at 1, at 2, at 3, at 4, at 5, at 6) (seven (drop 20 ws) (let l = length-drop 20 ws in omega arith))
+
+pub seven_tags : (ws : List ℕ) → length ws ≡ 34
+    → get_or ws 27 0 ∷ get_or ws 28 0 ∷ get_or ws 29 0 ∷ get_or ws 30 0 ∷ get_or ws 31 0 ∷ get_or ws 32 0 ∷ get_or ws 33 0 ∷ [] ≡ take 7 (drop 27 ws)
+seven_tags ws e =
+    let at : (i : ℕ) → get_or ws (27 + i) 0 ≡ get_or (drop 27 ws) i 0 = λ i. sym (get_or-drop 27 ws i 0) in
+    rw (at 0, at 1, at 2, at 3, at 4, at 5, at 6) (seven (drop 27 ws) (let l = length-drop 27 ws in omega arith))
+
+-- The tags of a state, one by one.
+pub low_tags : (ws : List ℕ) → length ws ≡ 34 → (a b c d e f g : ℕ) → a ≡ low (get_or ws 27 0) → b ≡ low (get_or ws 28 0) → c ≡ low (get_or ws 29 0)
+    → d ≡ low (get_or ws 30 0) → e ≡ low (get_or ws 31 0) → f ≡ low (get_or ws 32 0) → g ≡ low (get_or ws 33 0)
+    → a ∷ b ∷ c ∷ d ∷ e ∷ f ∷ g ∷ [] ≡ map low (take 7 (drop 27 ws))
+low_tags ws l a b c d e f g p q r s t u v = rw (p, q, r, s, t, u, v) (ap (map low) (seven_tags ws l))
+
+-- ---- `clear`
+
+-- The first i numbers of an array are 0, and the others as they were.
+pub record Cleared (d out : List ℕ) (i : ℕ) : Type 0 where
+  pub inside : i ≤ length d
+  pub long : length out ≡ length d
+  pub is : out ≡ replicate i 0 ++ drop i d
+
+pub clear_begun : (d : List ℕ) → Cleared d d 0
+clear_begun d = record { inside = omega arith; long = refl; is = refl }
+
+pub clear_step : (d out : List ℕ) (i : ℕ) → i < length out → Cleared d out i → Cleared d (set out i 0) (i + 1)
+clear_step d out i h c =
+    let l = c.long in
+    let k = c.inside in
+    let more : ◌++◌ {A = ℕ} (replicate i 0) (0 ∷ []) ≡ replicate (i + 1) 0 = replicate-append-replicate {A = ℕ} i 1 0 in
+    let next : suc i ≡ i + 1 = sym (add-one i) in
+    record {
+      inside = omega arith;
+      long = length-set out i 0 ∙ l;
+      is =
+          ap (λ (x : List ℕ). set x i 0) (c.is ∙ ap (λ (x : List ℕ). replicate i 0 ++ x) (drop-cons d i 0 (omega arith)))
+          ∙ set_at (replicate i 0) (get_or d i 0) (drop (suc i) d) 0 i (length-replicate i 0)
+          ∙ sym (append_snoc (replicate i 0) 0 (drop (suc i) d)) ∙ rw next (ap (λ (x : List ℕ). x ++ drop (i + 1) d) more);
+    }
+
+pub clear_ended : (d out : List ℕ) (i : ℕ) → length out ≤ i → Cleared d out i → out ≡ replicate (length d) 0
+clear_ended d out i h c =
+    let l = c.long in
+    let e : i ≡ length d = omega (arith, c.inside) in
+    c.is ∙ rw e (ap (λ (x : List ℕ). replicate (length d) 0 ++ x) (drop-length d) ∙ append-nil (replicate (length d) 0))
+
+-- ---- `store`
+
+-- Stores that each begin where the last one ends, over a whole array.
+pub words_stored : (ws : List ℕ) (s : State) → length ws ≡ 34 → length s.numbers ≡ 8 → length s.masks ≡ 8 → length s.marks ≡ 7 → length s.tags ≡ 7
+    → stored (stored (stored (stored (stored ws 0 (s.length ∷ s.start ∷ s.opened ∷ s.revision ∷ [])) 4 s.numbers) 12 s.masks) 20 s.marks) 27 s.tags
+    ≡ words_after ws s
+unfolding words_after words_of
+words_stored ws s e a b c d =
+    let x0 : List ℕ = s.length ∷ s.start ∷ s.opened ∷ s.revision ∷ [] in
+    let x1 : List ℕ = x0 ++ s.numbers in
+    let x2 : List ℕ = x1 ++ s.masks in
+    let x3 : List ℕ = x2 ++ s.marks in
+    let l1 : length x1 ≡ 12 = length-append x0 s.numbers ∙ rw a refl in
+    let l2 : length x2 ≡ 20 = length-append x1 s.masks ∙ rw (l1, b) refl in
+    let l3 : length x3 ≡ 27 = length-append x2 s.marks ∙ rw (l2, c) refl in
+    let l4 : length (x3 ++ s.tags) ≡ 34 = length-append x3 s.tags ∙ rw (l3, d) refl in
+    let j1 : stored (stored ws 0 x0) 4 s.numbers ≡ stored ws 0 x1 = joined ws x0 s.numbers 4 refl (omega arith) in
+    let j2 : stored (stored ws 0 x1) 12 s.masks ≡ stored ws 0 x2 = joined ws x1 s.masks 12 (sym l1) (omega arith) in
+    let j3 : stored (stored ws 0 x2) 20 s.marks ≡ stored ws 0 x3 = joined ws x2 s.marks 20 (sym l2) (omega arith) in
+    let j4 : stored (stored ws 0 x3) 27 s.tags ≡ stored ws 0 (x3 ++ s.tags) = joined ws x3 s.tags 27 (sym l3) (omega arith) in
+    rw (eq-eqb (length ws) 34 e, j1, j2, j3, j4) (stored_whole ws (x3 ++ s.tags) (l4 ∙ sym e))
+
+pub words_other : (ws : List ℕ) (s : State) → (length ws ≡ 34 → ⊥) → ws ≡ words_after ws s
+unfolding words_after
+words_other ws s ne = rw (ne_eqb (length ws) 34 ne) refl
+
+-- ---- a state and its array tell the same
+
+first_four : (ws : List ℕ) → 4 ≤ length ws → get_or ws 0 0 ∷ get_or ws 1 0 ∷ get_or ws 2 0 ∷ get_or ws 3 0 ∷ [] ≡ take 4 ws
+first_four [] h = absurd (omega arith)
+first_four (a ∷ []) h = absurd (omega arith)
+first_four (a ∷ b ∷ []) h = absurd (omega arith)
+first_four (a ∷ b ∷ c ∷ []) h = absurd (omega arith)
+first_four (a ∷ b ∷ c ∷ d ∷ ws) h = refl
+
+all_parts : (ws first : List ℕ) → length ws ≡ 34 → first ≡ take 4 ws
+    → first ++ take 8 (drop 4 ws) ++ take 8 (drop 12 ws) ++ take 7 (drop 20 ws) ++ take 7 (drop 27 ws) ≡ ws
+all_parts ws first e f =
+    let a : take 4 ws ++ take 8 (drop 4 ws) ≡ take 12 ws = sym (take-add 4 8 ws) in
+    let b : take 12 ws ++ take 8 (drop 12 ws) ≡ take 20 ws = sym (take-add 12 8 ws) in
+    let c : take 20 ws ++ take 7 (drop 20 ws) ≡ take 27 ws = sym (take-add 20 7 ws) in
+    let d : take 27 ws ++ take 7 (drop 27 ws) ≡ take 34 ws = sym (take-add 27 7 ws) in
+    rw (f, a, b, c, d) (take_all 34 ws (omega arith))
+
+-- Numbers that are at most 65,535 are their lowest 16 bits.
+low_small : (xs : List ℕ) → at_most 65535 xs ≡ true → map low xs ≡ xs
+unfolding at_most low
+low_small [] e = refl
+low_small (x ∷ xs) e =
+    let h : x ≤ 65535 = leb-true x 65535 (and_left (leb x 65535) (at_most 65535 xs) e) in
+    let z : x % 65536 ≡ x = omega arith in
+    rw (z, low_small xs (and_right (leb x 65535) (at_most 65535 xs) e)) refl
+
+most_take : (limit n : ℕ) (xs : List ℕ) → at_most limit xs ≡ true → at_most limit (take n xs) ≡ true
+unfolding at_most
+most_take limit zero xs e = refl
+most_take limit (suc n) [] e = refl
+most_take limit (suc n) (x ∷ xs) e =
+    let h = and_left (leb x limit) (at_most limit xs) e in
+    and_both (leb x limit) (at_most limit (take n xs)) h (most_take limit n xs (and_right (leb x limit) (at_most limit xs) e))
+
+-- An array whose seven tags are all small is that of its state.
+pub words_state : (ws : List ℕ) → length ws ≡ 34 → get_or ws 2 0 ≤ 7 → at_most 65535 (drop 27 ws) ≡ true → words_of (state_of ws) ≡ ws
+unfolding words_of
+words_state ws e few small =
+    let h = tags_hold ws e few refl refl ∙ most_take 65535 (get_or ws 2 0) (drop 27 ws) small in
+    let whole : take 7 (drop 27 ws) ≡ drop 27 ws = take_all 7 (drop 27 ws) (let l = length-drop 27 ws in omega arith) in
+    let tags : take 7 (drop 27 ws) ≡ map low (take 7 (drop 27 ws)) = sym (low_small (take 7 (drop 27 ws)) (ap (at_most 65535) whole ∙ small)) in
+    ap words_of (sym (state_parts ws (take 8 (drop 4 ws)) (take 8 (drop 12 ws)) (take 7 (drop 20 ws)) (take 7 (drop 27 ws)) h refl refl refl tags))
+    ∙ all_parts ws (get_or ws 0 0 ∷ get_or ws 1 0 ∷ get_or ws 2 0 ∷ get_or ws 3 0 ∷ []) e (first_four ws (omega arith))
+
+module _ (a b c d : ℕ) (N M K T : List ℕ) (n : length N ≡ 8) (m : length M ≡ 8) (k : length K ≡ 7) (t : length T ≡ 7) (few : c ≤ 7) (small : at_most 65535 T ≡ true) where
+  abbrev rest : List ℕ
+  rest = N ++ (M ++ (K ++ T))
+
+  abbrev array : List ℕ
+  array = a ∷ b ∷ c ∷ d ∷ rest
+
+  array_length : length array ≡ 34
+  array_length =
+      let x = length-append N (M ++ (K ++ T)) in
+      let y = length-append M (K ++ T) in
+      let z = length-append K T in
+      omega arith
+
+  from_masks : drop 8 rest ≡ M ++ (K ++ T)
+  from_masks = drop_at N (M ++ (K ++ T)) 8 n
+
+  from_marks : drop 16 rest ≡ K ++ T
+  from_marks = sym (drop-drop 8 8 rest) ∙ ap (drop 8) from_masks ∙ drop_at M (K ++ T) 8 m
+
+  from_tags : drop 23 rest ≡ T
+  from_tags = sym (drop-drop 7 16 rest) ∙ ap (drop 7) from_marks ∙ drop_at K T 7 k
+
+  held : holds array ≡ true
+  held = tags_hold array array_length few refl refl ∙ most_take 65535 c (drop 23 rest) (ap (at_most 65535) from_tags ∙ small)
+
+  state_array : state_of array ≡ record { length = a; start = b; opened = c; revision = d; numbers = N; masks = M; marks = K; tags = T }
+  state_array =
+      sym (state_parts array N M K T held (sym (take_at N (M ++ (K ++ T)) 8 n)) (sym (ap (take 8) from_masks ∙ take_at M (K ++ T) 8 m))
+      (sym (ap (take 7) from_marks ∙ take_at K T 7 k))
+      (sym (low_small T small) ∙ ap (map low) (sym (ap (take 7) from_tags ∙ take_all 7 T (omega arith)))))
+
+module _ (s : State) (n : length s.numbers ≡ 8) (m : length s.masks ≡ 8) (k : length s.marks ≡ 7) (t : length s.tags ≡ 7)
+    (few : s.opened ≤ 7) (small : at_most 65535 s.tags ≡ true) where
+  flat : words_of s ≡ s.length ∷ s.start ∷ s.opened ∷ s.revision ∷ (s.numbers ++ (s.masks ++ (s.marks ++ s.tags)))
+  unfolding words_of
+  flat =
+      let first : List ℕ = s.length ∷ s.start ∷ s.opened ∷ s.revision ∷ [] in
+      append_assoc (first ++ s.numbers ++ s.masks) s.marks s.tags ∙ append_assoc (first ++ s.numbers) s.masks (s.marks ++ s.tags)
+      ∙ append_assoc first s.numbers (s.masks ++ (s.marks ++ s.tags))
+
+  pub words_length : length (words_of s) ≡ 34
+  words_length = ap length flat ∙ array_length s.length s.start s.opened s.revision s.numbers s.masks s.marks s.tags n m k t few small
+
+  pub state_words_lem : state_of (words_of s) ≡ s
+  state_words_lem = ap state_of flat ∙ state_array s.length s.start s.opened s.revision s.numbers s.masks s.marks s.tags n m k t few small
