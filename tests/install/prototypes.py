@@ -1,6 +1,7 @@
 #!/usr/bin/env python3
-"""Compares the prototypes of include/crudvim.h with the functions of crates/crudvim/src/lib.rt: the same functions, each with parameters of the same
-names and types in the same order. Run at the project's root: python3 tests/install/prototypes.py"""
+"""Compares the prototypes of include/crudvim.h with the functions of crates/crudvim/src: the same functions, each with parameters of the same names
+and types in the same order. A result `len` there is `length` in the header. Run at the project's root: python3 tests/install/prototypes.py"""
+import pathlib
 import re
 import sys
 
@@ -13,13 +14,15 @@ SLICES = {'&[u8]': 'const uint8_t *', '&mut [u8]': 'uint8_t *', '&[u64]': 'const
 def in_c(parameter):
     """A parameter as C has it: octets, and the words of a state, come with their length."""
     name, kind = (part.strip() for part in parameter.split(':'))
+    if (name, kind) == ('len', '&mut u64'):
+        name = 'length'
     if kind in SLICES:
         return [SLICES[kind] + name, f'size_t {name}_len']
     return [TYPES.get(kind, kind + '? ') + name]
 
 
 def wanted(source):
-    """The prototypes of the functions in lib.rt, by name."""
+    """The prototypes of the functions in the source, by name."""
     for name, parameters, result in FUNCTION.findall(source):
         each = [in_c(p) for p in parameters.split(',') if p.strip()]
         yield name, TYPES[result] + name + '(' + ', '.join(sum(each, [])) + ')'
@@ -33,12 +36,12 @@ def declared(header):
 
 def main():
     header = dict(declared(open('include/crudvim.h', encoding='utf-8').read()))
-    source = dict(wanted(open('crates/crudvim/src/lib.rt', encoding='utf-8').read()))
+    source = dict(wanted('\n'.join(path.read_text(encoding='utf-8') for path in sorted(pathlib.Path('crates/crudvim/src').glob('*.rt')))))
     found = [f'only in one: {name}' for name in sorted(header.keys() ^ source.keys())]
-    found += [f'header: {header[name]}\nlib.rt: {source[name]}' for name in header if name in source and header[name] != source[name]]
+    found += [f'header: {header[name]}\nsource: {source[name]}' for name in header if name in source and header[name] != source[name]]
     if found or not header:
         sys.exit('\n'.join(found or ['no prototypes']))
-    print(f'{len(header)} prototypes as in lib.rt')
+    print(f'{len(header)} prototypes as in the source')
 
 
 main()

@@ -134,7 +134,8 @@ python3 $here/prototypes.py > "$work/said" || { cat "$work/said"; fail "the head
 
 copy="$work/a copy"
 mkdir -p "$copy/docs" "$work/bin"
-cp -r crates crates.txt tools include "$copy/"
+tar -c --exclude=out crates | tar -x -C "$copy"
+cp -r crates.txt tools include "$copy/"
 cp docs/C-LIBRARY.md "$copy/docs/"
 cat > "$work/bin/rt" <<'END'
 #!/bin/sh

@@ -1,6 +1,7 @@
 // The output of the program show: the message in the second frame of its input under the table in the first frame, or the first refusal.
 // Each function copies its text from the offset `from` on into `out`, as much of it as fits, and returns the length of the whole text.
 #![tactic(auto)]
+
 ghost use Rattle.std.specs.Prelude.{◌≡◌, length};
 ghost use Rattle.message_frame.specs.Frame.{frame_read};
 ghost use Rattle.text_window.specs.Window.{window};

@@ -17,15 +17,15 @@ use Rattle.wrong_programs.proofs.WriterStates.{table, unused, ending, state_at, 
 -- A sample for each put.
 module _ (value : (p : Put) → PutInput p) (answer : Outcome)
     (u : T (put_fits uint (value uint))) (i : T (put_fits int (value int))) (o : T (put_fits octets (value octets)))
-    (of-u : put uint (record { value = value uint; in_range_lem = u }) ≡ answer)
-    (of-i : put int (record { value = value int; in_range_lem = i }) ≡ answer)
-    (of-o : put octets (record { value = value octets; in_range_lem = o }) ≡ answer) where
+    (of-u : put uint (record { value = value uint; in_range = u }) ≡ answer)
+    (of-i : put int (record { value = value int; in_range = i }) ≡ answer)
+    (of-o : put octets (record { value = value octets; in_range = o }) ≡ answer) where
   pub in_range_lem : (p : Put) → T (put_fits p (value p))
   in_range_lem uint = u
   in_range_lem int = i
   in_range_lem octets = o
 
-  pub fixed : (p : Put) → put p (record { value = value p; in_range_lem = in_range_lem p }) ≡ answer
+  pub fixed : (p : Put) → put p (record { value = value p; in_range = in_range_lem p }) ≡ answer
   unfolding in_range_lem
   fixed uint = of-u
   fixed int = of-i

@@ -12,13 +12,13 @@ use Rattle.wrong_programs.proofs.RulingOut.{Sample, given}
 -- A sample for each format.
 module _ {A B : Type 0} {fits : A → Bool} (right : Format → Given fits → B) (value : Format → A) (answer : Format → B)
     (m : T (fits (value tibmsg))) (r : T (fits (value tibrv)))
-    (of-m : right tibmsg (record { value = value tibmsg; in_range_lem = m }) ≡ answer tibmsg)
-    (of-r : right tibrv (record { value = value tibrv; in_range_lem = r }) ≡ answer tibrv) where
+    (of-m : right tibmsg (record { value = value tibmsg; in_range = m }) ≡ answer tibmsg)
+    (of-r : right tibrv (record { value = value tibrv; in_range = r }) ≡ answer tibrv) where
   pub in_range_lem : (f : Format) → T (fits (value f))
   in_range_lem tibmsg = m
   in_range_lem tibrv = r
 
-  pub fixed : (f : Format) → right f (record { value = value f; in_range_lem = in_range_lem f }) ≡ answer f
+  pub fixed : (f : Format) → right f (record { value = value f; in_range = in_range_lem f }) ≡ answer f
   unfolding in_range_lem
   fixed tibmsg = of-m
   fixed tibrv = of-r
