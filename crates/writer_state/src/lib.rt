@@ -28,8 +28,8 @@ pub struct State {
     pub tags: [u16; 7],
 }
 
-// The answer of start, put, open and close: the refusal (0 if the call is accepted), the place (always 0) and the state after the call. A
-// refused call returns the state that it was given. A refused start returns a state of zeros.
+// The answer of start, put, open and close: the refusal (0 if the call is accepted), the place (0 except for a faulty record in the octets of a
+// table) and the state after the call. A refused call returns the state that it was given. A refused start returns a state of zeros.
 #[derive(Clone, Copy)]
 pub struct Written {
     pub refusal: u64,
