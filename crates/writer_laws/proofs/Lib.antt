@@ -15,3 +15,5 @@ pub mod Unchanged
 pub mod Zeros
 pub mod Demand2
 pub mod EveryTreeWritten
+pub mod ArrayStates
+pub mod Arrays

@@ -6,3 +6,4 @@ pub mod Unchanged
 pub mod Zeros
 pub mod Demand2
 pub mod Writable
+pub mod Arrays
