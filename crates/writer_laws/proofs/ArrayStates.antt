@@ -1,10 +1,11 @@
 -- The states that runs reach are those of their arrays.
-use Prim.Native.Nat.{ℕ, zero, suc, ◌≤◌}
+use Prim.Native.Nat.{ℕ, zero, suc, ◌+◌, ◌≤◌}
 use native.Mathlib.Omega.{arith}
 use mathlib.Core.Path.{◌≡◌, refl, sym, ◌∙◌}
 use mathlib.Core.Bool.{Bool, true, false, cond}
 use mathlib.Core.List.{List, [], ◌∷◌}
-use lib.ListN.{length, set}
+use lib.ListN.{length, set, drop}
+use Rattle.std.proofs.lemmas.List.{drop-set-lt}
 use lib.Dec.{eqb, leb}
 use borrow.Author.Tests.{eqb-true, eq-eqb, le-leb}
 use Rattle.octets.proofs.Bools.{and_left, and_right, and_both}
@@ -17,8 +18,8 @@ use Rattle.writer_state.specs.Calls.{call_result, begun, started, start_refusal,
 use Rattle.writer_state.specs.declared.State.{State}
 use Rattle.writer_state.proofs.Conditions.{open_met}
 use Rattle.writer_state.proofs.Tags.{narrow}
-use Rattle.writer_words.specs.Words.{at_most, words_of, state_of}
-use Rattle.writer_words.proofs.Arrays.{words_length, state_words_lem}
+use Rattle.writer_words.specs.Words.{at_most, untagged, words_of, state_of, used_after}
+use Rattle.writer_words.proofs.Arrays.{untagged_length, words_length, state_words_lem, used_words}
 use Rattle.writer_laws.specs.Given.{Given}
 use Rattle.writer_laws.specs.Run.{Run, start, next}
 use Rattle.writer_laws.proofs.Accepted.{run_reached}
@@ -95,13 +96,45 @@ module _ (t : Table) (s : State) (d : List ℕ) (e : small_tags s ≡ true) wher
   call_small close_field =
       either (close_refusal t s (length d)) s (outer (back s (length (closing_part s)))) e (λ z. unfold small_tags outer back in e)
 
+-- ---- a call changes no tag but one in use
+
+unfoldable Unused : State → State → Type 0
+Unused s s' = drop s'.opened s'.tags ≡ drop s'.opened s.tags
+
+unused_either : (refusal : ℕ) (before after : State) → Unused before after → Unused before (call_result refusal before after).state
+unfolding call_result
+unused_either refusal before after e = go (eqb refusal 0)
+  where
+    go : (z : Bool) → Unused before (cond z after before)
+    go true = e
+    go false = unfold Unused in refl
+
+module _ (t : Table) (s : State) (d : List ℕ) where
+  unused_put : (tag : ℕ) (agrees reads : Bool) (contents : List ℕ) → Unused s (put t s tag agrees reads contents (length d)).state
+  unfolding put
+  unused_put tag agrees reads contents = unused_either _ s _ (unfold Unused masked back in refl)
+
+  call_unused : (c : Call) → Unused s (answer t s d c).state
+  unfolding answer opening closing
+  call_unused (put_uint tag v) = unused_put tag _ _ _
+  call_unused (put_int tag z) = unused_put tag _ _ _
+  call_unused (put_octets tag xs) = unused_put tag _ _ _
+  call_unused (open_field tag) =
+      let m = meant t s tag in
+      unused_either _ s (deeper (masked s (mask_with t s tag)) tag (inner_of m))
+      (unfold Unused deeper masked in drop-set-lt (s.opened + 1) s.tags s.opened tag (omega arith))
+  call_unused close_field = unused_either _ s (outer (back s (length (closing_part s)))) (unfold Unused outer back in refl)
+
+-- ---- the array of such a state
+
 run_small : (t : Table) (revision number : ℕ) (lent : List ℕ) (s : State) (d : List ℕ) (g : Given) → Run writer t revision number lent s d g → small_tags s ≡ true
 run_small t revision number lent s d g (start e) = started_small t revision number (length lent)
 run_small t revision number lent s d g (next before b f run c h e) =
     call_small t before b (run_small t revision number lent before b f run) c
 
--- The array of such a state gives the state back.
+-- It gives the state back.
 pub record ArrayAgrees (s : State) : Type 0 where
+  pub front : length (untagged s) ≡ 27
   pub long : length (words_of s) ≡ 34
   pub same : state_of (words_of s) ≡ s
 
@@ -115,6 +148,14 @@ run_state t revision number lent s d g run =
     let opened : s.opened ≤ 7 = omega arith in
     let small : at_most 65535 s.tags ≡ true = unfold small_tags in run_small t revision number lent s d g run in
     record {
+      front = untagged_length s l.number_slots l.mask_slots l.mark_slots;
       long = words_length s l.number_slots l.mask_slots l.mark_slots l.tag_slots opened small;
       same = state_words_lem s l.number_slots l.mask_slots l.mark_slots l.tag_slots opened small;
     }
+
+-- The array after a call on the array of a state that a run reaches is that of the state after the call.
+pub call_array : (t : Table) (revision number : ℕ) (lent : List ℕ) (s : State) (d : List ℕ) (g : Given) → Run writer t revision number lent s d g → (c : Call)
+    → used_after (words_of s) (answer t s d c).state ≡ words_of (answer t s d c).state
+call_array t revision number lent s d g run c =
+    let a = run_state t revision number lent s d g run in
+    used_words s (answer t s d c).state a.front a.long (unfold Unused in call_unused t s d c)

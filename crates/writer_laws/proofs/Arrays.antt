@@ -24,7 +24,7 @@ use Rattle.writer_state.specs.ByOctets.{by_octets, refused_at, started_octets, u
 use Rattle.writer_state.specs.declared.State.{State}
 use Rattle.writer_state.specs.declared.Written.{Written}
 use Rattle.writer_state.proofs.ByOctets.{by_before, by_loaded, by_accepted, by_map}
-use Rattle.writer_words.specs.Words.{CallAnswer, words_of, holds, state_of, words_after, array_after, start_words, call_words, call_buffer, finish_words}
+use Rattle.writer_words.specs.Words.{CallAnswer, untagged, words_of, holds, state_of, used_after, array_after, start_words, call_words, call_buffer, finish_words}
 use Rattle.writer_words.proofs.Arrays.{other_unheld, unheld}
 use Rattle.writer_words.proofs.Answers as answers
 use Rattle.writer_laws.specs.Given.{Given, message}
@@ -34,7 +34,7 @@ use Rattle.writer_laws.specs.Arrays.{ArrayRun, start, next, refusal_of_array_sta
 use Rattle.writer_laws.specs.Refusal.{refusal_of_start, refusal_of_call}
 use Rattle.writer_laws.specs.Demand2.{Demand2, AfterRun}
 use Rattle.writer_laws.proofs.Accepted.{run_reached}
-use Rattle.writer_laws.proofs.ArrayStates.{reached_usable, run_state}
+use Rattle.writer_laws.proofs.ArrayStates.{reached_usable, run_state, call_array}
 use Rattle.writer_laws.proofs.Demand2.{demand_2}
 
 -- ---- accepted calls by octets answer as those under the loaded table
@@ -74,6 +74,7 @@ module _ (octets : List ℕ) (s : State) (d : List ℕ) (c : Call) (e : (answer_
 record Follows (octets : List ℕ) (revision number : ℕ) (lent ws d : List ℕ) (g : Given) : Type 0 where
   loads : (load octets).refusal ≡ 0
   long : length ws ≡ 34
+  is : ws ≡ words_of (state_of ws)
   run : Run writer (load octets).table revision number lent (state_of ws) d g
 
 -- The array of a state that a run reaches.
@@ -92,37 +93,45 @@ start_long octets revision number len ws e = go (eqb (length ws) 34) refl
     go true q = (eqb-true (length ws) 34 q, rw q at e)
     go false q = let z : ◌≡◌ {A = ℕ} 10 0 = rw q at e in absurd (omega arith)
 
+-- The array of a state that a run reaches follows.
+array_follows : (octets : List ℕ) (revision number : ℕ) (lent ws : List ℕ) (s : State) (d : List ℕ) (g : Given) → (load octets).refusal ≡ 0 → ws ≡ words_of s
+    → Run writer (load octets).table revision number lent s d g → Follows octets revision number lent ws d g
+array_follows octets revision number lent ws s d g z e run =
+    let l = run_state (load octets).table revision number lent s d g run in
+    record {
+      loads = z;
+      long = ap length e ∙ l.long;
+      is = e ∙ ap words_of (sym (ap state_of e ∙ l.same));
+      run = rw e (reached_array (load octets).table revision number lent s d g run);
+    }
+
+-- The array after an accepted call.
+next_array : (octets : List ℕ) (revision number : ℕ) (lent before b : List ℕ) (f : Given) → Follows octets revision number lent before b f → (c : Call)
+    → (call_words octets before b c).refusal ≡ 0 → (call_words octets before b c).array ≡ words_of (answer (load octets).table (state_of before) b c).state
+unfolding call_words array_after
+next_array octets revision number lent before b f p c e =
+    let s = (answer (load octets).table (state_of before) b c).state in
+    rw (eq-eqb (answer_octets octets (state_of before) b c).refusal 0 e)
+    (ap (λ (w : Written). used_after before w.state) (call_loaded octets (state_of before) b c e)
+    ∙ ap (λ (x : List ℕ). used_after x s) p.is ∙ call_array (load octets).table revision number lent (state_of before) b f p.run c)
+
 follows : (octets : List ℕ) (revision number : ℕ) (lent ws d : List ℕ) (g : Given) → ArrayRun octets revision number lent ws d g
     → Follows octets revision number lent ws d g
-unfolding start_words call_words call_buffer array_after words_after
+unfolding start_words call_words call_buffer
 follows octets revision number lent ws d g (start before e) =
     let x = start_long octets revision number (length lent) before e in
     let y = start_accepted octets revision number (length lent) x.1 in
     let q = start_loaded octets revision number (length lent) x.1 in
-    let t = (load octets).table in
-    let s = (started t revision number (length lent)).state in
+    let s = (started (load octets).table revision number (length lent)).state in
     let r = runs.start (sym (ap refusal_in q) ∙ x.1) in
-    let l = run_state t revision number lent s lent (message end) r in
-    record {
-      loads = y.1;
-      long = rw (eq-eqb (length before) 34 x.0, q) l.long;
-      run = rw (eq-eqb (length before) 34 x.0, q) (reached_array t revision number lent s lent (message end) r);
-    }
+    array_follows octets revision number lent ws s lent (message end) y.1 (rw (eq-eqb (length before) 34 x.0, q) refl) r
 follows octets revision number lent ws d g (next before b f run c h e) =
     let p = follows octets revision number lent before b f run in
-    let q = call_loaded octets (state_of before) b c e in
     let t = (load octets).table in
     let s = (answer t (state_of before) b c).state in
-    let r = runs.next (state_of before) b f p.run c h (sym (ap refusal_in q) ∙ e) in
-    let after = buffer t (state_of before) b c in
-    let l = run_state t revision number lent s after (giving t revision number c f) r in
-    record {
-      loads = p.loads;
-      long = rw (e, eq-eqb (length before) 34 p.long, q) l.long;
-      run =
-          rw (e, eq-eqb (length before) 34 p.long, q, buffer_loaded octets (state_of before) b c e)
-          (reached_array t revision number lent s after (giving t revision number c f) r);
-    }
+    let r = runs.next (state_of before) b f p.run c h (sym (ap refusal_in (call_loaded octets (state_of before) b c e)) ∙ e) in
+    array_follows octets revision number lent ws s d g p.loads (next_array octets revision number lent before b f p c e)
+    (rw (buffer_loaded octets (state_of before) b c e) r)
 
 -- ---- refused calls
 
@@ -163,7 +172,7 @@ unfolding start_words
 start_refused octets revision number len ws ne = go (eqb (length ws) 34) refl
   where
     zeros : words_of (begun 0 0 0) ≡ replicate 34 0
-    zeros = unfold words_of begun in refl
+    zeros = unfold words_of untagged begun in refl
 
     go : (b : Bool) → eqb (length ws) 34 ≡ b → (start_words octets revision number len ws).array ≡ replicate (length ws) 0
     go true q =

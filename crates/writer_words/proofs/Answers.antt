@@ -10,7 +10,7 @@ use Rattle.writer_state.specs.ByOctets.{started_octets, answer_octets, buffer_oc
 use Rattle.writer_state.specs.declared.State.{State}
 use Rattle.writer_state.specs.declared.Written.{Written}
 use Rattle.writer_state.specs.declared.Finished.{Finished}
-use Rattle.writer_words.specs.Words.{state_of, words_after, array_after, start_words, call_words, call_buffer, finish_words}
+use Rattle.writer_words.specs.Words.{state_of, words_after, used_after, array_after, start_words, call_words, call_buffer, finish_words}
 
 module _ (octets : List ℕ) (revision number len : ℕ) (ws : List ℕ) where
   pub start_other : (length ws ≡ 34 → ⊥) → {after : List ℕ} → after ≡ replicate (length ws) 0
@@ -29,7 +29,7 @@ module _ (ws : List ℕ) (w : Written) where
   unfolding array_after
   refused_array ne = rw (ne_eqb w.refusal 0 ne) refl
 
-  pub accepted_array : w.refusal ≡ 0 → words_after ws w.state ≡ array_after ws w
+  pub accepted_array : w.refusal ≡ 0 → used_after ws w.state ≡ array_after ws w
   unfolding array_after
   accepted_array z = rw (eq-eqb w.refusal 0 z) refl
 

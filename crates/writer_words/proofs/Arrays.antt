@@ -1,11 +1,12 @@
 -- A state and its array.
 use Prim.Native.Nat.{ℕ, zero, suc, ◌+◌, ◌%◌, ◌≤◌, ◌<◌}
 use native.Mathlib.Omega.{arith}
+use native.Mathlib.Nat.{zero-add}
 use native.Mathlib.Numerals.{add-one}
 use mathlib.Core.Path.{◌≡◌, refl, sym, ap, ◌∙◌}
 use mathlib.Core.Bool.{Bool, true, false, ◌&&◌}
 use mathlib.Core.List.{List, [], ◌∷◌, ◌++◌, append-nil, append_assoc, map}
-use lib.ListN.{length, get_or, set, take, drop, replicate, length-set, length-append, length-drop, length-replicate, replicate-append-replicate, drop_of_length-le}
+use lib.ListN.{length, get_or, set, take, drop, replicate, length-set, length-append, length-drop, length-replicate, replicate-append-replicate, drop_of_length-le, take-append-drop}
 use lib.Seq.{length-take-le, take-add, take_all, take_at, drop_at, drop-drop, drop-cons, drop-length, set_at, append_snoc, get_or-drop}
 use lib.Dec.{eqb, leb}
 use borrow.Author.Tests.{eqb-true, eq-eqb, ne_eqb, le-leb, lt-leb, leb-true}
@@ -14,7 +15,7 @@ use Rattle.octets_store.specs.Store.{stored}
 use Rattle.octets_store.proofs.Stores.{stored_parts, stored_after}
 use Rattle.writer_state.specs.Calls.{begun}
 use Rattle.writer_state.specs.declared.State.{State}
-use Rattle.writer_words.specs.Words.{at_most, words_of, holds, low, state_of, words_after}
+use Rattle.writer_words.specs.Words.{at_most, untagged, words_of, holds, low, state_of, words_after, used_after}
 
 -- Numbers stored over a whole array are the array.
 pub stored_whole : (d xs : List ℕ) → length xs ≡ length d → stored d 0 xs ≡ xs
@@ -155,25 +156,87 @@ clear_ended d out i h c =
 
 -- ---- `store`
 
--- Stores that each begin where the last one ends, over a whole array.
-pub words_stored : (ws : List ℕ) (s : State) → length ws ≡ 34 → length s.numbers ≡ 8 → length s.masks ≡ 8 → length s.marks ≡ 7 → length s.tags ≡ 7
-    → stored (stored (stored (stored (stored ws 0 (s.length ∷ s.start ∷ s.opened ∷ s.revision ∷ [])) 4 s.numbers) 12 s.masks) 20 s.marks) 27 s.tags
-    ≡ words_after ws s
-unfolding words_after words_of
-words_stored ws s e a b c d =
-    let x0 : List ℕ = s.length ∷ s.start ∷ s.opened ∷ s.revision ∷ [] in
-    let x1 : List ℕ = x0 ++ s.numbers in
-    let x2 : List ℕ = x1 ++ s.masks in
-    let x3 : List ℕ = x2 ++ s.marks in
-    let l1 : length x1 ≡ 12 = length-append x0 s.numbers ∙ rw a refl in
-    let l2 : length x2 ≡ 20 = length-append x1 s.masks ∙ rw (l1, b) refl in
-    let l3 : length x3 ≡ 27 = length-append x2 s.marks ∙ rw (l2, c) refl in
-    let l4 : length (x3 ++ s.tags) ≡ 34 = length-append x3 s.tags ∙ rw (l3, d) refl in
-    let j1 : stored (stored ws 0 x0) 4 s.numbers ≡ stored ws 0 x1 = joined ws x0 s.numbers 4 refl (omega arith) in
-    let j2 : stored (stored ws 0 x1) 12 s.masks ≡ stored ws 0 x2 = joined ws x1 s.masks 12 (sym l1) (omega arith) in
-    let j3 : stored (stored ws 0 x2) 20 s.marks ≡ stored ws 0 x3 = joined ws x2 s.marks 20 (sym l2) (omega arith) in
-    let j4 : stored (stored ws 0 x3) 27 s.tags ≡ stored ws 0 (x3 ++ s.tags) = joined ws x3 s.tags 27 (sym l3) (omega arith) in
-    rw (eq-eqb (length ws) 34 e, j1, j2, j3, j4) (stored_whole ws (x3 ++ s.tags) (l4 ∙ sym e))
+-- How many tags are stored: those in use, or all seven.
+pub record Stored (n : ℕ) (ws : List ℕ) (s : State) : Type 0 where
+  pub most : n ≤ 7
+  pub same : take n s.tags ≡ take s.opened s.tags
+  pub rest : drop (27 + n) ws ≡ drop (27 + s.opened) ws
+
+module _ (n : ℕ) (ws : List ℕ) (s : State) where
+  pub some_stored : n ≡ s.opened → s.opened < 7 → Stored n ws s
+  some_stored e h = record { most = omega arith; same = ap (λ (k : ℕ). take k s.tags) e; rest = ap (λ (k : ℕ). drop (27 + k) ws) e }
+
+  pub all_stored : length ws ≡ 34 → length s.tags ≡ 7 → n ≡ 7 → 7 ≤ s.opened → Stored n ws s
+  all_stored l k e h =
+      record {
+        most = omega arith;
+        same = take_all n s.tags (omega arith) ∙ sym (take_all s.opened s.tags (omega arith));
+        rest = drop_of_length-le ws {i = 27 + n} (omega arith) ∙ sym (drop_of_length-le ws {i = 27 + s.opened} (omega arith));
+      }
+
+module _ (s : State) (a : length s.numbers ≡ 8) (b : length s.masks ≡ 8) (c : length s.marks ≡ 7) where
+  abbrev first : List ℕ
+  first = s.length ∷ s.start ∷ s.opened ∷ s.revision ∷ []
+
+  abbrev with_numbers : List ℕ
+  with_numbers = first ++ s.numbers
+
+  abbrev with_masks : List ℕ
+  with_masks = with_numbers ++ s.masks
+
+  numbers_length : length with_numbers ≡ 12
+  numbers_length = length-append first s.numbers ∙ rw a refl
+
+  masks_length : length with_masks ≡ 20
+  masks_length = length-append with_numbers s.masks ∙ rw (numbers_length, b) refl
+
+  pub untagged_length : length (untagged s) ≡ 27
+  unfolding untagged
+  untagged_length = length-append with_masks s.marks ∙ rw (masks_length, c) refl
+
+  module _ (ws : List ℕ) (e : length ws ≡ 34) where
+    -- Stores that each begin where the last one ends.
+    pub untagged_stored : stored (stored (stored (stored ws 0 first) 4 s.numbers) 12 s.masks) 20 s.marks ≡ stored ws 0 (untagged s)
+    unfolding untagged
+    untagged_stored =
+        let j1 : stored (stored ws 0 first) 4 s.numbers ≡ stored ws 0 with_numbers = joined ws first s.numbers 4 refl (omega arith) in
+        let j2 : stored (stored ws 0 with_numbers) 12 s.masks ≡ stored ws 0 with_masks = joined ws with_numbers s.masks 12 (sym numbers_length) (omega arith) in
+        rw (j1, j2) (joined ws with_masks s.marks 20 (sym masks_length) (omega arith))
+
+    pub words_stored : length s.tags ≡ 7 → {after : List ℕ} → after ≡ stored ws 0 (untagged s) → stored after 27 s.tags ≡ words_after ws s
+    unfolding words_after words_of
+    words_stored d q =
+        let l : length (untagged s ++ s.tags) ≡ 34 = length-append (untagged s) s.tags ∙ rw (untagged_length, d) refl in
+        rw (q, eq-eqb (length ws) 34 e, joined ws (untagged s) s.tags 27 (sym untagged_length) (omega arith))
+        (stored_whole ws (untagged s ++ s.tags) (l ∙ sym e))
+
+    -- The tags that are stored.
+    pub used_stored : length s.tags ≡ 7 → {after : List ℕ} → after ≡ stored ws 0 (untagged s) → {n k : ℕ} → k ≡ n → Stored n ws s
+        → stored after 27 (take k s.tags) ≡ used_after ws s
+    unfolding used_after
+    used_stored d q {n} z f =
+        let xs : List ℕ = take n s.tags in
+        let h = f.most in
+        let k : length xs ≡ n = length-take-le n s.tags (omega arith) in
+        let l : 0 + length (untagged s ++ xs) ≡ 27 + n =
+        zero-add (length (untagged s ++ xs)) ∙ length-append (untagged s) xs ∙ rw (untagged_length, k) refl in
+        rw (q, z, eq-eqb (length ws) 34 e, ← f.same, ← f.rest, joined ws (untagged s) xs 27 (sym untagged_length) (omega arith))
+        (stored_parts ws 0 (untagged s ++ xs) (omega arith) ∙ rw l refl)
+
+-- An array of a state is then that of another state, if the two have the same tags but for those in use.
+pub used_words : (s s' : State) → length (untagged s) ≡ 27 → length (words_of s) ≡ 34 → drop s'.opened s'.tags ≡ drop s'.opened s.tags
+    → used_after (words_of s) s' ≡ words_of s'
+unfolding used_after words_of
+used_words s s' f e same =
+    let n = s'.opened in
+    let rest : drop (27 + n) (untagged s ++ s.tags) ≡ drop n s'.tags =
+    sym (drop-drop n 27 (untagged s ++ s.tags)) ∙ ap (drop n) (drop_at (untagged s) s.tags 27 f) ∙ sym same in
+    rw (eq-eqb (length (untagged s ++ s.tags)) 34 e, rest)
+    (append_assoc (untagged s') (take n s'.tags) (drop n s'.tags) ∙ ap (λ (x : List ℕ). untagged s' ++ x) (take-append-drop n s'.tags))
+
+pub used_other : (ws : List ℕ) (s : State) → (length ws ≡ 34 → ⊥) → ws ≡ used_after ws s
+unfolding used_after
+used_other ws s ne = rw (ne_eqb (length ws) 34 ne) refl
 
 pub words_other : (ws : List ℕ) (s : State) → (length ws ≡ 34 → ⊥) → ws ≡ words_after ws s
 unfolding words_after
@@ -216,7 +279,7 @@ most_take limit (suc n) (x ∷ xs) e =
 
 -- An array whose seven tags are all small is that of its state.
 pub words_state : (ws : List ℕ) → length ws ≡ 34 → get_or ws 2 0 ≤ 7 → at_most 65535 (drop 27 ws) ≡ true → words_of (state_of ws) ≡ ws
-unfolding words_of
+unfolding words_of untagged
 words_state ws e few small =
     let h = tags_hold ws e few refl refl ∙ most_take 65535 (get_or ws 2 0) (drop 27 ws) small in
     let whole : take 7 (drop 27 ws) ≡ drop 27 ws = take_all 7 (drop 27 ws) (let l = length-drop 27 ws in omega arith) in
@@ -259,7 +322,7 @@ module _ (a b c d : ℕ) (N M K T : List ℕ) (n : length N ≡ 8) (m : length M
 module _ (s : State) (n : length s.numbers ≡ 8) (m : length s.masks ≡ 8) (k : length s.marks ≡ 7) (t : length s.tags ≡ 7)
     (few : s.opened ≤ 7) (small : at_most 65535 s.tags ≡ true) where
   flat : words_of s ≡ s.length ∷ s.start ∷ s.opened ∷ s.revision ∷ (s.numbers ++ (s.masks ++ (s.marks ++ s.tags)))
-  unfolding words_of
+  unfolding words_of untagged
   flat =
       let first : List ℕ = s.length ∷ s.start ∷ s.opened ∷ s.revision ∷ [] in
       append_assoc (first ++ s.numbers ++ s.masks) s.marks s.tags ∙ append_assoc (first ++ s.numbers) s.masks (s.marks ++ s.tags)

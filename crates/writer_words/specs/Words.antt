@@ -1,5 +1,5 @@
 -- The writer's state as an array of numbers, and the answers of the calls with such an array.
-use Rattle.std.specs.Prelude.{ℕ, ◌%◌, Bool, true, cond, ◌&&◌, List, [], ◌∷◌, ◌++◌, length, get_or, take, drop, replicate, map, eqb, leb}
+use Rattle.std.specs.Prelude.{ℕ, ◌+◌, ◌%◌, Bool, true, cond, ◌&&◌, List, [], ◌∷◌, ◌++◌, length, get_or, take, drop, replicate, map, eqb, leb}
 use Rattle.reading.specs.Refusals as refusals
 use Rattle.writer_state.specs.ByOctets.{started_octets, answer_octets, buffer_octets}
 use Rattle.writer_state.specs.Call.{Call}
@@ -20,9 +20,12 @@ unfoldable pub at_most : ℕ → List ℕ → Bool
 at_most limit [] = true
 at_most limit (n ∷ ns) = leb n limit && at_most limit ns
 
--- The array with a state.
+-- The array with a state: its tags after the other 27 numbers.
+unfoldable pub untagged : State → List ℕ
+untagged s = (s.length ∷ s.start ∷ s.opened ∷ s.revision ∷ []) ++ s.numbers ++ s.masks ++ s.marks
+
 unfoldable pub words_of : State → List ℕ
-words_of s = (s.length ∷ s.start ∷ s.opened ∷ s.revision ∷ []) ++ s.numbers ++ s.masks ++ s.marks ++ s.tags
+words_of s = untagged s ++ s.tags
 
 -- Whether an array holds a state: it has as many numbers, at most seven fields are open, and the tags of the open fields are not over the largest.
 -- Other tags are not tested.
@@ -47,13 +50,17 @@ state_of ws =
       tags = map low (take 7 (drop 27 ws));
     }) (begun 0 0 0)
 
--- The array after an accepted call that leaves a state. An array of another length stays as it is.
+-- An array with a state stored into it. An array of another length stays as it is.
 unfoldable pub words_after : List ℕ → State → List ℕ
 words_after ws s = cond (eqb (length ws) state_words) (words_of s) ws
 
+-- The same, but tags that are not in use stay as they are.
+unfoldable pub used_after : List ℕ → State → List ℕ
+used_after ws s = cond (eqb (length ws) state_words) (untagged s ++ take s.opened s.tags ++ drop (27 + s.opened) ws) ws
+
 -- The array after a call between start and finish. A refused call leaves it as it was.
 unfoldable pub array_after : List ℕ → Written → List ℕ
-array_after ws w = cond (eqb w.refusal 0) (words_after ws w.state) ws
+array_after ws w = cond (eqb w.refusal 0) (used_after ws w.state) ws
 
 -- The answer of a call: the refusal, its place, and the array after the call.
 pub record CallAnswer : Type 0 where

@@ -4,7 +4,7 @@
 ghost use Rattle.std.specs.Prelude.{◌≡◌, length as length-of, replicate};
 ghost use Rattle.octets_store.specs.Store.{stored};
 ghost use Rattle.writer_state.specs.Calls.{begun};
-ghost use Rattle.writer_words.specs.Words.{at_most, low as low-of, state_of, words_after, array_after};
+ghost use Rattle.writer_words.specs.Words.{at_most, low as low-of, state_of, untagged, words_after, used_after, array_after};
 
 use writer_state::{State, Written};
 
@@ -146,28 +146,48 @@ fn wide_tags(t: &[u16; 7]) -> [u64; 7]
     ]
 }
 
+// Stores a state but its tags into an array of the right length.
+fn store_untagged(words: &mut [u64], s: State)
+    requires { length-of words.old ≡ 34 }
+    ensures { words.new ≡ stored words.old 0 (untagged s) }
+{
+    let first = [s.length as u64, s.start as u64, s.opened as u64, s.revision];
+    let marks = wide_marks(&s.marks);
+    copy(words, 0, &first);
+    copy(words, 4, &s.numbers);
+    copy(words, 12, &s.masks);
+    copy(words, 20, &marks);
+}
+
 // Stores a state into an array. An array of another length stays as it is.
 pub fn store(words: &mut [u64], s: State)
     ensures { words.new ≡ words_after words.old s }
 {
     if words.len() == STATE_WORDS {
-        let first = [s.length as u64, s.start as u64, s.opened as u64, s.revision];
-        let marks = wide_marks(&s.marks);
         let tags = wide_tags(&s.tags);
-        copy(words, 0, &first);
-        copy(words, 4, &s.numbers);
-        copy(words, 12, &s.masks);
-        copy(words, 20, &marks);
+        store_untagged(words, s);
         copy(words, 27, &tags);
     }
 }
 
-// Stores the state after an accepted call. A refused call leaves the array as it was.
+// Does the same, but leaves tags that are not in use as they are.
+fn store_used(words: &mut [u64], s: State)
+    ensures { words.new ≡ used_after words.old s }
+{
+    if words.len() == STATE_WORDS {
+        let tags = wide_tags(&s.tags);
+        let used = if s.opened < 7 { s.opened } else { 7 };
+        store_untagged(words, s);
+        copy(words, 27, &tags[0..used]);
+    }
+}
+
+// Stores the state after an accepted call, and leaves tags that are not in use as they are. A refused call leaves the array as it was.
 pub fn store_accepted(words: &mut [u64], w: Written)
     ensures { words.new ≡ array_after words.old w }
 {
     if w.refusal == 0 {
-        store(words, w.state);
+        store_used(words, w.state);
     }
 }
 
