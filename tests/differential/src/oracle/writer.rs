@@ -153,11 +153,9 @@ impl State {
         })
     }
 
-    /// The array after an accepted call: of a tag that is not in use only the lowest 16 bits are left.
     pub fn words(&self) -> Vec<u64> {
         let State { length, start, opened, revision, numbers, masks, marks, tags } = self;
-        let tags = tags.map(|tag| tag & 0xffff);
-        [&[*length, *start, *opened, *revision][..], numbers, masks, marks, &tags].concat()
+        [&[*length, *start, *opened, *revision][..], numbers, masks, marks, tags].concat()
     }
 
     fn fault(&self) -> Option<Fault> {
