@@ -14,8 +14,8 @@ COLOURS = ('#dbe9f6', '#dff0d8', '#fbe8c8', '#f3dcea', '#e3dff5', '#d8efec', '#f
 
 
 def read_crates():
-    """The crates that each crate uses, in the order of crates.txt; io and libc of the toolchain are left out."""
-    lines = [line.split(':') for line in open('crates.txt', encoding='utf-8') if ':' in line and not line.startswith('#')]
+    """The crates that each crate uses, in the order of crates.txt; what is no crate of the list is left out. `staticlib` may follow a name."""
+    lines = [line.replace(' staticlib:', ':').split(':') for line in open('crates.txt', encoding='utf-8') if ':' in line and not line.startswith('#')]
     names = {name for name, _ in lines}
     return {name: [used for used in uses.split() if used in names] for name, uses in lines}
 

@@ -32,3 +32,4 @@ pub mod Nesting
 pub mod Notes
 pub mod StartFinish
 pub mod WriterFaults
+pub mod Arrays

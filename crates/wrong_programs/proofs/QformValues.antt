@@ -1,6 +1,5 @@
 -- Programs in the place of tib_qform::check_loaded and tib_qform::field_loaded that accept a dictionary value which the loader cannot return.
 use Prim.Native.Nat.{ℕ}
-use native.Mathlib.Omega.{arith}
 use mathlib.Core.Path.{◌≡◌, refl, sym, ap, ◌∙◌}
 use mathlib.Core.Bool.{Bool, true, false, and-false}
 use lib.ListN.{length}

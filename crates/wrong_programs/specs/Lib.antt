@@ -13,3 +13,4 @@ pub mod Tib
 pub mod Qform
 pub mod Reals
 pub mod Writer
+pub mod Arrays
