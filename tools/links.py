@@ -34,7 +34,7 @@ def fault(page, label, target):
         return f'{target} does not exist'
     if anchor and anchor not in anchors(path):
         return f'{path} has no heading {anchor}'
-    if label.startswith('`') and os.path.isfile(path) and label.strip('`') not in read(path):
+    if label.startswith('`') and os.path.isfile(path) and not re.search(r'(?<![\w-])' + re.escape(label.strip('`')) + r'(?![\w-])', read(path)):
         return f'{target} has no {label.strip("`")}'
 
 

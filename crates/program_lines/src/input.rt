@@ -46,7 +46,7 @@ fn digit(x: u8) -> u64
     16
 }
 
-// Returns the decimal number at the front of a word. It stops before a digit that does not fit.
+// Returns the decimal number at the front of a word. It stops before a digit that might not fit.
 pub fn number_in(s: &[u8]) -> u64 {
     let mut v: u64 = 0;
     let mut i = 0;
@@ -55,7 +55,7 @@ pub fn number_in(s: &[u8]) -> u64 {
         if 9 < d {
             return v;
         }
-        if (0xffffffffffffffff - d) / 10 < v {
+        if 1844674407370955160 < v {
             return v;
         }
         v = v * 10 + d;

@@ -1,0 +1,126 @@
+#!/usr/bin/env python3
+"""Checks each must-fail edit and judges it part by part: python3 tools/edit_parts.py [CRATE ..], at the project's root.
+
+`rt ci` only says that the prover refused an edit as a whole. The prover checks every function of the crate against its callees' contracts and
+reports each one that fails, so each part has to be refused by an error of its own. These do not count: a function that is not proved only because
+another one is not; and an error which says that an answer no longer fits the code, since it says nothing about a value. The checks run in a copy of
+the crates, which begins with what earlier checks of them kept."""
+import concurrent.futures
+import os
+import pathlib
+import re
+import shutil
+import subprocess
+import sys
+import tempfile
+
+from edits import edits
+
+HEAD = re.compile(r'^(?:\./)?(\S+?):\d+:\d+: error: (.*)$')
+UNFIT = re.compile(r'that can be named from here|has no field|has no `|is not in scope|was not admitted|which was rejected')
+
+
+def errors_by_file(text):
+    """The errors of a check, each with its lines joined, by the file of the crate that they are in."""
+    found, last = {}, None
+    for line in text.splitlines():
+        if head := HEAD.match(line):
+            last = [head.group(2)]
+            found.setdefault(head.group(1), []).append(last)
+        elif last and line.startswith('  '):
+            last.append(line.strip())
+        else:
+            last = None
+    return {file: [' '.join(lines) for lines in errors] for file, errors in found.items()}
+
+
+def own_errors(refused, errors):
+    """The errors in the file of a law, or in the files of a function's proof."""
+    if refused.startswith('proofs/'):
+        return errors.get(refused, [])
+    *modules, name = refused.split('::')
+    folders = ['/'.join(['proofs', *modules, n, '']) for n in (name, '+' + name)]
+    return [error for file, each in errors.items() if file.startswith(tuple(folders)) for error in each]
+
+
+def fault(crate, refused, text, errors):
+    """None where a part is refused as it has to be, else what is wrong."""
+    own = own_errors(refused, errors)
+    function = rf'^fn {crate}::{re.escape(refused)}: '
+    if not refused.startswith('proofs/'):
+        if re.search(function + r'no proof: expected answers', text, re.M):
+            return None  # A goal of the function is open that the search closes for the right function.
+        if not re.search(function + r'not proved', text, re.M):
+            return 'is still proved'
+    if not own:
+        return 'has no error of its own'
+    if all(map(UNFIT.search, own)):
+        return f'only made its answers unfit: {own[0][:160]}'
+    return None
+
+
+def applied(text, folder):
+    """The texts of the files that an edit changes."""
+    texts, path, old = {}, None, None
+    for line in text.splitlines():
+        if line.startswith('file: '):
+            path = line[len('file: '):].strip()
+        elif line.startswith('old: '):
+            old = line[len('old: '):]
+        elif line.startswith('new:'):
+            was = texts.get(path) or (folder / path).read_text(encoding='utf-8')
+            if was.count(old) != 1:
+                raise ValueError(f'{path} has {was.count(old)} times: {old}')
+            texts[path] = was.replace(old, line[len('new:'):].removeprefix(' '))
+    return texts
+
+
+def check(folder):
+    return subprocess.run(['rt', 'check'], cwd=folder, stdin=subprocess.DEVNULL, stdout=subprocess.PIPE, stderr=subprocess.STDOUT, text=True).stdout
+
+
+def judge(copy, crate, own):
+    """Checks a crate with each of its edits, and says what is wrong."""
+    folder = copy / 'crates' / crate
+    judged, faults = 0, []
+    for edit in own:
+        text = pathlib.Path('crates', crate, 'must-fail', f'{edit.label}.edit').read_text(encoding='utf-8')
+        changed = applied(text, folder)
+        was = {path: (folder / path).read_text(encoding='utf-8') for path in changed}
+        for path, new in changed.items():
+            (folder / path).write_text(new, encoding='utf-8')
+        said = check(folder)
+        for path, old in was.items():
+            (folder / path).write_text(old, encoding='utf-8')
+        errors = errors_by_file(said)
+        for part in edit.parts:
+            judged += 1
+            if why := fault(crate, part.refused, said, errors):
+                faults.append(f'{crate}/{edit.label}: {part.name}: {part.refused} {why}')
+    return judged, faults
+
+
+def main():
+    wanted = sys.argv[1:]
+    by_crate = {}
+    for edit in edits():
+        if not wanted or edit.crate in wanted:
+            by_crate.setdefault(edit.crate, []).append(edit)
+    with tempfile.TemporaryDirectory(prefix='crudvim-') as room:
+        copy = pathlib.Path(room)
+        shutil.copytree('crates', copy / 'crates', ignore=shutil.ignore_patterns('out'))
+        shutil.copy('crates.txt', copy)
+        listed = [line.split(':')[0].split()[0] for line in open('crates.txt', encoding='utf-8') if ':' in line and not line.startswith('#')]
+        for crate in listed:
+            if crate in by_crate and not re.search(r'^logic=proved', check(copy / 'crates' / crate), re.M):
+                sys.exit(f'{crate} is not proved')
+        with concurrent.futures.ThreadPoolExecutor(os.cpu_count()) as pool:
+            results = list(pool.map(lambda crate: judge(copy, crate, by_crate[crate]), by_crate))
+    faults = [line for _, lines in results for line in lines]
+    judged = sum(n for n, _ in results)
+    print('\n'.join(faults + [f'must-fail edits: {judged} wrong functions and definitions, {len(faults)} not refused for a value']))
+    sys.exit(1 if faults or not judged else 0)
+
+
+if __name__ == '__main__':
+    main()
