@@ -1,5 +1,6 @@
 -- `store_used` meets its contract: the tags in use after the other numbers.
 use borrow.Author.Rules.{rules}
+use Prim.Native.Nat.{◌-◌}
 use native.Mathlib.Omega.{arith}
 use mathlib.Core.Path.{◌∙◌}
 use Rattle.writer_words.proofs.Arrays.{Stored, some_stored, all_stored, used_stored, used_other}
@@ -18,7 +19,8 @@ returns-after-s-lt7 c =
     ] in
     c.copy.ensures
     ∙ rw c.wide_tags-tags.ensures
-    (used_stored a.s (search rules) (search rules) (search rules) a.words.now long (search rules) c.store_untagged.ensures (omega arith) f)
+    (used_stored a.s (search rules) (search rules) (search rules) a.words.now long (search rules) c.store_untagged.ensures
+    {k = n - 0} (omega arith) f)
 
 pub returns-else-words-eq-STATE_WORDS : goal.returns-else-words-eq-STATE_WORDS
 returns-else-words-eq-STATE_WORDS c = used_other c.args.words.now c.args.s c.if-words-eq-STATE_WORDS.false
