@@ -79,24 +79,36 @@ def check(folder):
     return subprocess.run(['rt', 'check'], cwd=folder, stdin=subprocess.DEVNULL, stdout=subprocess.PIPE, stderr=subprocess.STDOUT, text=True).stdout
 
 
-def judge(copy, crate, own):
-    """Checks a crate with each of its edits, and says what is wrong."""
-    folder = copy / 'crates' / crate
-    judged, faults = 0, []
-    for edit in own:
-        text = pathlib.Path('crates', crate, 'must-fail', f'{edit.label}.edit').read_text(encoding='utf-8')
-        changed = applied(text, folder)
-        was = {path: (folder / path).read_text(encoding='utf-8') for path in changed}
+def checked(folder, text):
+    """What the check says of a crate with an edit, or with a part of one."""
+    changed = applied(text, folder)
+    was = {path: (folder / path).read_text(encoding='utf-8') for path in changed}
+    try:
         for path, new in changed.items():
             (folder / path).write_text(new, encoding='utf-8')
-        said = check(folder)
+        return check(folder)
+    finally:
         for path, old in was.items():
             (folder / path).write_text(old, encoding='utf-8')
+
+
+def judge(copy, crate, own):
+    """Checks a crate with each of its edits, and prints and counts what is wrong. A part that shows no error of its own beside the others is checked alone."""
+    folder = copy / 'crates' / crate
+    judged, faults = 0, 0
+    for edit in own:
+        text = pathlib.Path('crates', crate, 'must-fail', f'{edit.label}.edit').read_text(encoding='utf-8')
+        said = checked(folder, text)
         errors = errors_by_file(said)
-        for part in edit.parts:
+        for part, block in zip(edit.parts, re.split(r'\n\s*\n', text.strip())):
             judged += 1
-            if why := fault(crate, part.refused, said, errors):
-                faults.append(f'{crate}/{edit.label}: {part.name}: {part.refused} {why}')
+            why = fault(crate, part.refused, said, errors)
+            if why and len(edit.parts) > 1:
+                alone = checked(folder, block)
+                why = fault(crate, part.refused, alone, errors_by_file(alone))
+            if why:
+                faults += 1
+                print(f'{crate}/{edit.label}: {part.name}: {part.refused} {why}', flush=True)
     return judged, faults
 
 
@@ -116,9 +128,9 @@ def main():
                 sys.exit(f'{crate} is not proved')
         with concurrent.futures.ThreadPoolExecutor(os.cpu_count()) as pool:
             results = list(pool.map(lambda crate: judge(copy, crate, by_crate[crate]), by_crate))
-    faults = [line for _, lines in results for line in lines]
+    faults = sum(n for _, n in results)
     judged = sum(n for n, _ in results)
-    print('\n'.join(faults + [f'must-fail edits: {judged} wrong functions and definitions, {len(faults)} not refused for a value']))
+    print(f'must-fail edits: {judged} wrong functions and definitions, {faults} not refused for a value')
     sys.exit(1 if faults or not judged else 0)
 
 
