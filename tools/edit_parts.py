@@ -112,22 +112,34 @@ def judge(copy, crate, own):
     return judged, faults
 
 
+def work(waiting, by_crate):
+    """Judges crates as long as some wait, in a copy of its own: a check builds the crates below from their sources."""
+    results = []
+    with tempfile.TemporaryDirectory(prefix='crudvim-') as room:
+        copy = pathlib.Path(room)
+        shutil.copytree('crates', copy / 'crates', ignore=shutil.ignore_patterns('out'))
+        shutil.copy('crates.txt', copy)
+        while waiting:
+            crate = waiting.pop(0)
+            said = check(copy / 'crates' / crate)
+            if not re.search(r'^logic=proved', said, re.M):
+                print(f'{crate} is not proved: {said[-300:]}', flush=True)
+                results.append((0, 1))
+                continue
+            results.append(judge(copy, crate, by_crate[crate]))
+    return results
+
+
 def main():
     wanted = sys.argv[1:]
     by_crate = {}
     for edit in edits():
         if not wanted or edit.crate in wanted:
             by_crate.setdefault(edit.crate, []).append(edit)
-    with tempfile.TemporaryDirectory(prefix='crudvim-') as room:
-        copy = pathlib.Path(room)
-        shutil.copytree('crates', copy / 'crates', ignore=shutil.ignore_patterns('out'))
-        shutil.copy('crates.txt', copy)
-        listed = [line.split(':')[0].split()[0] for line in open('crates.txt', encoding='utf-8') if ':' in line and not line.startswith('#')]
-        for crate in listed:
-            if crate in by_crate and not re.search(r'^logic=proved', check(copy / 'crates' / crate), re.M):
-                sys.exit(f'{crate} is not proved')
-        with concurrent.futures.ThreadPoolExecutor(os.cpu_count()) as pool:
-            results = list(pool.map(lambda crate: judge(copy, crate, by_crate[crate]), by_crate))
+    listed = [line.split(':')[0].split()[0] for line in open('crates.txt', encoding='utf-8') if ':' in line and not line.startswith('#')]
+    waiting = [crate for crate in listed if crate in by_crate]
+    with concurrent.futures.ThreadPoolExecutor(os.cpu_count()) as pool:
+        results = sum(pool.map(lambda _: work(waiting, by_crate), range(os.cpu_count())), [])
     faults = sum(n for _, n in results)
     judged = sum(n for n, _ in results)
     print(f'must-fail edits: {judged} wrong functions and definitions, {faults} not refused for a value')
