@@ -80,6 +80,7 @@ struct limit {
     uint64_t allowed;
     time_t second;     /* when `allowed` was last brought up to date */
     uint64_t left_out; /* reports left out since a line last said how many */
+    int omitted;       /* whether any report was left out since the start */
 };
 
 struct concentrator {
@@ -105,8 +106,9 @@ static const char help[] =
     "  octets out     octets written to standard output\n"
     "  skipped        octets in no whole frame\n"
     "  already short  messages passed on that were in their shortest form\n"
-    "  held           octets at the start of a frame that is not whole yet\n"
-    "Then a line for each refusal number that occurred counts the messages.\n"
+    "  held           octets at the start of a frame that is not whole yet; not written if there are none\n"
+    "On SIGUSR1, and at the end if reports were left out, a line for each refusal number that occurred counts the\n"
+    "messages.\n"
     "\n"
     "Exit status: 0 the input ended, 1 standard output failed, 2 the program did not start (wrong arguments, or a\n"
     "table that cannot be read or is rejected), 3 standard input failed.\n";
@@ -206,19 +208,26 @@ static void report(struct concentrator *c, const char *what, uint64_t refusal, u
         written = say("%s at octet %" PRIu64 ": refused %" PRIu64 " at %" PRIu64 " (%s)", what, c->in.offset, refusal,
                       place, crudvim_refusal_text(refusal));
     }
-    if (!written)
+    if (!written) {
         c->limit.left_out++;
+        c->limit.omitted = 1;
+    }
 }
 
-static void say_summary(struct concentrator *c)
+static void say_summary(struct concentrator *c, int on_signal)
 {
     const struct counts *n = &c->counts;
+    const uint64_t octets_held = c->in.end - c->in.start;
+    char held[32] = "";
     unsigned refusal;
     say_left_out(&c->limit);
+    if (octets_held > 0)
+        snprintf(held, sizeof held, " held %" PRIu64, octets_held);
     say("frames %" PRIu64 " passed on %" PRIu64 " refused %" PRIu64 " octets in %" PRIu64 " out %" PRIu64
-        " skipped %" PRIu64 " already short %" PRIu64 " held %" PRIu64,
-        n->frames, n->passed_on, n->refused, n->octets_in, n->octets_out, n->skipped, n->already_short,
-        (uint64_t)(c->in.end - c->in.start));
+        " skipped %" PRIu64 " already short %" PRIu64 "%s",
+        n->frames, n->passed_on, n->refused, n->octets_in, n->octets_out, n->skipped, n->already_short, held);
+    if (!on_signal && !c->limit.omitted)
+        return;
     for (refusal = 0; refusal < REFUSALS; refusal++)
         if (n->refused_with[refusal] > 0)
             say("messages refused with %u (%s): %" PRIu64, refusal, crudvim_refusal_text(refusal),
@@ -238,7 +247,7 @@ static void wait_until_ready(struct concentrator *c, int fd, enum direction dire
     do {
         if (summary_wanted) {
             summary_wanted = 0;
-            say_summary(c);
+            say_summary(c, 1);
         }
         ready = wait_for(fd, direction, NULL, &usual);
     } while (ready < 0 && errno == EINTR);
@@ -472,6 +481,6 @@ int main(int argc, char **argv)
     if (!read_arguments(&c.rules, argc, argv))
         return NOT_STARTED;
     status = run(&c);
-    say_summary(&c);
+    say_summary(&c, 0);
     return status;
 }

@@ -1,5 +1,6 @@
 #!/usr/bin/env python3
-"""Checks each must-fail edit and judges it part by part: python3 tools/edit_parts.py [CRATE ..], at the project's root.
+"""Checks each must-fail edit and judges it part by part: python3 tools/edit_parts.py [--goals] [CRATE ..], at the project's root. With --goals it also
+prints the goal or the law that refuses each part.
 
 `rt ci` only says that the prover refused an edit as a whole. The prover checks every function of the crate against its callees' contracts and
 reports each one that fails, so each part has to be refused by an error of its own. These do not count: a function that is not proved only because
@@ -43,20 +44,22 @@ def own_errors(refused, errors):
     return [error for file, each in errors.items() if file.startswith(tuple(folders)) for error in each]
 
 
-def fault(crate, refused, text, errors):
-    """None where a part is refused as it has to be, else what is wrong."""
+def judged(crate, refused, text, errors):
+    """What is wrong with a part, or None where it is refused as it has to be; and the goal or the law that refuses it."""
     own = own_errors(refused, errors)
     function = rf'^fn {crate}::{re.escape(refused)}: '
     if not refused.startswith('proofs/'):
-        if re.search(function + r'no proof: expected answers', text, re.M):
-            return None  # A goal of the function is open that the search closes for the right function.
+        # A goal of the function is open that the search closes for the right function.
+        if open_goals := re.search(function + r'no proof: expected answers.*did not prove (.*)', text, re.M):
+            return None, open_goals.group(1)
         if not re.search(function + r'not proved', text, re.M):
-            return 'is still proved'
+            return 'is still proved', None
     if not own:
-        return 'has no error of its own'
-    if all(map(UNFIT.search, own)):
-        return f'only made its answers unfit: {own[0][:160]}'
-    return None
+        return 'has no error of its own', None
+    fitting = [error for error in own if not UNFIT.search(error)]
+    if not fitting:
+        return f'only made its answers unfit: {own[0][:160]}', None
+    return None, fitting[0].split(': ')[0]
 
 
 def applied(text, folder):
@@ -92,27 +95,29 @@ def checked(folder, text):
             (folder / path).write_text(old, encoding='utf-8')
 
 
-def judge(copy, crate, own):
-    """Checks a crate with each of its edits, and prints and counts what is wrong. A part that shows no error of its own beside the others is checked alone."""
+def judge(copy, crate, own, goals):
+    """Checks a crate with each of its edits, and prints and counts what is wrong. A part that shows no error of its own beside the others is checked
+    alone."""
     folder = copy / 'crates' / crate
-    judged, faults = 0, 0
+    tried, faults = 0, 0
     for edit in own:
         text = pathlib.Path('crates', crate, 'must-fail', f'{edit.label}.edit').read_text(encoding='utf-8')
         said = checked(folder, text)
         errors = errors_by_file(said)
         for part, block in zip(edit.parts, re.split(r'\n\s*\n', text.strip())):
-            judged += 1
-            why = fault(crate, part.refused, said, errors)
+            tried += 1
+            why, goal = judged(crate, part.refused, said, errors)
             if why and len(edit.parts) > 1:
                 alone = checked(folder, block)
-                why = fault(crate, part.refused, alone, errors_by_file(alone))
+                why, goal = judged(crate, part.refused, alone, errors_by_file(alone))
             if why:
                 faults += 1
-                print(f'{crate}/{edit.label}: {part.name}: {part.refused} {why}', flush=True)
-    return judged, faults
+            if why or goals:
+                print(f'{crate}/{edit.label}: {part.name}: {part.refused} {why or "is refused at " + goal}', flush=True)
+    return tried, faults
 
 
-def work(waiting, by_crate):
+def work(waiting, by_crate, goals):
     """Judges crates as long as some wait, in a copy of its own: a check builds the crates below from their sources."""
     results = []
     with tempfile.TemporaryDirectory(prefix='crudvim-') as room:
@@ -126,12 +131,13 @@ def work(waiting, by_crate):
                 print(f'{crate} is not proved: {said[-300:]}', flush=True)
                 results.append((0, 1))
                 continue
-            results.append(judge(copy, crate, by_crate[crate]))
+            results.append(judge(copy, crate, by_crate[crate], goals))
     return results
 
 
 def main():
-    wanted = sys.argv[1:]
+    goals = '--goals' in sys.argv[1:]
+    wanted = [word for word in sys.argv[1:] if word != '--goals']
     by_crate = {}
     for edit in edits():
         if not wanted or edit.crate in wanted:
@@ -139,11 +145,11 @@ def main():
     listed = [line.split(':')[0].split()[0] for line in open('crates.txt', encoding='utf-8') if ':' in line and not line.startswith('#')]
     waiting = [crate for crate in listed if crate in by_crate]
     with concurrent.futures.ThreadPoolExecutor(os.cpu_count()) as pool:
-        results = sum(pool.map(lambda _: work(waiting, by_crate), range(os.cpu_count())), [])
+        results = sum(pool.map(lambda _: work(waiting, by_crate, goals), range(os.cpu_count())), [])
     faults = sum(n for _, n in results)
-    judged = sum(n for n, _ in results)
-    print(f'must-fail edits: {judged} wrong functions and definitions, {faults} not refused for a value')
-    sys.exit(1 if faults or not judged else 0)
+    tried = sum(n for n, _ in results)
+    print(f'must-fail edits: {tried} wrong functions and definitions, {faults} not refused by an error of their own')
+    sys.exit(1 if faults or not tried else 0)
 
 
 if __name__ == '__main__':
