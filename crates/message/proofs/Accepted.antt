@@ -8,8 +8,8 @@ use mathlib.Core.Logic.{◌↔◌}
 use lib.ListN.{length, take, drop, length-append}
 use Rattle.octets.proofs.ControlPart.{part_size}
 use Rattle.table.specs.Schema.{Schema}
-use Rattle.message.specs.declared.Step.{Step}
-use Rattle.message.specs.declared.Step.TheVariants.{Done, Fault, Over, Into}
+use Rattle.message.specs.Reading.{Step}
+use Rattle.message.specs.Reading.{Done, Fault, Over, Into}
 use Rattle.message.specs.Cut.{Cut, end, leaf, nested, joined, depth, LeafField, NestedField, tags, Allowed, Good}
 use Rattle.message.specs.Single.{repeats}
 use Rattle.reading.specs.Reading.{Reading, accepted, refused, on_accepted, in_order, depth_limit}

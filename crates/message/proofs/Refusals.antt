@@ -9,8 +9,8 @@ use Rattle.octets.specs.declared.Control.{Control}
 use Rattle.octets.specs.declared.Control.TheVariants.{Absent, Partial, Whole}
 use Rattle.table.specs.Schema.{Schema}
 use Rattle.message.specs.Cut.{Cut}
-use Rattle.message.specs.declared.Step.{Step}
-use Rattle.message.specs.declared.Step.TheVariants.{Done, Fault, Over, Into}
+use Rattle.message.specs.Reading.{Step}
+use Rattle.message.specs.Reading.{Done, Fault, Over, Into}
 use Rattle.reading.specs.Reading.{Reading, accepted, refused, on_accepted, in_order}
 use Rattle.message.specs.Reading.{step_from, step, tag_at, Inner, after_step, fields_from, message_from}
 use Rattle.message.proofs.Steps.{of_kind, of_whole}

@@ -10,8 +10,8 @@ use Rattle.octets.specs.Number.{Octets}
 use Rattle.octets.proofs.Number.{octets_before, octets_after, octets_part}
 use Rattle.octets.proofs.ControlPart.{part_size}
 use Rattle.table.specs.Schema.{Schema}
-use Rattle.message.specs.declared.Step.{Step}
-use Rattle.message.specs.declared.Step.TheVariants as steps
+use Rattle.message.specs.Reading.{Step}
+use Rattle.message.specs.Reading as steps
 use Rattle.message.specs.Cut.{Cut, end, leaf, nested, joined, LeafField, NestedField, Good}
 use Rattle.message.specs.Single.{repeats}
 use Rattle.message.specs.FirstFault.{

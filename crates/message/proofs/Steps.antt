@@ -25,8 +25,8 @@ use Rattle.table.specs.declared.Meaning.{Meaning}
 use Rattle.table.specs.declared.Meaning.TheVariants.{Raw, Uint, Int, String, Text, Message}
 use Rattle.message.specs.Cut.{WholeField, Contents, LeafField, NestedField}
 use Rattle.message.specs.Single.{repeats}
-use Rattle.message.specs.declared.Step.{Step}
-use Rattle.message.specs.declared.Step.TheVariants.{Done, Fault, Over, Into}
+use Rattle.message.specs.Reading.{Step}
+use Rattle.message.specs.Reading.{Done, Fault, Over, Into}
 use Rattle.message.specs.Reading.{step_by_kind, too_deep, step_from, step, tag_of, tag_at}
 
 -- Octets in three parts.

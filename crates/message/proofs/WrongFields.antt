@@ -23,8 +23,8 @@ use Rattle.table.specs.Entry.{kind_number}
 use Rattle.table.specs.Schema.{Schema}
 use Rattle.table.specs.declared.Meaning.{Meaning}
 use Rattle.table.specs.declared.Meaning.TheVariants.{Uint, Int, Text}
-use Rattle.message.specs.declared.Step.{Step}
-use Rattle.message.specs.declared.Step.TheVariants as steps
+use Rattle.message.specs.Reading.{Step}
+use Rattle.message.specs.Reading as steps
 use Rattle.message.specs.Cut.{WholeField}
 use Rattle.message.specs.Single.{repeats}
 use Rattle.message.specs.FirstFault as faults

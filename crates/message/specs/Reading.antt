@@ -10,10 +10,16 @@ use Rattle.table.specs.declared.Meaning.{Meaning}
 use Rattle.table.specs.declared.Meaning.TheVariants.{Raw, Uint, Int, String, Text, Message}
 use Rattle.reading.specs.Refusals as refusals
 use Rattle.reading.specs.Reading.{Reading, accepted, refused, on_accepted, in_order, depth_limit}
-use Rattle.message.specs.declared.Step.{Step}
-use Rattle.message.specs.declared.Step.TheVariants.{Done, Fault, Over, Into}
 use Rattle.message.specs.Cut.{Cut, end, leaf, nested}
 use Rattle.message.specs.Single.{repeats}
+
+-- The step at the front of octets: their end; a field that is rejected with a refusal; a field that is no message, with the lengths of its control
+-- part and of its contents; or a field that is a message, with its message number and the same lengths.
+pub data Step : Type 0 where
+  Done : Step
+  Fault : ℕ → Step
+  Over : ℕ → ℕ → Step
+  Into : ℕ → ℕ → ℕ → Step
 
 -- The step at a whole field, by its tag's meaning, the length of its control part and its contents.
 unfoldable pub step_by_kind : Meaning → ℕ → List ℕ → Step

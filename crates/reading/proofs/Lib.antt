@@ -1,3 +1,4 @@
 pub mod Checks
 pub mod Adding
 pub mod Traversal
+pub mod Numbers

@@ -5,8 +5,8 @@ use mathlib.Core.Path.{◌≡◌, sym, ap, ap₂, ◌∙◌, subst}
 use mathlib.Core.List.{List}
 use lib.ListN.{length, drop, length-drop}
 use lib.Seq.{drop-drop}
-use Rattle.reading.specs.declared.Verdict.{Verdict}
-use Rattle.reading.specs.declared.Verdict.TheVariants.{Accepted, Refused}
+use Rattle.reading.specs.internal.Verdicts.{Verdict}
+use Rattle.reading.specs.internal.Verdicts.{Accepted, Refused}
 use Rattle.reading.specs.Reading.{Reading, accepted, refused, on_accepted, in_order}
 use Rattle.reading.specs.internal.Verdicts.{verdict_of}
 use Rattle.reading.proofs.Adding.{after, after_after, after_none, verdict_over, verdict_into, verdict_refused}

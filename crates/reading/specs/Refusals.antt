@@ -1,5 +1,7 @@
 -- The refusals of documents 01 and 02 by number. Definitions cite them by these names.
-use Rattle.std.specs.Prelude.{ℕ}
+use Rattle.std.specs.Prelude.{ℕ, Result, Ok, Err}
+use Rattle.reading.specs.declared.Refusal.{Refusal}
+use Rattle.reading.specs.declared.Refusal.TheVariants.{TooLong, Table, Cut, PastTheEnd, TooDeep, NumberTooWide, Text, TagOrKind, NoRoom, State, NothingOpen, StillOpen, Magic, Size, Name, TypeSizeOrHint, NotInFractions, Absent, NotInDictionary, Repeated}
 
 -- A message or a buffer over the length limit, or a frame that announces such a message.
 abbrev pub too_long : ℕ
@@ -80,3 +82,31 @@ not_in_dictionary = 19
 -- A field that repeats a single one.
 abbrev pub repeated : ℕ
 repeated = 20
+
+-- The number of a refusal.
+abbrev pub number : Refusal → ℕ
+number TooLong = too_long
+number Table = table
+number Cut = cut
+number PastTheEnd = past_the_end
+number TooDeep = too_deep
+number NumberTooWide = number_too_wide
+number Text = text
+number TagOrKind = tag_or_kind
+number NoRoom = no_room
+number State = state
+number NothingOpen = nothing_open
+number StillOpen = still_open
+number Magic = magic
+number Size = size
+number Name = name
+number TypeSizeOrHint = type_size_or_hint
+number NotInFractions = not_in_fractions
+number Absent = absent
+number NotInDictionary = not_in_dictionary
+number Repeated = repeated
+
+-- The number of the refusal that a result has, 0 where it has none.
+abbrev pub fault_number : {A : Type 0} → Result A Refusal → ℕ
+fault_number (Ok x) = 0
+fault_number (Err r) = number r

@@ -1,9 +1,9 @@
-// Shared by the readers of every format: the limits and refusals of document 01, the verdict of a traversal, and the answer of a check.
+// Shared by the readers of every format: the limits and refusals of document 01, the result of a reading, and the answer of a check.
 #![tactic(auto)]
 
 ghost use Rattle.std.specs.Prelude.{◌≡◌};
-ghost use Rattle.reading.specs.Checks.{refusal};
-ghost use Rattle.reading.specs.internal.Verdicts.{checked_by};
+ghost use Rattle.reading.specs.Checks.{refusal, checked};
+ghost use Rattle.reading.specs.Refusals.{number};
 
 // The limits of document 01: the octets of a message, its depth, and the largest message number.
 pub const MESSAGE_LIMIT: usize = 65536;
@@ -12,53 +12,84 @@ pub const DEPTH_LIMIT: u64 = 8;
 
 pub const LAST_NUMBER: u64 = 15;
 
-// The refusals of documents 01 and 02.
-// A message or a buffer over the length limit, or a frame that announces such a message.
-pub const TOO_LONG: u64 = 1;
-// A faulty field table or dictionary, a number that is no revision, or a message number over the last.
-pub const TABLE: u64 = 2;
-// Octets that end inside a control part, header, name, size, hint or FID.
-pub const CUT: u64 = 3;
-// Contents, or the padding after them, that would end after the message around them.
-pub const PAST_THE_END: u64 = 4;
-// Messages nested nine deep.
-pub const TOO_DEEP: u64 = 5;
-// A number of more than eight octets.
-pub const NUMBER_TOO_WIDE: u64 = 6;
-// Contents that are not text.
-pub const TEXT: u64 = 7;
-// A field to write whose tag the table does not have in that message, or has with another kind.
-pub const TAG_OR_KIND: u64 = 8;
-// More octets to write than are free.
-pub const NO_ROOM: u64 = 9;
-// A writer's state that is not sound, or another buffer.
-pub const STATE: u64 = 10;
-// A close with no field open.
-pub const NOTHING_OPEN: u64 = 11;
-// A finish with a field open.
-pub const STILL_OPEN: u64 = 12;
-// Another magic number or version of a message of a Tib format.
-pub const MAGIC: u64 = 13;
-// A size in a header of a Tib format that is not that of the buffer, or octets after the second frame.
-pub const SIZE: u64 = 14;
-// A bad name.
-pub const NAME: u64 = 15;
-// A type, a size or a hint against the rules, or a FID without both flags.
-pub const TYPE_SIZE_OR_HINT: u64 = 16;
-// A real that cannot be read in fractions, or in decimals.
-pub const NOT_IN_FRACTIONS: u64 = 17;
-// No such field.
-pub const ABSENT: u64 = 18;
-// A field whose fid the dictionary does not have.
-pub const NOT_IN_DICTIONARY: u64 = 19;
-// A field that repeats a single one.
-pub const REPEATED: u64 = 20;
+// The refusals of documents 01 and 02, by their numbers.
+#[derive(Clone, Copy, Debug, PartialEq, Eq)]
+pub enum Refusal {
+    // A message or a buffer over the length limit, or a frame that announces such a message.
+    TooLong = 1,
+    // A faulty field table or dictionary, a number that is no revision, or a message number over the last.
+    Table,
+    // Octets that end inside a control part, header, name, size, hint or FID.
+    Cut,
+    // Contents, or the padding after them, that would end after the message around them.
+    PastTheEnd,
+    // Messages nested nine deep.
+    TooDeep,
+    // A number of more than eight octets.
+    NumberTooWide,
+    // Contents that are not text.
+    Text,
+    // A field to write whose tag the table does not have in that message, or has with another kind.
+    TagOrKind,
+    // More octets to write than are free.
+    NoRoom,
+    // A writer's state that is not sound, or another buffer.
+    State,
+    // A close with no field open.
+    NothingOpen,
+    // A finish with a field open.
+    StillOpen,
+    // Another magic number or version of a message of a Tib format.
+    Magic,
+    // A size in a header of a Tib format that is not that of the buffer, or octets after the second frame.
+    Size,
+    // A bad name.
+    Name,
+    // A type, a size or a hint against the rules, or a FID without both flags.
+    TypeSizeOrHint,
+    // A real that cannot be read in fractions, or in decimals.
+    NotInFractions,
+    // No such field.
+    Absent,
+    // A field whose fid the dictionary does not have.
+    NotInDictionary,
+    // A field that repeats a single one.
+    Repeated,
+}
 
-// The verdict of a traversal of a message: the count of its fields and its depth, or a refusal and its place.
-#[derive(Clone, Copy)]
-pub enum Verdict {
-    Accepted(u64, u64),
-    Refused(u64, u64),
+impl Refusal {
+    // Returns the number of a refusal.
+    pub fn number(self) -> u64
+        ensures { result ≡ number self }
+    {
+        self as u64
+    }
+}
+
+// Why octets are rejected, and the offset of the fault.
+#[derive(Clone, Copy, Debug, PartialEq, Eq)]
+pub struct Fault {
+    pub refusal: Refusal,
+    pub place: u64,
+}
+
+impl Refusal {
+    // Returns this refusal at an offset.
+    pub fn at(self, place: u64) -> Fault
+        ensures { result ≡ record { refusal = self; place = place } }
+    {
+        Fault {
+            refusal: self,
+            place,
+        }
+    }
+}
+
+// The count of an accepted message's fields at all depths, and the depth of its deepest message.
+#[derive(Clone, Copy, Debug, PartialEq, Eq)]
+pub struct Counts {
+    pub fields: u64,
+    pub depth: u64,
 }
 
 // The answer of a check: a refusal number (0 if the message is accepted), the place of the fault, and for an accepted message the count of
@@ -72,28 +103,33 @@ pub struct Checked {
 }
 
 // The answer for a message that is rejected.
-pub fn refused(reason: u64, place: u64) -> Checked
-    ensures { result ≡ refusal reason place }
-{
-    Checked {
-        refusal: reason,
-        place,
-        fields: 0,
-        depth: 0,
+impl From<Fault> for Checked {
+    ghost from_gives = { λ fault answer. answer ≡ refusal (number fault.refusal) fault.place };
+
+    #[tactic(auto, unfolding(crate::specs::Checks::refusal))]
+    fn from(fault: Fault) -> Checked {
+        Checked {
+            refusal: fault.refusal.number(),
+            place: fault.place,
+            fields: 0,
+            depth: 0,
+        }
     }
 }
 
-// The answer by the verdict of the traversal.
-pub fn answer(verdict: Verdict) -> Checked
-    ensures { result ≡ checked_by verdict }
-{
-    match verdict {
-        Verdict::Accepted(fields, depth) => Checked {
-            refusal: 0,
-            place: 0,
-            fields,
-            depth,
-        },
-        Verdict::Refused(reason, place) => refused(reason, place),
+// The answer in numbers, by the result of a check.
+impl From<Result<Counts, Fault>> for Checked {
+    ghost from_gives = { λ r answer. answer ≡ checked r };
+
+    fn from(read: Result<Counts, Fault>) -> Checked {
+        match read {
+            Ok(counts) => Checked {
+                refusal: 0,
+                place: 0,
+                fields: counts.fields,
+                depth: counts.depth,
+            },
+            Err(fault) => Checked::from(fault),
+        }
     }
 }
