@@ -27,22 +27,14 @@ pub fn uint_least(v: u64) -> Least
     }
 }
 
-// Returns the number of n octets of which only the sign bit is set.
-fn sign_bit(n: u64) -> u64
-    requires { (0 < n) × (n ≤ 8) }
-    ensures { result ≡ lowest n }
-{
-    1u64 << (8 * n - 1)
-}
-
 // Returns the least octets of the negative number with the magnitude k + 1. Doubling makes room for the sign bit: k has to fit beside it, not
-// k + 1, because n octets also hold minus 2 ^ (8 * n - 1). The mask clears the magnitude if it equals the sign bit.
+// k + 1, because n octets also hold minus 2 ^ (8 * n - 1), of which only the sign bit is set. The mask clears the magnitude if it equals the sign bit.
 fn least_below(k: u64) -> Least
     requires { k < 2 ^ 63 }
     ensures { result ≡ int_width_bits (negsuc k) }
 {
     let n = width(2 * k + 1);
-    let low = sign_bit(n);
+    let low = 1u64 << (8 * n - 1);
     Least {
         width: n,
         bits: low + ((k + 1) & (low - 1)),

@@ -20,12 +20,12 @@ pub record NumberDown (d : List ℕ) (at n v : ℕ) (out : List ℕ) (rest k : �
   pub rest_is : rest ≡ v / 256 ^ k
   pub written : Written d (at + (n - k)) (octets_of k v) out
 
-pub number_begun : (d : List ℕ) (at n v : ℕ) → at + n ≤ length d → NumberDown d at n v d v 0
+number_begun : (d : List ℕ) (at n v : ℕ) → at + n ≤ length d → NumberDown d at n v d v 0
 unfolding octets_of
 number_begun d at n v h =
     record { inside = omega arith; room = h; long = refl; rest_is = sym (div-one v); written = none_written d (at + (n - 0)) (omega arith) }
 
-pub number_step : (d : List ℕ) (at n v : ℕ) (out : List ℕ) (rest k : ℕ) → k < n → NumberDown d at n v out rest k
+number_step : (d : List ℕ) (at n v : ℕ) (out : List ℕ) (rest k : ℕ) → k < n → NumberDown d at n v out rest k
     → NumberDown d at n v (set out (at + (n - (k + 1))) (rest % 256)) (rest / 256) (k + 1)
 unfolding octets_of
 number_step d at n v out rest k h p =
@@ -40,13 +40,27 @@ number_step d at n v out rest k h p =
       written = w;
     }
 
-pub number_ended : (d : List ℕ) (at n v : ℕ) (out : List ℕ) (rest k : ℕ) → n ≤ k → NumberDown d at n v out rest k
+number_ended : (d : List ℕ) (at n v : ℕ) (out : List ℕ) (rest k : ℕ) → n ≤ k → NumberDown d at n v out rest k
     → out ≡ stored d at (octets_of n v)
 number_ended d at n v out rest k h p =
     let a = p.inside in
     let e : at + (n - k) ≡ at = omega arith in
     let f : k ≡ n = omega arith in
     written_stored d (at + (n - k)) (octets_of k v) out p.written ∙ rw (e, f)
+
+-- The same by i, the octets still to be stored.
+pub begun_down : (d : List ℕ) (at n v : ℕ) → at + n ≤ length d → NumberDown d at n v d v (n - n)
+begun_down d at n v h = let e : n - n ≡ 0 = omega arith in rw e (number_begun d at n v h)
+
+pub step_down : (d : List ℕ) (at n v : ℕ) (out : List ℕ) (rest i : ℕ) → 0 < i → i ≤ n → NumberDown d at n v out rest (n - i)
+    → NumberDown d at n v (set out (at + (i - 1)) (rest % 256)) (rest / 256) (n - (i - 1))
+step_down d at n v out rest i a b p =
+    let e : n - (n - i + 1) ≡ i - 1 = omega arith in
+    let f : n - i + 1 ≡ n - (i - 1) = omega arith in
+    rw (e, f) at (number_step d at n v out rest (n - i) (omega arith) p)
+
+pub ended_down : (d : List ℕ) (at n v : ℕ) (out : List ℕ) (rest i : ℕ) → i ≤ 0 → NumberDown d at n v out rest (n - i) → out ≡ stored d at (octets_of n v)
+ended_down d at n v out rest i h p = number_ended d at n v out rest (n - i) (omega arith) p
 
 pub number_too_long : (d : List ℕ) (at n v : ℕ) → length d < at + n → d ≡ stored d at (octets_of n v)
 number_too_long d at n v h = let l = length_octets_of n v in sym (stored_too_long d at (octets_of n v) (omega arith))

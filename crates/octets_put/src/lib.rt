@@ -6,18 +6,16 @@ ghost use Rattle.octets.specs.Number.{octets_of};
 ghost use Rattle.octets.specs.Control.{least_control};
 ghost use Rattle.octets_store.specs.Store.{stored};
 
-// Stores the last n octets of v in big-endian order; octets above the last eight are zeros. The loop runs from the last octet back, and k counts
-// the octets stored.
+// Stores the last n octets of v in big-endian order; octets above the last eight are zeros. The loop runs from the last octet back.
+#[tactic(auto, using(crate::proofs::Digits::ended_down))]
 fn put_big_endian(out: &mut [u8], at: usize, n: usize, v: u64)
     requires { at + n ≤ length-of out.old }
     ensures { out.new ≡ stored out.old at (octets_of n v) }
 {
     let mut rest = v;
-    let mut k = 0;
-    while k < n {
-        k += 1;
-        out[at + (n - k)] = (rest % 256) as u8;
-        rest = rest / 256;
+    for i in (0..n).rev() {
+        out[at + i] = (rest % 256) as u8;
+        rest /= 256;
     }
 }
 

@@ -14,6 +14,7 @@ ghost use Rattle.octets.specs.declared.Control.TheVariants.{Whole};
 
 use octets::{Control, ReadControl, ReadInt, ReadUint};
 
+#[tactic(auto, using(crate::proofs::Numbers::turns))]
 // Returns the value of the octets up to and including that at i, given the value v of those before it. With at most eight octets it
 // cannot overflow.
 fn one_more(s: &[u8], i: usize, v: u64) -> u64
@@ -21,19 +22,18 @@ fn one_more(s: &[u8], i: usize, v: u64) -> u64
     requires v_value { v ≡ big_endian (take i s.now) }
     ensures { result ≡ big_endian (take (i + 1) s.now) }
 {
-    v * 256 + numbers::wide(s[i])
+    v * 256 + u64::from(s[i])
 }
 
 // Returns the big-endian value of at most eight octets.
+#[tactic(auto, using(crate::proofs::Numbers::turns))]
 fn big_endian(s: &[u8]) -> u64
     requires { length s.now ≤ 8 }
     ensures { result ≡ big_endian s.now }
 {
     let mut v: u64 = 0;
-    let mut i = 0;
-    while i < s.len() {
-        v = one_more(s, i, v);
-        i += 1;
+    for x in s {
+        v = v * 256 + u64::from(*x);
     }
     v
 }
@@ -244,7 +244,7 @@ pub fn control_after(c: u8, s: &[u8]) -> ReadControl
     ensures control_value { result.control ≡ control-of (c ∷ s.now) }
     ensures shortest_value { result.shortest ≡ short_control (c ∷ s.now) }
 {
-    after_leads(numbers::wide(c >> 4), numbers::wide(c & 15), s)
+    after_leads(u64::from(c >> 4), u64::from(c & 15), s)
 }
 
 // Reads the control part at the start of octets. Most have one octet, so that case is tested first.
@@ -259,8 +259,8 @@ pub fn control(s: &[u8]) -> ReadControl
         };
     }
     let c = s[0];
-    let t = numbers::wide(c >> 4);
-    let l = numbers::wide(c & 15);
+    let t = u64::from(c >> 4);
+    let l = u64::from(c & 15);
     if t < 14 && l < 12 {
         return ReadControl {
             control: Control::Whole {
@@ -304,12 +304,12 @@ pub fn control_at(s: &[u8], i: usize) -> ReadControl
     let c = s[i];
     if 2 <= s.len() - i {
         if 0xe0 <= c && c < 0xec {
-            let tag = numbers::wide(s[i + 1]);
-            return of_two(tag, numbers::wide(c & 15), 14 <= tag);
+            let tag = u64::from(s[i + 1]);
+            return of_two(tag, u64::from(c & 15), 14 <= tag);
         }
         if c < 0xe0 && c & 15 == 12 {
-            let length = numbers::wide(s[i + 1]);
-            return of_two(numbers::wide(c >> 4), length, 12 <= length);
+            let length = u64::from(s[i + 1]);
+            return of_two(u64::from(c >> 4), length, 12 <= length);
         }
     }
     control_after(c, &s[i + 1..])

@@ -2,5 +2,4 @@ pub mod Room
 pub mod Sets
 pub mod Stores
 pub mod Moves
-pub mod Kept
 pub mod StoreLoops

@@ -5,11 +5,12 @@ use mathlib.Core.Path.{◌≡◌, refl, sym, ap, ◌∙◌}
 use mathlib.Core.Bool.{Bool, true, false, cond}
 use mathlib.Core.List.{List, [], ◌∷◌, ◌++◌, append_assoc}
 use lib.ListN.{length, set, take, drop, length-append}
-use lib.Seq.{sets, length-sets, sets-eq, take_at, drop_at, length-take-le}
+use lib.Seq.{sets, length-sets, sets-eq, take_at, drop_at, drop-drop, length-take-le}
 use lib.Dec.{leb}
 use borrow.Author.Tests.{le-leb, lt-leb}
+use borrow.Rule.Slice.PartMut.{put_mid}
 use Rattle.octets_store.specs.Store.{stored}
-use Rattle.octets_store.proofs.Sets.{sets_append, sets_before_sets, sets_over, take_before_sets}
+use Rattle.octets_store.proofs.Sets.{sets_append, sets_before_sets, take_before_sets}
 
 pub stored_fits : (d : List ℕ) (at : ℕ) (xs : List ℕ) → at + length xs ≤ length d → stored d at xs ≡ sets d at xs
 unfolding stored
@@ -41,6 +42,10 @@ pub stored_parts : (d : List ℕ) (at : ℕ) (xs : List ℕ) → at + length xs 
 stored_parts d at xs h =
     stored_fits d at xs h ∙ sets-eq xs d at h ∙ append_assoc (take at d) xs (drop (at + length xs) d)
 
+-- What a write of xs over the n octets of d from `at` on leaves.
+pub put_stored : (d : List ℕ) (at n : ℕ) (xs ys : List ℕ) → at + length xs ≤ length d → at + length xs ≡ at + n → ys ≡ xs → put_mid at n d ys ≡ stored d at xs
+put_stored d at n xs ys h k e = rw (e, stored_parts d at xs h, k, drop-drop n at d) refl
+
 -- Two stores of which the second begins where the first ends.
 pub stored_after : (d : List ℕ) (at : ℕ) (xs ys : List ℕ) → at + length xs + length ys ≤ length d
     → stored (stored d at xs) (at + length xs) ys ≡ stored d at (xs ++ ys)
@@ -68,14 +73,6 @@ stored_before d at xs ys h =
     stored_fits (stored d (at + length ys) xs) at ys (omega arith)
     ∙ rw (stored_fits d (at + length ys) xs h, stored_fits d at (ys ++ xs) k)
     (sets_before_sets d (at + length ys) at ys xs (omega arith) ∙ sym (sets_append d at ys xs))
-
--- A store over a shorter one at the same place.
-pub stored_over : (d : List ℕ) (at : ℕ) (xs ys : List ℕ) → length xs ≤ length ys → at + length ys ≤ length d
-    → stored (stored d at xs) at ys ≡ stored d at ys
-stored_over d at xs ys k h =
-    let e = length_stored d at xs in
-    stored_fits (stored d at xs) at ys (omega arith)
-    ∙ rw (stored_fits d at xs (omega arith), stored_fits d at ys h) (sets_over d at xs ys k)
 
 -- The octets before a store stay.
 pub take_before_stored : (d : List ℕ) (at n : ℕ) (xs : List ℕ) → n ≤ at → take n (stored d at xs) ≡ take n d

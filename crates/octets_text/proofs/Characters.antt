@@ -1,6 +1,10 @@
 -- Laws for reading text character by character.
-use Rattle.std.proofs.Common.{◌≡◌, ℕ, zero, suc, ◌+◌, ◌-◌, ◌<◌, ◌≤◌, Bool, true, false, cond, ◌&&◌, List, [], ◌∷◌, length, get_or, drop, replicate, sym, refl, ap, ◌∙◌, true≢false, arith, length-drop, drop-drop}
+use Rattle.std.proofs.Common.{◌≡◌, ℕ, zero, suc, ◌+◌, ◌-◌, ◌<◌, ◌≤◌, Bool, true, false, cond, ◌&&◌, List, [], ◌∷◌, length, get_or, take, drop, replicate, sym, refl, ap, ◌∙◌, true≢false, arith, length-drop, ltb, le-ltb}
 use mathlib.Core.Option.{Option, none, some}
+use Rattle.std.specs.Prelude as maybe
+use Rattle.std.specs.Prelude.{MatchOption, Some, None}
+use Rattle.std.specs.Bool.{then_some}
+use Rattle.octets_text.proofs.Leads.{alone, leads_one, leads_two, leads_three, no_lead, no_lead_above}
 use lib.ListN.{length-replicate}
 use Rattle.octets.specs.Utf8.{Range, tail, grammar}
 use Rattle.octets.specs.Text.{within, after, text_after, text}
@@ -8,7 +12,8 @@ use Rattle.octets.proofs.Text.{lead_passed, no_character}
 use Rattle.octets_text.specs.internal.Plain.{Passed}
 use Rattle.octets_text.specs.internal.Pending.{next, pending}
 use Rattle.octets_text.specs.internal.Character.{follow, size_with, character_size}
-use Rattle.octets_text.proofs.Plain.{cut}
+use Rattle.octets.proofs.Slices.{tail_part}
+use Rattle.octets_text.proofs.Plain.{cut, nothing_left}
 
 -- ---- octets that follow a lead
 
@@ -100,6 +105,31 @@ module _ (c : ℕ) (s : List ℕ) (i : ℕ) where
       (ap (λ (t : Bool). within tail (get_or s (i + 2) 0) && t) (and-true (within tail (get_or s (i + 3) 0)) ∙ fourth) ∙ third_is s i 1 (omega arith))
       ∙ second_is 2 (omega arith)
 
+-- What follows a lead at the front, where n octets have to.
+module _ (s : List ℕ) where
+  abbrev front : ℕ
+  front = get_or s 0 0
+
+  abbrev second : Bool
+  second = within (next front) (get_or s 1 0)
+
+  abbrev third : Bool
+  third = within tail (get_or s 2 0)
+
+  pub front_alone : (n : ℕ) → 0 < length s → length s ≤ n → ltb n (length s) ≡ follow (pending n front) (drop 1 s)
+  front_alone n h k = rw (le-ltb n (length s) k) (too_few front s 0 n h (omega arith))
+
+  pub front_one : 1 < length s → second ≡ follow (pending 1 front) (drop 1 s)
+  front_one h = one_is front s 0 h
+
+  pub front_two : 2 < length s → (second && third) ≡ follow (pending 2 front) (drop 1 s)
+  front_two h = two_is front s 0 h
+
+  pub front_three : 3 < length s → ((second && third) && within tail (get_or s 3 0)) ≡ follow (pending 3 front) (drop 1 s)
+  front_three h = three_is front s 0 h
+
+pub ruleset following = (front_alone, front_one, front_two, front_three)
+
 module _ (s : List ℕ) (i : ℕ) (h : i < length s) where
   abbrev x : ℕ
   x = get_or s i 0
@@ -119,6 +149,38 @@ module _ (s : List ℕ) (i : ℕ) (h : i < length s) where
   pub broken : (n : ℕ) → after grammar x ≡ some (pending n x) → false ≡ follow (pending n x) (drop (i + 1) s) → 0 ≡ character_size (drop i s)
   unfolding size_with
   broken n e f = rw (← f) at (size_is (some (pending n x)) e)
+
+-- The size of the character at the front of octets.
+abbrev pub IsSize : List ℕ → maybe.Option ℕ → Type 0
+IsSize s size = MatchOption size (character_size s ≡ 0) (λ n. (0 < n) × (n ≡ character_size s))
+
+by_octets : (s : List ℕ) → 0 < length s → (n : ℕ) (t : Bool) → after grammar (get_or s 0 0) ≡ some (pending n (get_or s 0 0))
+    → t ≡ follow (pending n (get_or s 0 0)) (drop 1 s) → IsSize s (then_some t (suc n))
+by_octets s h n true e f = (omega arith, whole s 0 h n e f)
+by_octets s h n false e f = sym (broken s 0 h n e f)
+
+module _ (s : List ℕ) (h : 0 < length s) where
+  pub size_one : x s 0 h < 0x80 → IsSize s (Some 1)
+  unfolding pending follow
+  size_one a = (omega arith, whole s 0 h 0 (alone (x s 0 h) a) refl)
+
+  pub size_none : 0x80 ≤ x s 0 h → x s 0 h < 0xc2 → IsSize s None
+  size_none a b = sym (none_there s 0 h (no_lead (x s 0 h) a (omega arith)))
+
+  pub size_two : (t : Bool) → 0xc2 ≤ x s 0 h → x s 0 h < 0xe0 → t ≡ follow (pending 1 (x s 0 h)) (drop 1 s) → IsSize s (then_some t 2)
+  size_two t a b = by_octets s h 1 t (leads_one (x s 0 h) a b)
+
+  pub size_three : (t : Bool) → 0xe0 ≤ x s 0 h → x s 0 h < 0xf0 → t ≡ follow (pending 2 (x s 0 h)) (drop 1 s) → IsSize s (then_some t 3)
+  size_three t a b = by_octets s h 2 t (leads_two (x s 0 h) a b)
+
+  pub size_four : (t : Bool) → 0xf0 ≤ x s 0 h → x s 0 h < 0xf5 → t ≡ follow (pending 3 (x s 0 h)) (drop 1 s) → IsSize s (then_some t 4)
+  size_four t a b = by_octets s h 3 t (leads_three (x s 0 h) a (omega arith))
+
+  pub size_none_above : 0xf5 ≤ x s 0 h → IsSize s None
+  size_none_above a = sym (none_there s 0 h (no_lead_above (x s 0 h) (omega arith)))
+
+-- What `character` returns.
+pub ruleset sizes = (size_one, size_none, size_two, size_three, size_four, size_none_above)
 
 -- Where no character stands at the front, octets are no text; where one does, the rest decides.
 no_text_lem : (r : List ℕ) → 0 < length r → character_size r ≡ 0 → text_after [] r ≡ false
@@ -150,14 +212,17 @@ past_character (x ∷ r) ne = go (after grammar x) refl ne
     go none q k = absurd (k refl)
     go (some rs) q k = passed_by rs q (follow rs r) refl k
 
--- The turns of the loop, where n is the size of the character at i.
-module _ (s : List ℕ) (i n : ℕ) (p : Passed s i) (h : i < length s) (e : n ≡ character_size (drop i s)) where
-  pub stopped : n ≡ 0 → false ≡ text s
-  stopped z = sym (p.same ∙ no_text_lem (drop i s) (rw (length-drop i s) (omega arith)) (sym e ∙ z))
+-- The turns of the loop, where n is the size of the character at the front of r.
+pub stopped : (r : List ℕ) → (length r ≡ 0 → ⊥) → character_size r ≡ 0 → false ≡ text r
+unfolding text
+stopped r h e = sym (no_text_lem r (omega arith) e)
 
-  pub passed : (n ≡ 0 → ⊥) → Passed s (i + n)
-  unfolding text
-  passed ne =
-      let q : Passed (drop i s) n = rw e (past_character (drop i s) (λ z. ne (e ∙ z))) in
-      let l = length-drop i s in
-      record { inside = omega (arith, q.inside); same = p.same ∙ q.same ∙ ap (text_after []) (drop-drop n i s) }
+pub inside : (r : List ℕ) (n : ℕ) → 0 < n → n ≡ character_size r → n ≤ length r
+inside r n h e = rw (e) (past_character r (λ z. omega arith)).inside
+
+pub passed : (r : List ℕ) (n : ℕ) → 0 < n → n ≡ character_size r → text (take (length r - n) (drop n r)) ≡ text r
+unfolding text
+passed r n h e = rw (tail_part r n, e) (sym (past_character r (λ z. omega arith)).same)
+
+-- What `short_text` needs at each turn.
+pub ruleset turns = (stopped, inside, passed, nothing_left)

@@ -1,10 +1,11 @@
 -- Laws for passing octets below 0x80.
-use Rattle.std.proofs.Common.{◌≡◌, ℕ, zero, suc, ◌+◌, ◌-◌, ◌<◌, ◌≤◌, true, List, [], ◌∷◌, length, get_or, drop, sym, refl, ap, ◌∙◌, add-zero, add-one, arith, drop_of_length-le, drop-cons}
+use Rattle.std.proofs.Common.{◌≡◌, ℕ, zero, suc, ◌+◌, ◌-◌, ◌<◌, ◌≤◌, true, List, [], ◌∷◌, length, get_or, take, drop, sym, refl, ap, ◌∙◌, length-drop, zero-add, add-zero, add-one, arith, drop_of_length-le, drop-cons}
 use lib.Bits.{bit_or, or_add_and, and_le_l, and_le_r}
-use borrow.Enum.Match.{each_below}
+use lib.Seq.{get_or-take, drop-drop}
+use Rattle.octets.proofs.Slices.{tail_part}
 use Rattle.octets.specs.Text.{text_after, text}
 use Rattle.octets.proofs.Text.{up_to, lead_passed}
-use Rattle.octets_text.specs.internal.Plain.{Passed, any_of}
+use Rattle.octets_text.specs.internal.Plain.{Passed, Left, any_of}
 use Rattle.octets_text.proofs.Leads.{alone}
 
 -- What is left begins with the octet at i.
@@ -38,43 +39,17 @@ or_below a b m h =
     let r = and_le_r a b in
     (omega arith, omega arith)
 
--- Eight octets at once.
-pub eight_plain : (s : List ℕ) (i : ℕ) → Passed s i → 8 ≤ length s - i
-    → bit_or (bit_or (bit_or (bit_or (get_or s i 0) (get_or s (i + 1) 0)) (get_or s (i + 2) 0)) (get_or s (i + 3) 0))
-    (bit_or (bit_or (bit_or (get_or s (i + 4) 0) (get_or s (i + 5) 0)) (get_or s (i + 6) 0)) (get_or s (i + 7) 0)) < 0x80
-    → Passed s (i + 8)
-eight_plain s i p h o =
-    let v = or_below _ _ 0x80 o in
-    let a = or_below _ _ 0x80 v.0 in
-    let b = or_below _ _ 0x80 a.0 in
-    let c = or_below _ _ 0x80 b.0 in
-    let d = or_below _ _ 0x80 v.1 in
-    let e = or_below _ _ 0x80 d.0 in
-    let f = or_below _ _ 0x80 e.0 in
-    plains s i 8 p (omega arith)
-    (each_below 8 (λ (k : ℕ). get_or s (i + k) 0 < 0x80)
-    (d.1, (e.1, (f.1, (f.0, (a.1, (b.1, (c.1, (rw (add-zero i) c.0, tt)))))))))
-
--- `any` is the bitwise or of the octets from `from` to i, at most 64.
-pub record Read (s : List ℕ) (from any i : ℕ) : Type 0 where
-  pub since : from ≤ i
-  pub until : i ≤ from + 64
-  pub bits : any ≡ any_of s from (i - from)
-
-pub none_read : (s : List ℕ) (from : ℕ) → Read s from 0 from
+-- The bitwise or of no octets, and of one more.
+pub no_bits : (s : List ℕ) → 0 ≡ any_of s 0 0
 unfolding any_of
-none_read s from = let e : from - from ≡ 0 = omega arith in record { since = omega arith; until = omega arith; bits = rw e }
+no_bits s = refl
 
-pub one_read : (s : List ℕ) (from any i : ℕ) → Read s from any i → i < from + 64 → Read s from (bit_or any (get_or s i 0)) (i + 1)
+pub more_bits : (s : List ℕ) (any n : ℕ) → any ≡ any_of s 0 n → bit_or any (get_or s n 0) ≡ any_of s 0 (n + 1)
 unfolding any_of
-one_read s from any i p h =
-    let l = p.since in
-    let e : i + 1 - from ≡ suc (i - from) = omega arith in
-    let f : from + (i - from) ≡ i = omega arith in
-    record { since = omega arith; until = omega arith; bits = rw (p.bits, e, f) }
+more_bits s any n e = rw (add-one n, e, zero-add n) refl
 
-pub all_read : (s : List ℕ) (from any i : ℕ) → Read s from any i → from + 64 ≤ i → any ≡ any_of s from 64
-all_read s from any i p h = let l = p.until in let e : i - from ≡ 64 = omega arith in p.bits ∙ ap (any_of s from) e
+-- What `any_of` needs at each turn.
+pub ruleset bits = (no_bits, more_bits)
 
 each_plain : (s : List ℕ) (i n : ℕ) → any_of s i n < 0x80 → (k : ℕ) → k < n → get_or s (i + k) 0 < 0x80
 unfolding any_of
@@ -83,9 +58,63 @@ each_plain s i (suc n) h k l =
     let o = or_below (any_of s i n) (get_or s (i + n) 0) 0x80 h in
     up_to n k (λ m. let e : k ≡ n = omega arith in rw e o.1) (λ m. each_plain s i n o.0 k m)
 
-pub block_plain : (s : List ℕ) (i n : ℕ) → Passed s i → i + n ≤ length s → any_of s i n < 0x80 → Passed s (i + n)
-block_plain s i n p h o = plains s i n p h (each_plain s i n o)
+-- No octets are text.
+pub nothing_left : (s : List ℕ) → length s ≡ 0 → true ≡ text s
+unfolding text text_after
+nothing_left [] h = refl
+nothing_left (x ∷ s) h = absurd (omega arith)
+
+-- What is left after none, and after a block of n octets below 0x80.
+pub left_all : (s : List ℕ) → Left s s
+left_all s = let e : length s - length s ≡ 0 = omega arith in record { inside = omega arith; is = rw e refl; same = refl }
+
+pub left_block : (s rest b after : List ℕ) (n : ℕ) → Left s rest → b ≡ take n rest → after ≡ drop n rest → n ≤ length rest → any_of b 0 n < 0x80
+    → Left s after
+unfolding text
+left_block s rest b after n p e f h o =
+    let each : (k : ℕ) → k < n → get_or rest k 0 < 0x80 = λ k l. rw (← get_or-take n rest k 0 l, ← e) (rw (zero-add k) at (each_plain b 0 n o k l)) in
+    let q : Passed rest n = rw (zero-add n) at (plains rest 0 n (start rest) (omega arith) (λ k l. rw (zero-add k) (each k l))) in
+    let l : length after ≡ length rest - n = ap length f ∙ length-drop n rest in
+    let d = p.inside in
+    let m : length s - length rest + n ≡ length s - length after = omega arith in
+    record {
+      inside = omega arith;
+      is = f ∙ ap (drop n) p.is ∙ drop-drop n (length s - length rest) s ∙ ap (λ (k : ℕ). drop k s) m;
+      same = p.same ∙ q.same ∙ ap (text_after []) (sym f);
+    }
+
+-- What `after_blocks` needs at each turn.
+pub ruleset blocks = (left_all, left_block)
+
+-- What `plain_run` needs at each turn.
+pub ruleset run = (plain)
+
+-- Two parts are left after one another.
+pub left_twice : (s blocks rest : List ℕ) → Left s blocks → Left blocks rest → Left s rest
+left_twice s blocks rest p q =
+    let a = p.inside in
+    let b = q.inside in
+    let m : length s - length blocks + (length blocks - length rest) ≡ length s - length rest = omega arith in
+    record {
+      inside = omega arith;
+      is = q.is ∙ ap (drop (length blocks - length rest)) p.is ∙ drop-drop (length blocks - length rest) (length s - length blocks) s ∙ ap (λ (k : ℕ). drop k s) m;
+      same = p.same ∙ q.same;
+    }
+
+pub left_passed : (s rest : List ℕ) → Left s rest → Passed s (length s - length rest)
+unfolding text
+left_passed s rest p =
+    let a = p.inside in
+    record { inside = omega arith; same = p.same ∙ ap (text_after []) p.is }
+
+-- The octets from i on decide.
+pub rest_decides : (s : List ℕ) (i : ℕ) → Passed s i → text (take (length s - i) (drop i s)) ≡ text s
+unfolding text
+rest_decides s i p = ap (text_after []) (tail_part s i) ∙ sym p.same
 
 pub at_end : (s : List ℕ) (i : ℕ) → Passed s i → length s ≤ i → true ≡ text s
 unfolding text_after
 at_end s i p h = sym (p.same ∙ ap (text_after []) (drop_of_length-le s h))
+
+-- What `text` needs.
+pub ruleset after_front = (left_all, left_twice, left_passed, rest_decides, at_end)

@@ -3,8 +3,5 @@ use Prim.Native.Nat.{◌-◌}
 use Rattle.octets_put.proofs.Digits.{NumberDown}
 use Rattle.octets_put.proofs.put_big_endian.Given as goal
 
-abbrev pub invariant-loop-k : goal.invariant-loop-k
-invariant-loop-k l = NumberDown l.initial.out l.at l.n l.v l.out l.rest l.k
-
-abbrev pub decreases-loop-k : goal.decreases-loop-k
-decreases-loop-k l = l.n - l.k
+abbrev pub invariant-loop-i : goal.invariant-loop-i
+invariant-loop-i l = NumberDown l.initial.out l.at l.n l.v l.out l.rest (l.n - l.i)

@@ -1,11 +1,7 @@
 -- `octets_read::big_endian` meets its contract: the octets passed hold the number so far.
-use Prim.Native.Nat.{◌-◌}
-use lib.ListN.{length}
-use Rattle.octets_read.proofs.Numbers.{Passed}
+use Rattle.std.proofs.Common.{◌≡◌, take}
+use Rattle.octets.specs.Number.{big_endian}
 use Rattle.octets_read.proofs.big_endian.Given as goal
 
-abbrev pub invariant-loop-i : goal.invariant-loop-i
-invariant-loop-i l = Passed l.s l.v l.i
-
-abbrev pub decreases-loop-i : goal.decreases-loop-i
-decreases-loop-i l = length l.s - l.i
+abbrev pub invariant-loop-x : goal.invariant-loop-x
+invariant-loop-x l = l.v ≡ big_endian (take l.x-index l.s)

@@ -19,8 +19,8 @@ returns-then-l-lt12 c =
     let s = k.args.s.now in
     let tag = c.if-t-lt14.true in
     let len = c.if-l-lt12.true in
-    let t = c.wide-t.ensures in
-    let l = c.wide-l.ensures in
+    let t = c.from-t.ensures in
+    let l = c.from-l.ensures in
     let m = and_mask (get_or s 0 0) 4 in record { control_value = whole_direct _ _ _ tag len ∙ control_from s 0 _ _ (omega arith) (omega arith) t l; shortest_value = sym (short_direct (get_or s 0 0) _ (omega arith) (omega arith)) ∙ ap short_control (octets_at s 0 (omega arith)) }
 
 pub returns : goal.returns

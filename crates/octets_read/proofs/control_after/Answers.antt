@@ -8,7 +8,7 @@ use Rattle.octets_read.proofs.control_after.Goals as goal
 pub after_leads-requires : goal.after_leads-requires
 after_leads-requires c =
     let b = c in
-    nybbles b.args.c _ _ b.ranges.c.fits c.wide.ensures c.wide-2.ensures
+    nybbles b.args.c _ _ b.ranges.c.fits c.from.ensures c.from-2.ensures
 
 pub returns : goal.returns
 returns c =
@@ -16,8 +16,8 @@ returns c =
     let b = k in
     let s = b.args.s.now in
     let h = b.ranges.c.fits in
-    let t = c.wide.ensures in
-    let l = c.wide-2.ensures in record {
+    let t = c.from.ensures in
+    let l = c.from-2.ensures in record {
       control_value = c.after_leads.ensures.control_value ∙ read_octet b.args.c _ _ s h t l;
       shortest_value = c.after_leads.ensures.shortest_value
           ∙ short_octet b.args.c _ _ s h (octets_of_slice s (λ i. (k.type_inv.s i).fits)) t l;

@@ -26,8 +26,8 @@ returns-then-c-lt236 c =
     let high = then.if-c-lt236.true in
     let inside : a.i + 1 < length s = omega (arith, two.if-s-i-ge2.true) in
     let low = then.if-c-ge224.true in record {
-      control_value = c.of_two.ensures.control_value ∙ tag_at s a.i _ _ inside low high w.wide-tag.ensures c.wide.ensures;
-      shortest_value = c.of_two.ensures.shortest_value ∙ short_tag_at s a.i _ _ inside low high w.wide-tag.ensures c.wide.ensures
+      control_value = c.of_two.ensures.control_value ∙ tag_at s a.i _ _ inside low high w.from-tag.ensures c.from.ensures;
+      shortest_value = c.of_two.ensures.shortest_value ∙ short_tag_at s a.i _ _ inside low high w.from-tag.ensures c.from.ensures
           (octets_of_slice s (λ i. (two.type_inv.s i).fits));
     }
 
@@ -41,8 +41,8 @@ returns-then-c-eq12 c =
     let twelve = then.if-c-eq12.true in
     let inside : a.i + 1 < length s = omega (arith, two.if-s-i-ge2.true) in
     let high = then.if-c-lt224.true in record {
-      control_value = c.of_two-then-c-eq12.ensures.control_value ∙ length_at s a.i _ _ inside high w.wide-length.ensures c.wide-then-c-eq12.ensures twelve;
-      shortest_value = c.of_two-then-c-eq12.ensures.shortest_value ∙ short_length_at s a.i _ _ inside high w.wide-length.ensures c.wide-then-c-eq12.ensures twelve
+      control_value = c.of_two-then-c-eq12.ensures.control_value ∙ length_at s a.i _ _ inside high w.from-length.ensures c.from-then-c-eq12.ensures twelve;
+      shortest_value = c.of_two-then-c-eq12.ensures.shortest_value ∙ short_length_at s a.i _ _ inside high w.from-length.ensures c.from-then-c-eq12.ensures twelve
           (octets_of_slice s (λ i. (two.type_inv.s i).fits));
     }
 

@@ -17,7 +17,7 @@ returns-then-l-lt12 c =
 
 pub one_more-a-requires : goal.one_more-a-requires
 one_more-a-requires c =
-    let b = c in record { i_in_bounds = length_one b.args.l b.args.s.now b.requires.0 b.requires.1 c.if-l-lt12.false; v_value = no_octets b.args.s.now }
+    let b = c in record { i_in_bounds = length_one b.args.l b.args.s.now b.requires.0 b.requires.1 c.if-l-lt12.false; v_value = no_octets }
 
 pub returns-then-l-eq12 : goal.returns-then-l-eq12
 unfolding least_of_lead

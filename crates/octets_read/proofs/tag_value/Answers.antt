@@ -14,7 +14,7 @@ returns-then-t-lt14 c =
 
 pub one_more-a-requires : goal.one_more-a-requires
 one_more-a-requires c =
-    let b = c in record { i_in_bounds = tag_one b.args.t b.args.s.now b.requires.0 b.requires.1 c.if-t-lt14.false; v_value = no_octets b.args.s.now }
+    let b = c in record { i_in_bounds = tag_one b.args.t b.args.s.now b.requires.0 b.requires.1 c.if-t-lt14.false; v_value = no_octets }
 
 pub returns-then-t-eq14 : goal.returns-then-t-eq14
 unfolding least_of_lead

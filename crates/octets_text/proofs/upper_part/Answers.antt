@@ -4,4 +4,4 @@ use Rattle.octets_text.proofs.Judging.{upper_part_is}
 use Rattle.octets_text.proofs.upper_part.Goals as goal
 
 pub returns : goal.returns
-returns c = let k = c in λ l h m. rw c.wrapping_add_u8.ensures.value (upper_part_is k.args.c k.args.x l h m (search rules))
+returns c = let k = c in λ l h m. upper_part_is k.args.c k.args.x l h m (search rules)

@@ -8,5 +8,5 @@ returns c =
     let k = c in
     let w = c.incomplete in
     let o = c.wrong_second in
-    rw (c.when-2.ensures, c.when.ensures, c.is_tail.ensures)
+    rw (c.mask-2.ensures, c.mask.ensures, c.is_tail.ensures)
     (wrong_is k.args.a k.args.b k.args.c k.args.x w.result o.result (search rules) w.ensures o.ensures.result_value o.ensures.value)
