@@ -13,12 +13,11 @@ use borrow.Author.Count.{below_more}
 use borrow.Author.Tests.{leb-false, lt-leb}
 use Rattle.octets.specs.Number.{Octets}
 use Rattle.table.specs.Entry.{entry}
-use Rattle.table.specs.Load.{in_range, record_size, place_at, record_at, word_of, word_at, well_formed, words_before, pair, seen, faulty, accepted, refused, load_from, load}
+use Rattle.table.specs.Load.{Loaded, in_range, record_size, place_at, record_at, word_of, word_at, well_formed, words_before, pair, seen, faulty, accepted, refused, load_from, load}
 use Rattle.table.specs.Repeat.{distinct}
 use Rattle.table.specs.Valid.{all_in_range}
 use Rattle.table.specs.Records.{RecordOf, none, IsTable}
 use Rattle.table.specs.FaultyTable.{FaultyTable}
-use Rattle.table.specs.declared.Loaded.{Loaded}
 use Rattle.octets.proofs.Bools.{and_left, and_right, or_right}
 use Rattle.table.proofs.Repeat.{distinct_snoc, distinct_last}
 use Rattle.table.proofs.Load.{length_words, well_formed_range, load_fault}

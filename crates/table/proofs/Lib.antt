@@ -1,4 +1,3 @@
-pub mod Lists
 pub mod Repeat
 pub mod Load
 pub mod WordRecords

@@ -8,9 +8,8 @@ use lib.ListN.{length}
 use lib.Dec.{leb}
 use Rattle.octets.specs.Number.{Octets}
 use Rattle.reading.specs.Refusals as refusals
-use Rattle.table.specs.Load.{load, place_at, load_from, accepted, refused, faulty, words_before, Loadable}
+use Rattle.table.specs.Load.{Loaded, load, place_at, load_from, accepted, refused, faulty, words_before, Loadable}
 use Rattle.table.specs.Valid.{valid}
-use Rattle.table.specs.declared.Loaded.{Loaded}
 use Rattle.table.proofs.Valid.{loadable_valid}
 
 -- A property of every refusal and of every accepted table is a property of the loader's result.

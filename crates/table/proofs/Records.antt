@@ -13,11 +13,10 @@ use borrow.Author.Count.{below_more}
 use borrow.Author.Tests.{leb-true}
 use Rattle.octets.specs.Number.{Octets}
 use Rattle.table.specs.Entry.{entry, entries}
-use Rattle.table.specs.Load.{record_size, place_at, record_at, word_at, well_formed, words_before, faulty, table_of, accepted, refused, load_from, load, Loadable}
+use Rattle.table.specs.Load.{Loaded, record_size, place_at, record_at, word_at, well_formed, words_before, faulty, table_of, accepted, refused, load_from, load, Loadable}
 use Rattle.table.specs.Repeat.{distinct}
 use Rattle.table.specs.Valid.{all_in_range, valid}
 use Rattle.table.specs.Records.{RecordOf, RecordsOf, none, more, IsTable}
-use Rattle.table.specs.declared.Loaded.{Loaded}
 use Rattle.table.proofs.WordRecords.{load_records, record_of_lem}
 use Rattle.table.proofs.Valid.{well_formed_of, parts, loadable_valid}
 

@@ -10,11 +10,10 @@ use lib.Seq.{take_at, drop_at, length-take-le}
 use lib.Dec.{eqb, leb}
 use borrow.Author.Tests.{eqb-true, le-leb, leb-true, not-false}
 use Rattle.table.specs.Entry.{entry}
-use Rattle.table.specs.Load.{in_range, place_at, record_at, word_at, well_formed, words_before, pair, seen, faulty, table_of, accepted, refused, load_from, load, Loadable}
+use Rattle.table.specs.Load.{Loaded, in_range, place_at, record_at, word_at, well_formed, words_before, pair, seen, faulty, table_of, accepted, refused, load_from, load, Loadable}
 use Rattle.table.specs.Repeat.{distinct}
 use Rattle.table.specs.Valid.{all_in_range, all_zero, valid}
 use Rattle.table.specs.declared.Table.{Table}
-use Rattle.table.specs.declared.Loaded.{Loaded}
 use Rattle.octets.proofs.Bools.{and_left, and_right, and_four, and_both, or_left, or_right}
 use Rattle.table.proofs.Repeat.{distinct_snoc}
 use Rattle.table.proofs.Load.{length_words, well_formed_range}

@@ -1,11 +1,11 @@
 -- Loading a field table from octets. A table is a sequence of records. A record is the tag 01, the length 00 05 and an entry of five octets,
 -- or the length 00 06, an entry and its mark. An entry without a mark has the mark 0.
-use Rattle.std.specs.Prelude.{ℕ, zero, suc, ◌+◌, ◌*◌, ◌-◌, ◌/◌, ◌^◌, ◌≡◌, Bool, false, cond, not, ◌&&◌, ◌||◌, List, [], ◌∷◌, ◌++◌, length, take, drop, replicate, get_or, eqb, leb, ltb}
+use Rattle.std.specs.Prelude.{Result, Ok, Err, ℕ, zero, suc, ◌+◌, ◌*◌, ◌-◌, ◌/◌, ◌^◌, ◌≡◌, Bool, false, cond, not, ◌&&◌, ◌||◌, List, [], ◌∷◌, ◌++◌, length, take, drop, replicate, get_or, eqb, leb, ltb}
 use Rattle.octets.specs.Number.{big_endian, Octets}
 use Rattle.reading.specs.Refusals as refusals
+use Rattle.reading.specs.declared.Fault.{Fault}
 use Rattle.table.specs.Entry.{Entry, entry}
 use Rattle.table.specs.declared.Table.{Table}
-use Rattle.table.specs.declared.Loaded.{Loaded}
 
 -- Whether an entry's numbers are in range: message numbers 0 to 15, kinds 1 to 5, inner number 0 to 15 for kind 5, else 0, marks 0 and 1.
 unfoldable pub in_range : Entry → Bool
@@ -64,12 +64,23 @@ faulty s i = not (well_formed (record_at s i)) || seen (pair (word_at s i)) (wor
 unfoldable pub table_of : List ℕ → Table
 table_of ws = record { count = length ws; words = ws ++ replicate (64 - length ws) 0 }
 
+-- The loader's result: a refusal (0 if the table is accepted), the place of the fault, and the table, which is empty after a refusal.
+pub record Loaded : Type 0 where
+  pub refusal : ℕ
+  pub place : ℕ
+  pub table : Table
+
 -- The result for a table that is accepted, and for one whose fault is in the record at a place.
 unfoldable pub accepted : List ℕ → Loaded
 accepted ws = record { refusal = 0; place = 0; table = table_of ws }
 
 unfoldable pub refused : ℕ → Loaded
 refused place = record { refusal = refusals.table; place = place; table = table_of [] }
+
+-- The loader's result, by what the function that loads returns.
+abbrev pub loaded : Result Table Fault → Loaded
+loaded (Ok t) = record { refusal = 0; place = 0; table = t }
+loaded (Err f) = record { refusal = refusals.number f.refusal; place = f.place; table = table_of [] }
 
 -- Loading from the record at i on: the first faulty record is rejected. `fuel` bounds the number of records.
 unfoldable pub load_from : ℕ → ℕ → List ℕ → Loaded

@@ -5,6 +5,7 @@
 // The entries of a field table, in the order in which they were loaded. The lowest 48 bits of a word are, from the highest to the lowest,
 // an entry's message number (8 bits), tag (16 bits), kind (8 bits), inner message number (8 bits) and mark (8 bits: 0 many, 1 single). The
 // loader sets the words beyond the count to 0.
+// Kept: an array with a count beside it, since the library uses no heap, and callers pass any values: 65 entries, which `valid` rejects.
 #[derive(Clone, Copy)]
 pub struct Table {
     pub count: usize,
@@ -20,12 +21,4 @@ pub enum Meaning {
     String,
     Text,
     Message(u64),
-}
-
-// The loader's result: a refusal (0 if the table is accepted), the place of the fault, and the table, which is empty after a refusal.
-#[derive(Clone, Copy)]
-pub struct Loaded {
-    pub refusal: u64,
-    pub place: u64,
-    pub table: Table,
 }

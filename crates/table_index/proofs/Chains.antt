@@ -75,15 +75,6 @@ search_empty cells key e = search_from cells key (sym e) ∙ chase_zero cells ke
 
 -- ---- the next cell
 
-module _ (cells : List ℕ) (c n : ℕ) (e : n ≡ get_or cells (64 + c % 64) 0) where
-  pub next_ends : c % 64 ≤ n % 64 → 0 ≡ next_in cells c
-  unfolding next_in
-  next_ends h = rw (← e, le-ltb (n % 64) (c % 64) h) refl
-
-  pub next_on : n % 64 < c % 64 → n ≡ next_in cells c
-  unfolding next_in
-  next_on h = rw (← e, lt-ltb (n % 64) (c % 64) h) refl
-
 -- The measure of the loops over a chain: twice the order, and one more for a cell that is not 0, falls in each iteration.
 pub next_less : (cells : List ℕ) (c n : ℕ) → n ≡ next_in cells c → (c ≡ 0 → ⊥) → n % 64 * 2 + min n 1 < c % 64 * 2 + min c 1
 unfolding next_in

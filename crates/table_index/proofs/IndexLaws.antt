@@ -1,12 +1,11 @@
 -- What an index built in cleared cells tells of its table: the loader's result and the table's schema.
 use Prim.Native.Nat.{ℕ, zero, suc, ◌≤◌, ◌<◌, min}
-use native.Mathlib.Numerals.{add-one}
 use native.Mathlib.Omega.{arith}
 use mathlib.Core.Path.{◌≡◌, refl, sym, ap, ◌∙◌}
 use mathlib.Core.Bool.{Bool, true, false, not, ◌&&◌, ◌||◌, and-false, true≢false, false≢true}
 use mathlib.Core.List.{List, [], ◌∷◌, map}
 use lib.ListN.{length, take, drop, get_or, replicate, length-take}
-use lib.Seq.{take-length}
+use lib.Seq.{take-length, take-suc}
 use lib.Dec.{eqb, leb, ltb}
 use borrow.Author.Tests.{eqb-true, eqb-false, eq-eqb, ne_eqb, leb-true, le-leb, ltb-true, ltb-false}
 use Rattle.table.specs.Entry.{entry, entries}
@@ -17,7 +16,6 @@ use Rattle.table.specs.Schema.{schema_of, schema}
 use Rattle.table.specs.Valid.{all_in_range, all_zero, valid}
 use Rattle.table.specs.declared.Table.{Table}
 use Rattle.octets.proofs.Bools.{and_both}
-use Rattle.table.proofs.Lists.{take_more}
 use Rattle.table.proofs.Load.{load_whole, load_fault, faulty_form, faulty_seen, faulty_late, well_formed_range}
 use Rattle.table.proofs.Orders.{order_at}
 use Rattle.table.proofs.Repeat.{seen_at}
@@ -96,7 +94,7 @@ module _ (revision : ℕ) (s : List ℕ) (n : ℕ)
 words_prefix : (ws : List ℕ) (k : ℕ) → k ≤ length ws → words_of (λ i. get_or ws i 0) k ≡ take k ws
 unfolding words_of
 words_prefix ws zero h = refl
-words_prefix ws (suc k) h = rw (words_prefix ws k (omega arith), ← add-one k) (sym (take_more ws k (omega arith)))
+words_prefix ws (suc k) h = rw (words_prefix ws k (omega arith)) (sym (take-suc ws k 0 (omega arith)))
 
 all_range : (ws : List ℕ) → ((j : ℕ) → j < length ws → in_range (entry (get_or ws j 0)) ≡ true) → all_in_range ws ≡ true
 unfolding all_in_range

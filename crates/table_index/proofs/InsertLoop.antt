@@ -12,7 +12,8 @@ use Rattle.table.specs.Entry.{entry}
 use Rattle.table.specs.Load.{in_range, place_at, record_at, word_at, well_formed}
 use Rattle.table_index.specs.internal.Pass.{InsertLoop, InsertedRecords, IndexEnds}
 use Rattle.table_index.specs.internal.Record.{record_of, Unmarked}
-use Rattle.table_index.specs.declared.record.Record.TheVariants.{Word, Wrong}
+use Rattle.table_index.specs.declared.record.Record.{Record}
+use Rattle.std.specs.Prelude.{Some, None}
 use Rattle.table_index.proofs.RecordLaws.{record_wrong, record_formed, record_word, record_next, record_within}
 use Rattle.table_index.proofs.Chains.{chase_zero, chase_here}
 use Rattle.table_index.specs.internal.Cells.{word_key, word_under, chase, search, insertable, linked, inserted, inserted_before, insertable_at, prefix_end, prefix_length, inserted_words}
@@ -168,27 +169,27 @@ module _ (revision : ℕ) (s cells₀ : List ℕ) where
     octets_end h = read (insert_loop_ends formed record_under cells₀ 64 n cells k.loop h)
 
     module _ (before : n < 64) where
-      pub octets_bad : Wrong ≡ record_of (drop at s) → Read cells
+      pub octets_bad : None ≡ record_of (drop at s) → Read cells
       octets_bad e = read (insert_loop_bad formed record_under cells₀ 64 n cells k.loop before (record_wrong s n at k.place e))
 
-      module _ {x size w : ℕ} {after : List ℕ} {result : Bool} (e : Word x size ≡ record_of (drop at s)) (under : w ≡ word_under revision x)
+      module _ (r : Record) {w : ℕ} {after : List ℕ} {result : Bool} (e : Some r ≡ record_of (drop at s)) (under : w ≡ word_under revision r.word)
           (tested : result ≡ insertable w cells) (stored : after ≡ inserted w n cells) where
         here : w ≡ record_under n
-        here = under ∙ ap (word_under revision) (record_word s n at k.place x size e)
+        here = under ∙ ap (word_under revision) (record_word s n at k.place r e)
 
         pub octets_repeated : result ≡ false → Read after
         octets_repeated h = read (insert_loop_repeated formed record_under cells₀ 64 n cells k.loop before w after result here tested stored h)
 
-        pub octets_continue : result ≡ true → InsertedRecords revision s cells₀ (n + 1) (at + size) after
+        pub octets_continue : result ≡ true → InsertedRecords revision s cells₀ (n + 1) (at + r.size) after
         octets_continue h =
             record {
-              loop = insert_loop_continues formed record_under cells₀ 64 n cells k.loop before w after result here tested stored (record_formed s n at k.place x size e) h;
-              place = rw (add-one n) (record_next s n at k.place x size e);
-              within = record_within s n at k.place x size e;
+              loop = insert_loop_continues formed record_under cells₀ 64 n cells k.loop before w after result here tested stored (record_formed s n at k.place r e) h;
+              place = rw (add-one n) (record_next s n at k.place r e);
+              within = record_within s n at k.place r e;
             }
 
       -- A record without a mark, whose word is the same under every revision.
-      module _ {x size : ℕ} {after : List ℕ} {result : Bool} (plain : Unmarked x size) (e : Word x size ≡ record_of (drop at s))
+      module _ {x : ℕ} {after : List ℕ} {result : Bool} (plain : Unmarked (drop at s) x)
           (tested : result ≡ insertable x cells) (stored : after ≡ inserted x n cells) where
         unmarked_under : x ≡ word_under revision x
         unfolding word_under
@@ -207,5 +208,5 @@ module _ (revision : ℕ) (s cells₀ : List ℕ) where
 
         pub unmarked_continue : (next : ℕ) → next ≡ at + 8 → result ≡ true → InsertedRecords revision s cells₀ (n + 1) next after
         unmarked_continue next place h =
-            subst (λ (z : ℕ). InsertedRecords revision s cells₀ (n + 1) z after) (ap (λ (z : ℕ). at + z) plain.short ∙ sym place)
-            (octets_continue e unmarked_under tested stored h)
+            subst (λ (z : ℕ). InsertedRecords revision s cells₀ (n + 1) z after) (sym place)
+            (octets_continue (record { word = x; size = 8 }) plain.is unmarked_under tested stored h)

@@ -1,4 +1,3 @@
-pub mod Ranges
 pub mod RecordLaws
 pub mod Chains
 pub mod Meanings

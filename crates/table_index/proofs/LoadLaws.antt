@@ -9,12 +9,15 @@ use lib.ListN.{length, take, drop, get_or, set, replicate}
 use lib.Seq.{set_at, take_at, append_snoc}
 use borrow.Author.Count.{below_more}
 use Rattle.table.specs.Entry.{entry}
+use Rattle.reading.specs.declared.Fault.{Fault}
+use Rattle.reading.specs.declared.Refusal.TheVariants as Refusals
+use Rattle.table.specs.Load.{loaded as loaded_of}
 use Rattle.table.specs.Load.{in_range, place_at, well_formed, record_at, word_at, words_before, pair, seen, faulty, refused, accepted, table_of, load}
 use Rattle.table.specs.Repeat.{distinct}
-use Rattle.table.specs.declared.Loaded.{Loaded}
 use Rattle.table.proofs.Load.{length_words, words_take, words_at, place_more, well_formed_whole, well_formed_range, faulty_form, faulty_seen, faulty_late, load_whole, load_fault}
 use Rattle.table_index.specs.internal.Record.{record_of}
-use Rattle.table_index.specs.declared.record.Record.TheVariants.{Word, Wrong}
+use Rattle.table_index.specs.declared.record.Record.{Record}
+use Rattle.std.specs.Prelude.{Err, Some, None}
 use Rattle.table_index.proofs.RecordLaws.{record_wrong, record_formed, record_word, record_next, record_within}
 use Rattle.table_index.specs.internal.Cells.{prefix_length}
 use Rattle.table_index.proofs.IndexLaws.{words_within, words_apart, words_stopped}
@@ -34,34 +37,39 @@ pub records_start : (s : List ℕ) → RecordsLoop s 0 (replicate 64 0) 0
 unfolding words_before place_at
 records_start s = record { few = omega arith; formed = λ j h. absurd (omega arith); filled = refl; place = refl; within = omega arith }
 
-pub records_continue : (s : List ℕ) (n : ℕ) (words : List ℕ) (at w size : ℕ) → RecordsLoop s n words at → n < 64 → Word w size ≡ record_of (drop at s)
-    → RecordsLoop s (n + 1) (set words n w) (at + size)
+pub records_continue : (s : List ℕ) (n : ℕ) (words : List ℕ) (at : ℕ) (r : Record) → RecordsLoop s n words at → n < 64 → Some r ≡ record_of (drop at s)
+    → RecordsLoop s (n + 1) (set words n r.word) (at + r.size)
 unfolding words_before
-records_continue s n words at w size k l e =
+records_continue s n words at r k l e =
     let now : 64 - n ≡ suc (63 - n) = omega arith in
     let then : 64 - suc n ≡ 63 - n = omega arith in
     record {
       few = omega arith;
-      formed = below_more (λ (j : ℕ). well_formed (record_at s j) ≡ true) n k.formed (record_formed s n at k.place w size e);
+      formed = below_more (λ (j : ℕ). well_formed (record_at s j) ≡ true) n k.formed (record_formed s n at k.place r e);
       filled =
           rw (k.filled, now, add-one n, then)
-          (set_at (words_before s n) 0 (replicate (63 - n) 0) w n (length_words s n)
-          ∙ rw (record_word s n at k.place w size e) (sym (append_snoc (words_before s n) (word_at s n) (replicate (63 - n) 0))));
-      place = rw (add-one n) (record_next s n at k.place w size e);
-      within = record_within s n at k.place w size e;
+          (set_at (words_before s n) 0 (replicate (63 - n) 0) r.word n (length_words s n)
+          ∙ rw (record_word s n at k.place r e) (sym (append_snoc (words_before s n) (word_at s n) (replicate (63 - n) 0))));
+      place = rw (add-one n) (record_next s n at k.place r e);
+      within = record_within s n at k.place r e;
     }
 
 module _ (s : List ℕ) (n : ℕ) (words : List ℕ) (at : ℕ) (k : RecordsLoop s n words at) where
   passes : faulty s n ≡ true → Passed s n words at
   passes e = record { few = k.few; formed = k.formed; filled = k.filled; ended = k.place; stopped = λ h. e }
 
-  pub records_stop : Wrong ≡ record_of (drop at s) → Passed s n words at
+  pub records_stop : None ≡ record_of (drop at s) → Passed s n words at
   records_stop e = passes (faulty_form s n (record_wrong s n at k.place e))
 
   pub records_end : 64 ≤ n → Passed s n words at
   records_end h = passes (faulty_late s n h)
 
 -- ---- the whole
+
+-- The result for a table whose fault is at a place.
+pub refusal : (f : Fault) {place : ℕ} → f ≡ record { refusal = Refusals.Table; place = place } → {p : ℕ} → place ≡ p → loaded_of (Err f) ≡ refused p
+unfolding refused
+refusal f e q = rw (e, q) refl
 
 module _ (s words : List ℕ) (n end first : ℕ) (passed : Passed s n words end) (counted : first ≡ prefix_length 1 (take n words) (replicate 128 0)) where
   words_read : take n words ≡ words_before s n
@@ -96,16 +104,14 @@ module _ (s words : List ℕ) (n end first : ℕ) (passed : Passed s n words end
   pub repeated_within : first < n → place_at s first < length s
   repeated_within h = omega (arith, well_formed_whole s first (passed.formed first h), place_more s first)
 
-  pub repeated : {r : Loaded} {place : ℕ} → first < n → place ≡ place_at s first → r ≡ refused place → r ≡ load s
-  repeated h p e =
-      e
-      ∙ ap refused p
-      ∙ sym (load_fault s first (omega (arith, passed.few)) (λ j l. passed.formed j (omega arith)) apart (repeated_within h) (faulty_seen s first (seen_before h)))
+  pub repeated : first < n → refused (place_at s first) ≡ load s
+  repeated h =
+      sym (load_fault s first (omega (arith, passed.few)) (λ j l. passed.formed j (omega arith)) apart (repeated_within h) (faulty_seen s first (seen_before h)))
 
-  pub faulted : {r : Loaded} → n ≤ first → end < length s → r ≡ refused end → r ≡ load s
-  faulted h l e =
+  pub faulted : n ≤ first → end < length s → refused end ≡ load s
+  faulted h l =
       let before : place_at s n < length s = omega (arith, passed.ended) in
-      e ∙ ap refused passed.ended ∙ sym (load_fault s n passed.few passed.formed (all_apart h) before (passed.stopped before))
+      ap refused passed.ended ∙ sym (load_fault s n passed.few passed.formed (all_apart h) before (passed.stopped before))
 
   pub loaded : n ≤ first → length s ≤ end → record { refusal = 0; place = 0; table = record { count = n; words = words } } ≡ load s
   unfolding accepted table_of

@@ -3,19 +3,22 @@ use Prim.Native.Nat.{ℕ, suc, ◌+◌, ◌*◌, ◌≤◌, ◌<◌}
 use native.Mathlib.Nat.{add-zero}
 use native.Mathlib.Numerals.{add-one}
 use native.Mathlib.Omega.{arith}
-use mathlib.Core.Path.{◌≡◌, refl, sym, ◌∙◌}
-use mathlib.Core.Bool.{Bool, true, false, cond, ◌&&◌, ◌||◌, and-false}
+use mathlib.Core.Path.{◌≡◌, refl, sym, ap, ◌∙◌}
+use mathlib.Core.Bool.{Bool, true, false, ◌&&◌, ◌||◌, and-false}
 use mathlib.Core.List.{List, [], ◌∷◌}
 use lib.ListN.{length, take, drop, get_or, length-take, length-drop, get_or-eq_default}
 use lib.Seq.{drop-cons, drop-drop, take-take, get_or-take, get_or-drop, length-take-le}
 use lib.Dec.{eqb}
 use borrow.Author.Tests.{ne_eqb}
+use Rattle.std.specs.Int.{w64, from_be_bytes}
 use Rattle.octets.specs.Number.{big_endian}
 use Rattle.table.specs.Entry.{entry}
 use Rattle.table.specs.Load.{in_range, announced, record_size, place_at, record_at, word_of, word_at, well_formed}
 use Rattle.table.proofs.Load.{announced_front, size_least, front_cut, place_more, place_grows, well_formed_whole, well_formed_range}
 use Rattle.table_index.specs.internal.Record.{record_of, sized_word}
-use Rattle.table_index.specs.declared.record.Record.TheVariants.{Word, Wrong}
+use Rattle.table_index.specs.declared.record.Record.{Record}
+use Rattle.std.specs.Prelude.{Some, None}
+use Rattle.std.specs.Bool.{then_some}
 
 -- A slice that is not empty begins with the element at its offset.
 next : (s : List ℕ) (k at after : ℕ) → at < length s → at + 1 ≡ after → take (suc k) (drop at s) ≡ get_or s at 0 ∷ take k (drop after s)
@@ -37,10 +40,11 @@ five_octets s at h =
     )
     (omega arith)
 
--- The same for octets that were read one by one.
-pub five_read : (s : List ℕ) (at a b c d e : ℕ) → at + 5 ≤ length s → a ≡ get_or s at 0 → b ≡ get_or s (at + 1) 0 → c ≡ get_or s (at + 2) 0
-    → d ≡ get_or s (at + 3) 0 → e ≡ get_or s (at + 4) 0 → (((a * 256 + b) * 256 + c) * 256 + d) * 256 + e ≡ big_endian (take 5 (drop at s))
-five_read s at a b c d e h p q r t u = rw (p, q, r, t, u) (five_octets s at h)
+-- The same number, as `from_be_bytes` gives it.
+pub five_read : (s : List ℕ) (at n : ℕ) → at + 5 ≤ length s
+    → n ≡ from_be_bytes w64 (0 ∷ 0 ∷ 0 ∷ get_or s at 0 ∷ get_or s (at + 1) 0 ∷ get_or s (at + 2) 0 ∷ get_or s (at + 3) 0 ∷ get_or s (at + 4) 0 ∷ [])
+    → n ≡ big_endian (take 5 (drop at s))
+five_read s at n h e = omega (arith, five_octets s at h)
 
 -- The announced length by the two octets that were read.
 pub announced_read : (s : List ℕ) (at a b : ℕ) → at + 3 ≤ length s → a ≡ get_or s (at + 1) 0 → b ≡ get_or s (at + 2) 0 → a * 256 + b ≡ announced (drop at s)
@@ -73,15 +77,15 @@ nine_word (a ∷ b ∷ []) = refl
 nine_word (a ∷ b ∷ c ∷ s) = rw (take-take 5 6 s (omega arith), get_or-take 6 s 5 0 (omega arith)) refl
 
 module _ (s : List ℕ) where
-  wrong : well_formed (take (record_size s) s) ≡ false → Wrong ≡ record_of s
+  wrong : well_formed (take (record_size s) s) ≡ false → None ≡ record_of s
   unfolding record_of
   wrong e = rw e refl
 
-  front_tag : (get_or s 0 0 ≡ 1 → ⊥) → Wrong ≡ record_of s
+  front_tag : (get_or s 0 0 ≡ 1 → ⊥) → None ≡ record_of s
   unfolding well_formed
   front_tag d = wrong (rw (get_or-take (record_size s) s 0 0 (omega (arith, size_least s)), ne_eqb (get_or s 0 0) 1 d) refl)
 
-  front_length : (announced s ≡ 5 → ⊥) → (announced s ≡ 6 → ⊥) → Wrong ≡ record_of s
+  front_length : (announced s ≡ 5 → ⊥) → (announced s ≡ 6 → ⊥) → None ≡ record_of s
   unfolding well_formed
   front_length d e =
       let k = record_size s in
@@ -101,17 +105,17 @@ module _ (s : List ℕ) (at : ℕ) where
   first_is : get_or (drop at s) 0 0 ≡ get_or s at 0
   first_is = get_or-drop at s 0 0 ∙ rw (add-zero at) refl
 
-  pub wrong_short : length s < at + 8 → at ≤ length s → Wrong ≡ record_of (drop at s)
+  pub wrong_short : length s < at + 8 → at ≤ length s → None ≡ record_of (drop at s)
   wrong_short h l = wrong (drop at s) (front_cut (drop at s) (omega (arith, length-drop at s, size_least (drop at s))))
 
-  pub wrong_tag : (get_or s at 0 ≡ 1 → ⊥) → Wrong ≡ record_of (drop at s)
+  pub wrong_tag : (get_or s at 0 ≡ 1 → ⊥) → None ≡ record_of (drop at s)
   wrong_tag d = front_tag (drop at s) (λ e. d (sym first_is ∙ e))
 
   module _ {a : ℕ} (length_is : a ≡ announced (drop at s)) where
-    pub wrong_length : (a ≡ 5 → ⊥) → (a ≡ 6 → ⊥) → Wrong ≡ record_of (drop at s)
+    pub wrong_length : (a ≡ 5 → ⊥) → (a ≡ 6 → ⊥) → None ≡ record_of (drop at s)
     wrong_length d e = front_length (drop at s) (λ q. d (length_is ∙ q)) (λ q. e (length_is ∙ q))
 
-    pub wrong_cut : a ≡ 6 → length s < at + 9 → at ≤ length s → Wrong ≡ record_of (drop at s)
+    pub wrong_cut : a ≡ 6 → length s < at + 9 → at ≤ length s → None ≡ record_of (drop at s)
     unfolding record_size
     wrong_cut e h l =
         let size : record_size (drop at s) ≡ 9 = rw (← length_is, e) refl in
@@ -131,48 +135,53 @@ module _ (s : List ℕ) (at : ℕ) where
 
 -- ---- what a result says of a record
 
-record_of_wrong : (s : List ℕ) → Wrong ≡ record_of s → well_formed (take (record_size s) s) ≡ false
+record_of_wrong : (s : List ℕ) → None ≡ record_of s → well_formed (take (record_size s) s) ≡ false
 unfolding record_of
 record_of_wrong s e = go (well_formed (take (record_size s) s)) e
   where
-    go : (t : Bool) → Wrong ≡ cond t (Word (word_of (take (record_size s) s)) (record_size s)) Wrong → t ≡ false
+    read : Record
+    read = record { word = word_of (take (record_size s) s); size = record_size s }
+
+    go : (t : Bool) → None ≡ then_some t read → t ≡ false
     go true q = let z : ◌≡◌ {A = ℕ} 0 1 = cc in absurd (omega arith)
     go false q = refl
 
-record_of_word : (s : List ℕ) (w size : ℕ) → Word w size ≡ record_of s
-    → (well_formed (take (record_size s) s) ≡ true) × (w ≡ word_of (take (record_size s) s)) × (size ≡ record_size s)
+record_of_word : (s : List ℕ) (r : Record) → Some r ≡ record_of s
+    → (well_formed (take (record_size s) s) ≡ true) × (r.word ≡ word_of (take (record_size s) s)) × (r.size ≡ record_size s)
 unfolding record_of
-record_of_word s w size e = go (well_formed (take (record_size s) s)) e
+record_of_word s r e = go (well_formed (take (record_size s) s)) e
   where
-    go : (t : Bool) → Word w size ≡ cond t (Word (word_of (take (record_size s) s)) (record_size s)) Wrong
-        → (t ≡ true) × (w ≡ word_of (take (record_size s) s)) × (size ≡ record_size s)
-    go true q = (refl, cc, cc)
+    read : Record
+    read = record { word = word_of (take (record_size s) s); size = record_size s }
+
+    go : (t : Bool) → Some r ≡ then_some t read → (t ≡ true) × (r.word ≡ read.word) × (r.size ≡ read.size)
+    go true q = let p : r ≡ read = cc in (refl, ap (λ (x : Record). x.word) p, ap (λ (x : Record). x.size) p)
     go false q = let z : ◌≡◌ {A = ℕ} 0 1 = cc in absurd (omega arith)
 
 -- The record at n, read at its place.
 module _ (s : List ℕ) (n at : ℕ) (place : at ≡ place_at s n) where
-  pub record_wrong : Wrong ≡ record_of (drop at s) → well_formed (record_at s n) ≡ false
+  pub record_wrong : None ≡ record_of (drop at s) → well_formed (record_at s n) ≡ false
   unfolding record_at
   record_wrong e = rw (← place) (record_of_wrong (drop at s) e)
 
-  module _ (w size : ℕ) (e : Word w size ≡ record_of (drop at s)) where
+  module _ (r : Record) (e : Some r ≡ record_of (drop at s)) where
     pub record_formed : well_formed (record_at s n) ≡ true
     unfolding record_at
-    record_formed = rw (← place) (record_of_word (drop at s) w size e).0
+    record_formed = rw (← place) (record_of_word (drop at s) r e).0
 
-    pub record_word : w ≡ word_at s n
+    pub record_word : r.word ≡ word_at s n
     unfolding word_at record_at
-    record_word = rw (← place) (record_of_word (drop at s) w size e).1
+    record_word = rw (← place) (record_of_word (drop at s) r e).1
 
-    pub record_range : in_range (entry w) ≡ true
+    pub record_range : in_range (entry r.word) ≡ true
     record_range = rw record_word (well_formed_range s n record_formed)
 
     -- The next record begins after it, and the octets do not end before that.
-    pub record_next : at + size ≡ place_at s (suc n)
+    pub record_next : at + r.size ≡ place_at s (suc n)
     unfolding place_at
-    record_next = rw (← place, (record_of_word (drop at s) w size e).2) refl
+    record_next = rw (← place, (record_of_word (drop at s) r e).2) refl
 
-    pub record_within : at + size ≤ length s
+    pub record_within : at + r.size ≤ length s
     record_within = rw record_next (well_formed_whole s n record_formed)
 
 -- ---- place after place

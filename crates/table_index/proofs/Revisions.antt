@@ -2,10 +2,9 @@
 use Prim.Native.Nat.{ℕ, zero, suc, ◌*◌, ◌/◌, ◌%◌}
 use native.Mathlib.Omega.{arith}
 use mathlib.Core.Path.{◌≡◌, refl, sym, ap, ◌∙◌}
-use mathlib.Core.Bool.{Bool, true, false, cond, not, ◌&&◌, and-false}
+use mathlib.Core.Bool.{Bool, true, false, cond, ◌&&◌, and-false}
 use mathlib.Core.List.{List, [], ◌∷◌, map, map-append}
 use lib.Dec.{eqb, leb, ltb}
-use borrow.Author.Tests.{not-false}
 use Rattle.table.specs.Entry.{Entry, entry, meaning, find, marked_single}
 use Rattle.table.specs.Load.{in_range, pair, seen}
 use Rattle.table.specs.Repeat.{distinct}
@@ -52,8 +51,8 @@ module _ (revision : ℕ) where
           rw (and_left unmarked (ltb e.mark 2) h) refl
 
   -- The same by a test of the word that was made before.
-  pub range_read : (w : ℕ) {x : ℕ} {tested : Bool} → x ≡ word_under revision w → tested ≡ in_range (entry w) → not tested ≡ false → in_range (entry x) ≡ true
-  range_read w {x} {tested} e f h = rw e (range_under w (sym f ∙ not-false tested h))
+  pub range_read : (w : ℕ) {x : ℕ} {tested : Bool} → x ≡ word_under revision w → tested ≡ in_range (entry w) → tested ≡ true → in_range (entry x) ≡ true
+  range_read w e f h = rw e (range_under w (sym f ∙ h))
 
   -- It has the same pair,
   pub pair_under : (w : ℕ) → pair (word_under revision w) ≡ pair w

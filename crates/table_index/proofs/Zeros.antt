@@ -1,12 +1,10 @@
--- The loop invariant of testing whether words are all 0, by the disjunction of their bits.
-use Prim.Native.Nat.{ℕ, suc, ◌+◌, ◌≤◌, ◌<◌}
-use native.Mathlib.Numerals.{add-one}
+-- Words are all 0 if the disjunction of their bits is.
+use Prim.Native.Nat.{ℕ, ◌+◌, ◌≤◌}
 use native.Mathlib.Omega.{arith}
-use mathlib.Core.Path.{◌≡◌, refl, sym}
+use mathlib.Core.Path.{◌≡◌, refl, sym, ◌∙◌}
 use mathlib.Core.Bool.{Bool, true, false, ◌&&◌, and-true, and_assoc}
-use mathlib.Core.List.{List}
-use lib.ListN.{length, drop, get_or, drop_of_length-le}
-use lib.Seq.{drop-cons}
+use mathlib.Core.List.{List, [], ◌∷◌}
+use Rattle.std.specs.List.{fold}
 use lib.Dec.{eqb}
 use lib.Bits.{bit_and, bit_or, or_add_and, and_le_l, and_le_r}
 use borrow.Author.Tests.{eqb-true, eqb-false, eq-eqb, ne_eqb}
@@ -30,13 +28,9 @@ or_zero a b = go (eqb a 0) refl (eqb b 0) refl
     go true p false q = ne_eqb (bit_or a b) 0 (λ e. eqb-false b 0 q (omega (arith, sum, first)))
     go false p t q = ne_eqb (bit_or a b) 0 (λ e. eqb-false a 0 p (omega (arith, sum, second)))
 
-pub zero_ends : (words : List ℕ) (i bits : ℕ) → length words ≤ i → eqb bits 0 && all_zero (drop i words) ≡ eqb bits 0
+-- Words are all 0 if the disjunction of their bits is.
+pub joined_zero : (ws : List ℕ) (bits : ℕ) → eqb (fold (λ b w. bit_or b w) bits ws) 0 ≡ eqb bits 0 && all_zero ws
 unfolding all_zero
-zero_ends words i bits l = rw (drop_of_length-le words {i = i} l) (and-true (eqb bits 0))
-
-pub zero_moves : (words : List ℕ) (i bits : ℕ) → i < length words
-    → eqb bits 0 && all_zero (drop i words) ≡ eqb (bit_or bits (get_or words i 0)) 0 && all_zero (drop (i + 1) words)
-unfolding all_zero
-zero_moves words i bits l =
-    rw (drop-cons words i 0 l, or_zero bits (get_or words i 0), add-one i)
-    (sym (and_assoc (eqb bits 0) (eqb (get_or words i 0) 0) (all_zero (drop (suc i) words))))
+joined_zero [] bits = sym (and-true (eqb bits 0))
+joined_zero (w ∷ ws) bits =
+    joined_zero ws (bit_or bits w) ∙ rw (or_zero bits w) (and_assoc (eqb bits 0) (eqb w 0) (all_zero ws))

@@ -4,26 +4,28 @@
 
 mod record;
 
-ghost use Rattle.std.specs.Prelude.{◌≡◌, true, List, ℕ, ◌*◌, ◌%◌, ◌^◌, ◌≤◌, ◌<◌, min, eqb, length, take, drop};
+ghost use Rattle.std.specs.Prelude.{◌≡◌, true, List, ℕ, ◌*◌, ◌%◌, ◌^◌, ◌≤◌, ◌<◌, min, eqb, length, take, drop, bit_or};
+ghost use Rattle.std.specs.List.{fold};
 ghost use Rattle.table.specs.Entry.{entry, kind_number};
-ghost use Rattle.table.specs.Load.{in_range, place_at, record_at, word_at, well_formed, load as load_of, refused as refused-at};
+ghost use Rattle.table.specs.Load.{in_range, place_at, record_at, word_at, well_formed, load as load_of, loaded};
 ghost use Rattle.table.specs.Mask.{has_bit, with_bit};
 ghost use Rattle.table.specs.Schema.{is_revision};
 ghost use Rattle.table.specs.Valid.{all_zero, valid as valid-of};
 ghost use Rattle.table_index.specs.internal.Pass.{InsertedRecords, IndexEnds};
 ghost use Rattle.table_index.specs.internal.Cells.{word_key, bucket_of, cell_of, word_under, code_in, meaning_in, single_in, order_in, next_in, chase, search, insertable, linked, inserted, inserted_before, prefix_end, prefix_length, inserted_words, all_inserted, cell_for, indexed};
 
-use record::Record;
-use table::{Loaded, Meaning, Table};
+use reading::{Fault, Refusal};
+use table::{Meaning, Table};
 
 // Returns the message number, or 16 for every number from 16 on. These have no entries, so they can share their keys.
 fn capped(number: u64) -> u64
     ensures { result ≡ min number 16 }
 {
-    if number < 16 { number } else { 16 }
+    number.min(16)
 }
 
 // Returns the bucket of a key.
+#[tactic(auto, unfolding(crate::specs::internal::Cells::bucket_of))]
 fn bucket(key: u64) -> usize
     requires { key < 2 ^ 21 }
     ensures { result ≡ bucket_of key }
@@ -31,18 +33,12 @@ fn bucket(key: u64) -> usize
     ((key / 65536 * 45 + key) % 64) as usize
 }
 
-// Returns the same number with 64 bits.
-fn wide(x: u32) -> u64
-    ensures { result ≡ x }
-{
-    x as u64
-}
-
 // Returns the next cell of a chain, 0 at its end. The order falls along a chain. Arbitrary cells may break this: there the chain ends.
+#[tactic(auto, unfolding(crate::specs::internal::Cells::next_in))]
 fn next(cells: &[u32; 128], c: u64) -> u64
     ensures { result ≡ next_in cells.now c }
 {
-    let n = wide(cells[(64 + c % 64) as usize]);
+    let n = u64::from(cells[(64 + c % 64) as usize]);
     if c % 64 <= n % 64 {
         return 0;
     }
@@ -50,6 +46,7 @@ fn next(cells: &[u32; 128], c: u64) -> u64
 }
 
 // Returns the cell with a key in the chain that begins with a cell, or 0 if there is none.
+// Kept: only a cell says which one comes after it; for this one loop an iterator over a chain would be a struct with a `next` of its own.
 fn follow(cells: &[u32; 128], key: u64, first: u64) -> u64
     ensures { result ≡ chase 64 cells.now key first }
 {
@@ -87,7 +84,7 @@ fn lacks(cells: &[u32; 128], key: u64) -> bool
     requires { key < 2 ^ 21 }
     ensures { result ≡ eqb (search cells.now key) 0 }
 {
-    let head = wide(cells[bucket(key)]);
+    let head = u64::from(cells[bucket(key)]);
     if head == 0 {
         return true;
     }
@@ -122,6 +119,7 @@ fn insert(w: u64, i: usize, cells: &mut [u32; 128]) -> bool
 }
 
 // Returns a word under a revision: under revision 1 it has the mark 0.
+#[tactic(auto, unfolding(crate::specs::internal::Cells::word_under))]
 fn under(revision: u64, w: u64) -> u64
     ensures { result ≡ word_under revision w }
 {
@@ -133,19 +131,16 @@ fn under(revision: u64, w: u64) -> u64
 fn index_unmarked(table: &[u8], cells: &mut [u32; 128]) -> usize
     ensures { (revision : ℕ) → InsertedRecords revision table.now cells.old result (result * 8) cells.new }
 {
-    let most = numbers::smaller(64, table.len() / 8);
-    let mut n: usize = 0;
-    while n < most {
-        let r = record::unmarked_at(table, n * 8);
-        let Record::Word { word, size: _ } = r else {
+    let most = (table.len() / 8).min(64);
+    for n in 0..most {
+        let Some(word) = record::unmarked_at(table, n * 8) else {
             return n;
         };
         if !insert(word, n, cells) {
             return n;
         }
-        n += 1;
     }
-    n
+    most
 }
 
 // Inserts the other records. The first ones are inserted already and have eight octets each. Returns the place of the first faulty record.
@@ -153,18 +148,15 @@ fn index_from(table: &[u8], first: usize, revision: u64, cells: &mut [u32; 128])
     requires { (first * 8 ≡ place_at table.now first) × (first * 8 ≤ length table.now) }
     ensures { (cells₀ : List ℕ) → InsertedRecords revision table.now cells₀ first (first * 8) cells.old → IndexEnds revision table.now cells₀ result cells.new }
 {
-    let mut n: usize = first;
     let mut at: usize = first * 8;
-    while n < 64 {
-        let r = record::record_at(table, at);
-        let Record::Word { word, size } = r else {
+    for n in first..64 {
+        let Some(record) = record::record_at(table, at) else {
             return at;
         };
-        if !insert(under(revision, word), n, cells) {
+        if !insert(under(revision, record.word), n, cells) {
             return at;
         }
-        n += 1;
-        at += size;
+        at += record.size;
     }
     at
 }
@@ -181,11 +173,12 @@ pub fn index(table: &[u8], revision: u64, cells: &mut [u32; 128]) -> usize
 
 // Does the same for words, of which it inserts at most 64, and returns how many it inserted. The inner loop runs over the earlier entries in the
 // bucket of a word. The first one with the same pair ends both loops.
+// Kept: document 01 names this form: two nested loops, left from inside by a label with the place.
 fn insert_words(words: &[u64], revision: u64, cells: &mut [u32; 128]) -> usize
     ensures value { result ≡ prefix_length revision words.now cells.old }
     ensures cells_after { cells.new ≡ inserted_words revision words.now cells.old }
 {
-    let most = numbers::smaller(64, words.len());
+    let most = words.len().min(64);
     let mut n: usize = 0;
     'words: loop {
         if most <= n {
@@ -196,7 +189,7 @@ fn insert_words(words: &[u64], revision: u64, cells: &mut [u32; 128]) -> usize
         }
         let w = under(revision, words[n]);
         let key = word_key(w);
-        let mut c = wide(cells[bucket(key)]);
+        let mut c = u64::from(cells[bucket(key)]);
         while c != 0 {
             if c >> 12 == key {
                 break 'words n;
@@ -213,21 +206,22 @@ fn index_words(words: &[u64], count: usize, revision: u64, cells: &mut [u32; 128
     ensures value { result ≡ prefix_length revision (take count words.now) cells.old }
     ensures cells_after { cells.new ≡ inserted_words revision (take count words.now) cells.old }
 {
-    let n = numbers::smaller(count, words.len());
+    let n = count.min(words.len());
     insert_words(&words[0..n], revision, cells)
 }
 
-// Returns whether the words from n on are all 0. The loop has no test inside, so the compiler can vectorize it.
+// Returns the disjunction of words. The fold has no test inside, so the compiler can vectorize it.
+fn joined(words: &[u64]) -> u64
+    ensures { result ≡ fold (λ b w. bit_or b w) 0 words.now }
+{
+    words.iter().fold(0, |bits, word| bits | *word)
+}
+
+// Returns whether the words from n on are all 0.
 pub fn unused(words: &[u64], n: usize) -> bool
     ensures { result ≡ all_zero (drop n words.now) }
 {
-    let mut bits: u64 = 0;
-    let mut i = n;
-    while i < words.len() {
-        bits = bits | words[i];
-        i += 1;
-    }
-    bits == 0
+    joined(&words[n.min(words.len())..]) == 0
 }
 
 // Inserts the words of a table value under a revision. Returns whether all were inserted and the unused words are 0. If the cells were cleared
@@ -252,30 +246,24 @@ pub fn valid(t: Table) -> bool
 }
 
 // Returns whether a number is one of the profile's revisions.
+#[tactic(auto, unfolding(table::specs::Schema::is_revision))]
 pub fn is_revision(revision: u64) -> bool
     ensures { result ≡ is_revision revision }
 {
     revision == 1 || revision == 2
 }
 
-// Returns the refusal of a table whose fault is at a place.
-fn refused(place: u64) -> Loaded
-    ensures { result ≡ refused-at place }
+// Returns the fault of a table at a place.
+fn fault_at(place: usize) -> Fault
+    ensures { result ≡ record { refusal = Refusal.Table; place = place } }
 {
-    Loaded {
-        refusal: reading::TABLE,
-        place,
-        table: Table {
-            count: 0,
-            words: [0u64; 64],
-        },
-    }
+    Refusal::Table.at(place as u64)
 }
 
 // Loads a table from its octets, or rejects it at its first faulty record. A repeated pair among the well-formed records comes before the
 // record at which they end, so it is tested first.
-pub fn load(s: &[u8]) -> Loaded
-    ensures { result ≡ load_of s.now }
+pub fn load(s: &[u8]) -> Result<Table, Fault>
+    ensures { loaded result ≡ load_of s.now }
 {
     let prefix = record::records(s);
     let table = prefix.table;
@@ -283,20 +271,17 @@ pub fn load(s: &[u8]) -> Loaded
     let mut cells = [0u32; 128];
     let first = index_words(&table.words, n, 1, &mut cells);
     if first < n {
-        return refused(record::place_at(s, first) as u64);
+        return Err(fault_at(record::place_at(s, first)));
     }
     if prefix.end < s.len() {
-        return refused(prefix.end as u64);
+        return Err(fault_at(prefix.end));
     }
-    Loaded {
-        refusal: 0,
-        place: 0,
-        table,
-    }
+    Ok(table)
 }
 
 // Returns the cell of a message number and a tag, or 0 if there is none. Most tags have the first cell of their chain, so that is tested
 // before the search. The key's number and tag are at hand, so the bucket is computed from them.
+// Kept: a number, with 0 for none. `code`, `single` and `meaning` read the cell 0 as raw and not single, so callers need no test.
 pub fn cell(cells: &[u32; 128], number: u64, tag: u64) -> u64
     ensures { result ≡ cell_for cells.now number tag }
 {
@@ -305,7 +290,7 @@ pub fn cell(cells: &[u32; 128], number: u64, tag: u64) -> u64
     }
     let n = capped(number);
     let key = n * 65536 + tag;
-    let c = wide(cells[((n * 45 + tag) % 64) as usize]);
+    let c = u64::from(cells[((n * 45 + tag) % 64) as usize]);
     if c >> 12 == key {
         return c;
     }
@@ -313,6 +298,7 @@ pub fn cell(cells: &[u32; 128], number: u64, tag: u64) -> u64
 }
 
 // Returns the code of a cell's kind: 0 to 4 for raw, uint, int, string and text, 5 + m for a message with the number m.
+#[tactic(auto, unfolding(crate::specs::internal::Cells::code_in))]
 pub fn code(cell: u64) -> u64
     ensures { result ≡ code_in cell }
 {
@@ -320,6 +306,7 @@ pub fn code(cell: u64) -> u64
 }
 
 // Returns whether the tag of a cell is single.
+#[tactic(auto, unfolding(crate::specs::internal::Cells::single_in))]
 pub fn single(cell: u64) -> bool
     ensures { result ≡ single_in cell }
 {
@@ -327,6 +314,7 @@ pub fn single(cell: u64) -> bool
 }
 
 // Returns the kind in a cell.
+#[tactic(auto, unfolding(crate::specs::internal::Cells::meaning_in, crate::specs::internal::Cells::meaning_of, crate::specs::internal::Cells::code_in))]
 pub fn meaning(cell: u64) -> Meaning
     ensures { result ≡ meaning_in cell }
 {
@@ -342,6 +330,7 @@ pub fn meaning(cell: u64) -> Meaning
 }
 
 // Returns the order, counted from 0, in which the entry of a cell stands in the table.
+#[tactic(auto, unfolding(crate::specs::internal::Cells::order_in))]
 pub fn order(cell: u64) -> u64
     ensures { result ≡ order_in cell }
 {
@@ -370,6 +359,7 @@ pub fn find(cells: &[u32; 128], number: u64, tag: u64) -> Meaning
 }
 
 // Returns the number of a kind, 0 for raw.
+#[tactic(auto, unfolding(table::specs::Entry::kind_number))]
 pub fn kind_number(kind: Meaning) -> u64
     ensures { result ≡ kind_number kind }
 {

@@ -1,19 +1,18 @@
 // Reads the records in the octets of a field table.
-ghost use Rattle.std.specs.Prelude.{◌≡◌, ℕ, ◌+◌, ◌^◌, ◌≤◌, ◌<◌, length, take, drop, get_or};
+ghost use Rattle.std.specs.Prelude.{◌≡◌, ℕ, IfSome, ◌+◌, ◌%◌, ◌^◌, ◌≤◌, ◌<◌, length, take, drop, get_or};
 ghost use Rattle.octets.specs.Number.{big_endian};
 ghost use Rattle.table.specs.Entry.{entry};
 ghost use Rattle.table.specs.Load.{in_range, announced as announced-of, record_size, place_at};
 ghost use Rattle.table_index.specs.internal.Pass.{Passed};
 ghost use Rattle.table_index.specs.internal.Record.{record_of, sized_word, Unmarked};
-ghost use Rattle.table_index.specs.declared.record.Record.TheVariants.{Word};
 
 use table::Table;
 
-// The word of a record and the number of its octets, or `Wrong` for a record that is not well-formed.
+// A well-formed record: the word of its entry, and the number of its octets.
 #[derive(Clone, Copy)]
-pub(crate) enum Record {
-    Word { word: u64, size: usize },
-    Wrong,
+pub(crate) struct Record {
+    pub(crate) word: u64,
+    pub(crate) size: usize,
 }
 
 // The well-formed records at the start of octets: their table, and the place after them.
@@ -24,6 +23,7 @@ pub(crate) struct Prefix {
 }
 
 // Returns whether the entry in a word is in range. The inner number is 0 for every kind but 5, which allows 0 to 15. The mark is 0 or 1.
+#[tactic(auto, unfolding(table::specs::Load::in_range, table::specs::Entry::entry))]
 pub(crate) fn in_range(w: u64) -> bool
     ensures { result ≡ in_range (entry w) }
 {
@@ -48,23 +48,12 @@ pub(crate) fn in_range(w: u64) -> bool
     kind < 6
 }
 
-// Returns a word and a size as a record, or `Wrong` if the entry in the word is not in range.
-fn sized_word(word: u64, size: usize) -> Record
+// Returns the record of a word and a size, if the entry in the word is in range.
+#[tactic(auto, unfolding(crate::specs::internal::Record::sized_word))]
+fn sized_word(word: u64, size: usize) -> Option<Record>
     ensures { result ≡ sized_word word size }
 {
-    if in_range(word) {
-        Record::Word { word, size }
-    } else {
-        Record::Wrong
-    }
-}
-
-// Returns the octet at an offset.
-fn octet_at(s: &[u8], at: usize) -> u64
-    requires { at < length s.now }
-    ensures { (result ≡ get_or s.now at 0) × (result < 256) }
-{
-    numbers::wide(s[at])
+    in_range(word).then_some(Record { word, size })
 }
 
 // Returns the number in the five octets from an offset on, the most significant octet first.
@@ -72,10 +61,7 @@ fn five(s: &[u8], at: usize) -> u64
     requires { at + 5 ≤ length s.now }
     ensures { (result ≡ big_endian (take 5 (drop at s.now))) × (result < 2 ^ 40) }
 {
-    let a = octet_at(s, at) * 256 + octet_at(s, at + 1);
-    let b = a * 256 + octet_at(s, at + 2);
-    let c = b * 256 + octet_at(s, at + 3);
-    c * 256 + octet_at(s, at + 4)
+    u64::from_be_bytes([0, 0, 0, s[at], s[at + 1], s[at + 2], s[at + 3], s[at + 4]])
 }
 
 // Returns the length that the record at an offset announces.
@@ -83,20 +69,20 @@ fn announced(s: &[u8], at: usize) -> u64
     requires { at + 3 ≤ length s.now }
     ensures { result ≡ announced-of (drop at s.now) }
 {
-    octet_at(s, at + 1) * 256 + octet_at(s, at + 2)
+    u64::from(s[at + 1]) * 256 + u64::from(s[at + 2])
 }
 
-// Returns the record at an offset. A record of length 5 has no mark, so its word has the mark 0.
-pub(crate) fn record_at(s: &[u8], at: usize) -> Record
+// Returns the record at an offset, if it is well-formed. A record of length 5 has no mark, so its word has the mark 0.
+pub(crate) fn record_at(s: &[u8], at: usize) -> Option<Record>
     requires { at ≤ length s.now }
     ensures { result ≡ record_of (drop at s.now) }
 {
     let remaining = s.len() - at;
     if remaining < 8 {
-        return Record::Wrong;
+        return None;
     }
     if s[at] != 1 {
-        return Record::Wrong;
+        return None;
     }
     let length = announced(s, at);
     let unmarked = five(s, at + 3) * 256;
@@ -104,30 +90,22 @@ pub(crate) fn record_at(s: &[u8], at: usize) -> Record
         return sized_word(unmarked, 8);
     }
     if length != 6 {
-        return Record::Wrong;
+        return None;
     }
-    if remaining < 9 {
-        return Record::Wrong;
-    }
-    sized_word(unmarked + octet_at(s, at + 8), 9)
+    let mark = s.get(at + 8)?;
+    sized_word(unmarked + u64::from(*mark), 9)
 }
 
-// Returns the record at an offset, if it is well-formed and has no mark; else `Wrong`. `record_at` does the same for every record, but takes
-// longer.
-pub(crate) fn unmarked_at(s: &[u8], at: usize) -> Record
+// Returns the word of the record at an offset, if it is well-formed and has no mark. `record_at` reads every record, but takes longer.
+pub(crate) fn unmarked_at(s: &[u8], at: usize) -> Option<u64>
     requires { at + 8 ≤ length s.now }
-    ensures { (word size : ℕ) → result ≡ Word word size → Unmarked word size × (Word word size ≡ record_of (drop at s.now)) }
+    ensures { IfSome result (Unmarked (drop at s.now)) }
 {
-    if s[at] != 1 {
-        return Record::Wrong;
+    if s[at] != 1 || s[at + 1] != 0 || s[at + 2] != 5 {
+        return None;
     }
-    if s[at + 1] != 0 {
-        return Record::Wrong;
-    }
-    if s[at + 2] != 5 {
-        return Record::Wrong;
-    }
-    sized_word(five(s, at + 3) * 256, 8)
+    let word = five(s, at + 3) * 256;
+    in_range(word).then_some(word)
 }
 
 // Returns the records before the first one that is not well-formed, and at most 64.
@@ -135,27 +113,25 @@ pub(crate) fn records(s: &[u8]) -> Prefix
     ensures { Passed s.now result.table.count result.table.words result.end }
 {
     let mut words = [0u64; 64];
-    let mut n: usize = 0;
     let mut at: usize = 0;
-    while n < 64 {
-        let r = record_at(s, at);
-        let Record::Word { word, size } = r else {
+    for n in 0..64 {
+        let Some(record) = record_at(s, at) else {
             return Prefix {
                 table: Table { count: n, words },
                 end: at,
             };
         };
-        words[n] = word;
-        n += 1;
-        at += size;
+        words[n] = record.word;
+        at += record.size;
     }
     Prefix {
-        table: Table { count: n, words },
+        table: Table { count: 64, words },
         end: at,
     }
 }
 
 // Returns how many octets the record at an offset has, by the length that it announces.
+#[tactic(auto, unfolding(table::specs::Load::record_size))]
 fn size_at(s: &[u8], at: usize) -> usize
     requires { at + 3 ≤ length s.now }
     ensures { result ≡ record_size (drop at s.now) }
@@ -169,10 +145,8 @@ pub(crate) fn place_at(s: &[u8], i: usize) -> usize
     ensures { result ≡ place_at s.now i }
 {
     let mut at: usize = 0;
-    let mut n: usize = 0;
-    while n < i {
+    for _n in 0..i {
         at += size_at(s, at);
-        n += 1;
     }
     at
 }

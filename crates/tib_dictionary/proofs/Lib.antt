@@ -6,3 +6,4 @@ pub mod Cells
 pub mod EntryRecords
 pub mod Records
 pub mod Valid
+pub mod Searches

@@ -18,12 +18,11 @@ use Rattle.table.proofs.Valid.{zeros, zeros_are}
 use Rattle.tib_field.specs.Fields.{joined, EachAfter}
 use Rattle.tib_dictionary.specs.Entry.{in_range, has, word_of, entry, entries}
 use Rattle.tib_dictionary.specs.Load as loads
-use Rattle.tib_dictionary.specs.Load.{loading, dictionary_of, load, result, Loadable}
+use Rattle.tib_dictionary.specs.Load.{Loaded, loading, dictionary_of, load, result, Loadable}
 use Rattle.tib_dictionary.specs.Valid.{all_good, valid}
 use Rattle.tib_dictionary.specs.Records.{record_of, Continues}
 use Rattle.tib_dictionary.specs.declared.Entry.{Entry}
 use Rattle.tib_dictionary.specs.declared.Dictionary.{Dictionary}
-use Rattle.tib_dictionary.specs.declared.Loaded.{Loaded}
 use Rattle.tib_dictionary.proofs.Ranges.{bounds}
 use Rattle.tib_dictionary.proofs.GoodEntries.{good_all, good_each, each_good, each_few}
 use Rattle.tib_dictionary.proofs.EntryRecords.{record_octets}

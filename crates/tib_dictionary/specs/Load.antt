@@ -1,14 +1,14 @@
 -- Loading a dictionary from octets. A dictionary is a sequence of records. A record is the tag 02, the length 00 05 and an entry of five octets:
 -- the fid on two octets, the type on one, the size on two.
-use Rattle.std.specs.Prelude.{ℕ, zero, suc, ◌+◌, ◌-◌, ◌≡◌, Bool, cond, not, ◌&&◌, List, [], ◌∷◌, ◌++◌, map, length, take, drop, replicate, get_or, eqb, leb, ltb}
+use Rattle.std.specs.Prelude.{Result, Ok, Err, ℕ, zero, suc, ◌+◌, ◌-◌, ◌≡◌, Bool, cond, not, ◌&&◌, List, [], ◌∷◌, ◌++◌, map, length, take, drop, replicate, get_or, eqb, leb, ltb}
 use Rattle.octets.specs.Number.{big_endian, Octets}
 use Rattle.reading.specs.Reading as readings
 use Rattle.reading.specs.Reading.{Reading, on_accepted}
 use Rattle.reading.specs.Refusals as refusals
+use Rattle.reading.specs.declared.Fault.{Fault}
 use Rattle.tib_dictionary.specs.Entry.{in_range, has, word_of}
 use Rattle.tib_dictionary.specs.declared.Entry.{Entry}
 use Rattle.tib_dictionary.specs.declared.Dictionary.{Dictionary}
-use Rattle.tib_dictionary.specs.declared.Loaded.{Loaded}
 
 -- Whether octets begin with a record: the tag, the length, and five octets more.
 unfoldable pub formed : List ℕ → Bool
@@ -39,12 +39,23 @@ loading s = load_from [] (suc (length s)) 0 s
 unfoldable pub dictionary_of : List Entry → Dictionary
 dictionary_of es = record { count = length es; words = map word_of es ++ replicate (512 - length es) 0 }
 
+-- The loader's result: a refusal (0 if the dictionary is accepted), the place of the fault, and the dictionary, which is empty after a refusal.
+pub record Loaded : Type 0 where
+  pub refusal : ℕ
+  pub place : ℕ
+  pub dictionary : Dictionary
+
 -- The result for a dictionary that is accepted, and for one that is refused.
 unfoldable pub accepted : List Entry → Loaded
 accepted es = record { refusal = 0; place = 0; dictionary = dictionary_of es }
 
 unfoldable pub refused : ℕ → ℕ → Loaded
 refused reason place = record { refusal = reason; place = place; dictionary = dictionary_of [] }
+
+-- The loader's result, by what the function that loads returns.
+abbrev pub loaded : Result Dictionary Fault → Loaded
+loaded (Ok d) = record { refusal = 0; place = 0; dictionary = d }
+loaded (Err f) = record { refusal = refusals.number f.refusal; place = f.place; dictionary = dictionary_of [] }
 
 -- The result of loading octets.
 unfoldable pub result : Reading (List Entry) → Loaded

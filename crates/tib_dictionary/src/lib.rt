@@ -12,16 +12,9 @@ pub struct Entry {
 
 // The entries of a dictionary, in the order in which they were loaded. The lowest 40 bits of a word are, from the highest to the lowest, an
 // entry's fid (16 bits), type (8 bits) and size (16 bits); the others are 0. The loader sets the words beyond the count to 0.
+// Kept: an array with a count beside it, since the library uses no heap, and callers pass any values: 513 entries, which are rejected.
 #[derive(Clone, Copy)]
 pub struct Dictionary {
     pub count: usize,
     pub words: [u64; 512],
-}
-
-// The loader's result: a refusal (0 if the dictionary is accepted), the place of the fault, and the dictionary, which is empty after a refusal.
-#[derive(Clone, Copy)]
-pub struct Loaded {
-    pub refusal: u64,
-    pub place: u64,
-    pub dictionary: Dictionary,
 }

@@ -1,21 +1,24 @@
 -- The loop invariants of noting records and of noting words.
-use Prim.Native.Nat.{ℕ, zero, suc, ◌+◌, ◌*◌, ◌≤◌, ◌<◌, min}
+use Prim.Native.Nat.{ℕ, zero, suc, ◌+◌, ◌-◌, ◌*◌, ◌/◌, ◌≤◌, ◌<◌, min}
 use native.Mathlib.Omega.{arith}
 use mathlib.Core.Path.{◌≡◌, refl, sym, ap, ◌∙◌}
 use mathlib.Core.Bool.{Bool, true, false, ◌&&◌, and-false}
 use mathlib.Core.List.{List}
-use lib.ListN.{length, take, drop, get_or, length-drop}
-use lib.Seq.{drop-drop}
-use borrow.Author.Tests.{le-leb, lt-leb}
-use Rattle.table.specs.Valid.{all_zero}
-use Rattle.table.proofs.Lists.{rest_at, rest_end, take_min}
+use native.Mathlib.Numerals.{add-one}
+use lib.ListN.{length, drop, get_or, length-drop, drop_of_length-le}
+use lib.Seq.{drop-cons, drop-drop}
+use borrow.Author.Tests.{lt-leb}
 use Rattle.tib_dictionary.specs.Entry.{entry}
 use Rattle.tib_dictionary.specs.Load.{formed, entry_of}
-use Rattle.tib_dictionary.specs.internal.Cells.{can_note, with_entry, note_from, note_all, all_noted, cells_after}
+use Rattle.tib_dictionary.specs.internal.Cells.{can_note, with_entry, note_from, note_all}
 use Rattle.tib_dictionary.specs.declared.Entry.{Entry}
 use Rattle.tib_dictionary.proofs.Formed.{form}
 
 -- ---- records
+
+too_short : (s : List ℕ) (at : ℕ) → at ≤ length s → length s < at + 8 → formed (drop at s) ≡ false
+unfolding formed
+too_short s at l h = rw (length-drop at s, lt-leb 8 (length s - at) (omega arith)) refl
 
 -- The records from a place on, of which `left` may still be noted, decide what is noted of all.
 pub record RecordLoop (most : ℕ) (s cells₀ : List ℕ) (at : ℕ) (cells : List ℕ) : Type 0 where
@@ -54,9 +57,6 @@ module _ (most : ℕ) (s cells₀ : List ℕ) (at : ℕ) (cells : List ℕ) (l :
       let k = records_stop h (rw (← is, n) (and-false (formed (drop at s)))) in
       (k.0, same ∙ k.1)
 
-  pub record_inside : formed (drop at s) ≡ true → at + 8 ≤ length s
-  record_inside f = omega (arith, (form (drop at s) f).whole, length-drop at s, l.within)
-
   -- It is noted.
   pub records_next : at < 8 * most → formed (drop at s) ≡ true → (e : Entry) → e ≡ entry_of (drop at s) → can_note cells e ≡ true
       → (cells' : List ℕ) → cells' ≡ with_entry e cells → RecordLoop most s cells₀ (at + 8) cells'
@@ -73,70 +73,48 @@ module _ (most : ℕ) (s cells₀ : List ℕ) (at : ℕ) (cells : List ℕ) (l :
           record {
             left = n;
             reached = omega arith;
-            within = record_inside f;
+            within = omega (arith, (form (drop at s) f).whole, length-drop at s, l.within);
             end = q ∙ rw (goes, c, is, drop-drop 8 at s) (omega arith);
             after = a ∙ rw (goes, c, is, drop-drop 8 at s) refl;
           }
 
-  -- No more records may be noted.
-  pub records_end : 8 * most ≤ at → Ended
+  -- No more records may be noted, or no whole record is left.
+  pub records_end : at ≡ 8 * min (length s / 8) most → Ended
   unfolding note_from
   records_end h = go l.left l.reached l.end l.after
     where
       go : (left : ℕ) → at + 8 * left ≡ 8 * most → (note_from most s cells₀).0 ≡ at + (note_from left (drop at s) cells).0
           → (note_from most s cells₀).1 ≡ (note_from left (drop at s) cells).1 → Ended
       go zero r e a = (sym (e ∙ omega arith), sym a)
-      go (suc n) r e a = absurd (omega arith)
+      go (suc n) r e a = not_formed (omega arith) (too_short s at l.within (omega arith))
 
 -- ---- words
 
 -- The words from i on decide what is noted of all.
-abbrev pub WordLoop : (words : List ℕ) (n : ℕ) (cells₀ : List ℕ) (i : ℕ) (cells : List ℕ) → Type 0
-WordLoop words n cells₀ i cells = note_all (take n words) cells₀ ≡ note_all (drop i (take n words)) cells
+abbrev pub WordLoop : (words : List ℕ) (cells₀ : List ℕ) (i : ℕ) (cells : List ℕ) → Type 0
+WordLoop words cells₀ i cells = note_all words cells₀ ≡ note_all (drop i words) cells
 
-module _ (words : List ℕ) (count n : ℕ) (few : n ≡ min count (length words)) (cells₀ : List ℕ) (i : ℕ) (cells : List ℕ) (l : WordLoop words n cells₀ i cells) where
+module _ (words cells₀ : List ℕ) (i : ℕ) (cells : List ℕ) (l : WordLoop words cells₀ i cells) where
   abbrev Told : Bool → List ℕ → Type 0
-  Told b after = (b ≡ (note_all (take count words) cells₀).0) × (after ≡ (note_all (take count words) cells₀).1)
+  Told b after = (b ≡ (note_all words cells₀).0) × (after ≡ (note_all words cells₀).1)
 
-  told : (b : Bool) → note_all (drop i (take n words)) cells ≡ (b, cells) → Told b cells
+  told : (b : Bool) → note_all (drop i words) cells ≡ (b, cells) → Told b cells
   told b e =
-      let same : take n words ≡ take count words = rw few (take_min count words) in
-      let all : note_all (take count words) cells₀ ≡ (b, cells) = rw (← same) (l ∙ e) in
+      let all : note_all words cells₀ ≡ (b, cells) = l ∙ e in
       (sym (ap (λ (p : Bool × List ℕ). p.0) all), sym (ap (λ (p : Bool × List ℕ). p.1) all))
 
-  pub words_end : n ≤ i → Told true cells
+  pub words_end : length words ≤ i → Told true cells
   unfolding note_all
-  words_end h = told true (rw (rest_end words n i (omega arith) h) refl)
+  words_end h = told true (rw (drop_of_length-le words {i = i} h) refl)
 
-  module _ (more : i < n) (e : Entry) (is : e ≡ entry (get_or words i 0)) where
+  module _ (more : i < length words) (e : Entry) (is : e ≡ entry (get_or words i 0)) where
     pub words_stop : can_note cells e ≡ false → (cells' : List ℕ) → cells' ≡ with_entry e cells → Told false cells'
     unfolding note_all with_entry
     words_stop h cells' c =
         let same : cells' ≡ cells = c ∙ rw h refl in
-        let k = told false (rw (rest_at words n i (omega arith) more, ← is, h) refl) in
+        let k = told false (rw (drop-cons words i 0 more, ← is, h) refl) in
         (k.0, same ∙ k.1)
 
-    pub words_next : can_note cells e ≡ true → (cells' : List ℕ) → cells' ≡ with_entry e cells → WordLoop words n cells₀ (i + 1) cells'
+    pub words_next : can_note cells e ≡ true → (cells' : List ℕ) → cells' ≡ with_entry e cells → WordLoop words cells₀ (i + 1) cells'
     unfolding note_all
-    words_next h cells' c = l ∙ rw (rest_at words n i (omega arith) more, ← is, h, c) refl
-
--- ---- a dictionary value
-
-module _ (words : List ℕ) (count : ℕ) (cells : List ℕ) where
-  pub too_many : 512 < count → (false ≡ all_noted words count cells) × (cells ≡ cells_after words count cells)
-  unfolding all_noted cells_after
-  too_many h = (rw (lt-leb count 512 h) refl, rw (lt-leb count 512 h) refl)
-
-  module _ (few : count ≤ 512) (after : List ℕ) (is : after ≡ (note_all (take count words) cells).1) where
-    after_is : after ≡ cells_after words count cells
-    unfolding cells_after
-    after_is = rw (le-leb count 512 few) is
-
-    pub not_all : (note_all (take count words) cells).0 ≡ false → (false ≡ all_noted words count cells) × (after ≡ cells_after words count cells)
-    unfolding all_noted
-    not_all h = (rw (le-leb count 512 few, h) refl, after_is)
-
-    pub unused_decide : (b : Bool) → (note_all (take count words) cells).0 ≡ true → b ≡ all_zero (drop count words)
-        → (b ≡ all_noted words count cells) × (after ≡ cells_after words count cells)
-    unfolding all_noted
-    unused_decide b h e = (rw (le-leb count 512 few, h) e, after_is)
+    words_next h cells' c = l ∙ rw (drop-cons words i 0 more, ← is, h, c, add-one i) refl

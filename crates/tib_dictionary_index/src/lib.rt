@@ -1,17 +1,18 @@
 // Loads a dictionary of QForm messages, and notes its entries in cells, one for each fid, so that a reader finds a field without a search.
 #![tactic(auto)]
 
-ghost use Rattle.std.specs.Prelude.{◌≡◌, true, map, ◌+◌, ◌/◌, ◌≤◌, ◌<◌, length, take, drop, get_or};
+ghost use Rattle.std.specs.Prelude.{◌≡◌, true, map, ◌+◌, ◌/◌, ◌≤◌, ◌<◌, length, take, drop};
 ghost use Rattle.octets.specs.Number.{big_endian};
-ghost use Rattle.reading.specs.Refusals as refusals;
-ghost use Rattle.tib_dictionary.specs.Entry.{in_range, entry_with, word_of, entry as entry_of_word};
-ghost use Rattle.tib_dictionary.specs.Load.{entry_of, formed as formed-of, dictionary_of, load as load_of, refused as refused-at};
+ghost use Rattle.tib_dictionary.specs.Entry.{in_range, word_of, entry as entry_of_word};
+ghost use Rattle.tib_dictionary.specs.Load.{entry_of, formed as formed-of, dictionary_of, load as load_of, loaded};
 ghost use Rattle.tib_dictionary.specs.internal.Cells.{cell_for, can_note, with_entry, note_from, note_all, all_noted, cells_after};
-ghost use Rattle.tib_dictionary.specs.internal.Search.{records_of};
+ghost use Rattle.tib_dictionary.specs.internal.Search.{records_of, records_at, first_with};
 
-use tib_dictionary::{Dictionary, Entry, Loaded};
+use reading::{Fault, Refusal};
+use tib_dictionary::{Dictionary, Entry};
 
 // Returns whether the numbers of an entry are in range. The type 15 has nine octets.
+#[tactic(auto, unfolding(tib_dictionary::specs::Entry::in_range))]
 fn in_range(e: Entry) -> bool
     ensures { result ≡ in_range e }
 {
@@ -31,6 +32,7 @@ fn in_range(e: Entry) -> bool
 }
 
 // Returns the cell of an entry: half the octets of a field, with its FID and its padding.
+#[tactic(auto, unfolding(tib_dictionary::specs::internal::Cells::cell_for, tib_dictionary::specs::Entry::in_range))]
 fn cell(e: Entry) -> u16
     requires { in_range e ≡ true }
     ensures { result ≡ cell_for e }
@@ -39,6 +41,7 @@ fn cell(e: Entry) -> u16
 }
 
 // Notes an entry in its cell and returns true. If the entry is out of range or its fid is noted already, nothing changes and the result is false.
+#[tactic(auto, unfolding(tib_dictionary::specs::internal::Cells::can_note, tib_dictionary::specs::internal::Cells::with_entry, tib_dictionary::specs::Entry::in_range))]
 fn note(e: Entry, cells: &mut [u16; 16384]) -> bool
     ensures value { result ≡ can_note cells.old e }
     ensures cells_after { cells.new ≡ with_entry e cells.old }
@@ -54,14 +57,12 @@ fn note(e: Entry, cells: &mut [u16; 16384]) -> bool
     true
 }
 
-// Returns whether a record begins at an offset: tag 2, length 5, and as many octets.
+// Returns whether eight octets from an offset on are a record: the tag 2, the length 5, and as many octets.
+#[tactic(auto, unfolding(tib_dictionary::specs::Load::formed))]
 fn formed_at(s: &[u8], at: usize) -> bool
-    requires { at ≤ length s.now }
+    requires { at + 8 ≤ length s.now }
     ensures { result ≡ formed-of (drop at s.now) }
 {
-    if s.len() - at < 8 {
-        return false;
-    }
     if s[at] != 2 {
         return false;
     }
@@ -71,20 +72,12 @@ fn formed_at(s: &[u8], at: usize) -> bool
     s[at + 2] == 5
 }
 
-// Returns the octet at an offset.
-fn one(s: &[u8], at: usize) -> u64
-    requires { at < length s.now }
-    ensures { (result ≡ get_or s.now at 0) × (result < 256) }
-{
-    numbers::wide(s[at])
-}
-
 // Returns the number in the two octets from an offset on.
 fn two(s: &[u8], at: usize) -> u64
     requires { at + 2 ≤ length s.now }
     ensures { (result ≡ big_endian (take 2 (drop at s.now))) × (result < 65536) }
 {
-    one(s, at) * 256 + one(s, at + 1)
+    u64::from(u16::from_be_bytes([s[at], s[at + 1]]))
 }
 
 // Returns the entry of the record at an offset. It fits in a word.
@@ -95,7 +88,7 @@ fn entry_at(s: &[u8], at: usize) -> Entry
 {
     Entry {
         fid: two(s, at + 3),
-        kind: one(s, at + 5),
+        kind: u64::from(s[at + 5]),
         size: two(s, at + 6),
     }
 }
@@ -106,20 +99,20 @@ pub fn note_records(s: &[u8], cells: &mut [u16; 16384]) -> usize
     ensures value { result ≡ (note_from 512 s.now cells.old).0 }
     ensures cells_after { cells.new ≡ (note_from 512 s.now cells.old).1 }
 {
-    let mut at: usize = 0;
-    while at < 4096 {
-        if !formed_at(s, at) {
-            return at;
+    let most = (s.len() / 8).min(512);
+    for n in 0..most {
+        if !formed_at(s, n * 8) {
+            return n * 8;
         }
-        if !note(entry_at(s, at), cells) {
-            return at;
+        if !note(entry_at(s, n * 8), cells) {
+            return n * 8;
         }
-        at += 8;
     }
-    at
+    most * 8
 }
 
 // Returns the entry in a word.
+#[tactic(auto, unfolding(tib_dictionary::specs::Entry::entry))]
 fn entry_in(w: u64) -> Entry
     ensures { result ≡ entry_of_word w }
 {
@@ -135,19 +128,18 @@ fn note_all(words: &[u64], count: usize, cells: &mut [u16; 16384]) -> bool
     ensures value { result ≡ (note_all (take count words.now) cells.old).0 }
     ensures cells_after { cells.new ≡ (note_all (take count words.now) cells.old).1 }
 {
-    let n = numbers::smaller(count, words.len());
-    let mut i: usize = 0;
-    while i < n {
-        if !note(entry_in(words[i]), cells) {
+    let used = &words[0..count.min(words.len())];
+    for w in used {
+        if !note(entry_in(*w), cells) {
             return false;
         }
-        i += 1;
     }
     true
 }
 
 // Notes the words of a dictionary value. Returns whether all were noted and the unused words are 0. If the cells were cleared before, this tells
 // whether the loader can return the dictionary value.
+#[tactic(auto, unfolding(tib_dictionary::specs::internal::Cells::all_noted, tib_dictionary::specs::internal::Cells::cells_after))]
 pub fn note_words(words: &[u64; 512], count: usize, cells: &mut [u16; 16384]) -> bool
     ensures value { result ≡ all_noted words.now count cells.old }
     ensures cells_after { cells.new ≡ cells_after words.now count cells.old }
@@ -162,25 +154,12 @@ pub fn note_words(words: &[u64; 512], count: usize, cells: &mut [u16; 16384]) ->
 }
 
 // Returns an entry as a word of a dictionary.
+#[tactic(auto, unfolding(tib_dictionary::specs::Entry::word_of))]
 fn word(e: Entry) -> u64
     requires { (e.fid < 65536) × (e.kind < 256) × (e.size < 65536) }
     ensures { result ≡ word_of e }
 {
     (e.fid * 256 + e.kind) * 65536 + e.size
-}
-
-// Returns the refusal of a dictionary whose fault is at a place.
-fn refused(place: u64) -> Loaded
-    ensures { result ≡ refused-at refusals.table place }
-{
-    Loaded {
-        refusal: reading::TABLE,
-        place,
-        dictionary: Dictionary {
-            count: 0,
-            words: [0u64; 512],
-        },
-    }
 }
 
 // Returns the dictionary of octets that are records. Internal: the caller has already noted them.
@@ -190,75 +169,40 @@ fn dictionary_of(s: &[u8]) -> Dictionary
 {
     let n = s.len() / 8;
     let mut words = [0u64; 512];
-    let mut i: usize = 0;
-    while i < n {
+    for i in 0..n {
         words[i] = word(entry_at(s, i * 8));
-        i += 1;
     }
     Dictionary { count: n, words }
 }
 
 // Loads a dictionary from its octets, or rejects it at its first faulty record.
-pub fn load(s: &[u8]) -> Loaded
-    ensures { result ≡ load_of s.now }
+pub fn load(s: &[u8]) -> Result<Dictionary, Fault>
+    ensures { loaded result ≡ load_of s.now }
 {
     let mut cells = [0u16; 16384];
     let end = note_records(s, &mut cells);
     if end < s.len() {
-        return refused(end as u64);
+        return Err(Refusal::Table.at(end as u64));
     }
-    Loaded {
-        refusal: 0,
-        place: 0,
-        dictionary: dictionary_of(s),
-    }
+    Ok(dictionary_of(s))
 }
 
-// Returns an entry of zeros.
-fn no_entry() -> Entry
-    ensures { result ≡ record { fid = 0; kind = 0; size = 0 } }
+// Returns the first entry with a fid in the octets of a dictionary.
+pub fn find_record(s: &[u8], fid: u64) -> Option<Entry>
+    ensures { result ≡ first_with fid (records_at s.now) }
 {
-    Entry {
-        fid: 0,
-        kind: 0,
-        size: 0,
-    }
+    (0..s.len() / 8)
+        .map(|n| entry_at(s, n * 8))
+        .find(|record| record.fid == fid)
 }
 
-// Returns the first entry with a fid in the octets of a dictionary, or an entry of zeros if there is none.
-pub fn find_record(s: &[u8], fid: u64) -> Entry
-    ensures { result ≡ entry_with (records_of (length s.now / 8) s.now) fid }
+// Returns the first entry with a fid among the first `count` words of a dictionary value.
+pub fn find_word(words: &[u64; 512], count: usize, fid: u64) -> Option<Entry>
+    ensures { result ≡ first_with fid (map entry_of_word (take count words.now)) }
 {
-    let mut at: usize = 0;
-    while 8 <= s.len() - at {
-        let e = entry_at(s, at);
-        if e.fid == fid {
-            return e;
-        }
-        at += 8;
-    }
-    no_entry()
-}
-
-// Returns the first entry with a fid among the first `count` words, or an entry of zeros if there is none.
-fn find_in(words: &[u64], count: usize, fid: u64) -> Entry
-    ensures { result ≡ entry_with (map entry_of_word (take count words.now)) fid }
-{
-    let n = numbers::smaller(count, words.len());
-    let mut i: usize = 0;
-    while i < n {
-        let e = entry_in(words[i]);
-        if e.fid == fid {
-            return e;
-        }
-        i += 1;
-    }
-    no_entry()
-}
-
-// Does the same for a dictionary value.
-pub fn find_word(words: &[u64; 512], count: usize, fid: u64) -> Entry
-    ensures { result ≡ entry_with (map entry_of_word (take count words.now)) fid }
-{
-    find_in(words, count, fid)
+    words
+        .iter()
+        .take(count)
+        .map(|w| entry_in(*w))
+        .find(|entry| entry.fid == fid)
 }

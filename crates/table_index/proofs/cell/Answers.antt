@@ -15,11 +15,11 @@ pub returns-then-c-key : goal.returns-then-c-key
 returns-then-c-key c =
     let a = c.args in
     let n = c.capped-n in
-    let w = c.wide-c in
+    let w = c.from-c in
     cell_found a.cells.now a.number a.tag (omega arith) n.ensures w.ensures
     (sym (chase_here a.cells.now (n.result * 65536 + a.tag) 63 w.result c.if-c-key.true))
 
 pub returns : goal.returns
 returns c =
     let a = c.args in
-    cell_found a.cells.now a.number a.tag (omega arith) c.capped-n.ensures c.wide-c.ensures c.follow.ensures
+    cell_found a.cells.now a.number a.tag (omega arith) c.capped-n.ensures c.from-c.ensures c.follow.ensures

@@ -1,21 +1,15 @@
 -- `follow` returns what its definition says: in each iteration the chain from the current cell decides.
 use native.Mathlib.Omega.{arith}
-use mathlib.Core.Path.{refl, sym, ap, ◌∙◌}
+use mathlib.Core.Path.{sym, ap, ◌∙◌}
 use Rattle.table_index.specs.internal.Cells.{chase}
 use Rattle.table_index.proofs.Chains.{chase_zero, chase_here, chase_next, next_less}
 use Rattle.table_index.proofs.follow.Goals as goal
-
-pub loop-c-init : goal.loop-c-init
-loop-c-init c = refl
 
 pub returns-then-c-eq0 : goal.returns-then-c-eq0
 returns-then-c-eq0 c =
     let a = c.args in
     let l = c.loop-c in
     sym (l.invariant ∙ rw c.if-c-eq0.true (chase_zero a.cells.now a.key 64))
-
-pub next-c-requires : goal.next-c-requires
-next-c-requires c = tt
 
 pub loop-c-smaller : goal.loop-c-smaller
 loop-c-smaller c =

@@ -1,5 +1,5 @@
 -- `index_from` inserts the records one by one, up to the first faulty one.
-use Prim.Native.Nat.{ℕ, ◌*◌, ◌-◌, ◌≤◌}
+use Prim.Native.Nat.{ℕ, ◌*◌, ◌≤◌}
 use mathlib.Core.Path.{◌≡◌}
 use mathlib.Core.List.{List}
 use lib.ListN.{length}
@@ -15,6 +15,3 @@ pub record Inserting (revision : ℕ) (s : List ℕ) (first : ℕ) (cells₀ : L
 
 abbrev pub invariant-loop-n : goal.invariant-loop-n
 invariant-loop-n l = Inserting l.revision l.table l.first l.initial.cells l.n l.at l.cells
-
-abbrev pub decreases-loop-n : goal.decreases-loop-n
-decreases-loop-n l = 64 - l.n

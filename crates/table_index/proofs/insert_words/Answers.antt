@@ -4,7 +4,6 @@ use Prim.Native.Nat.{ℕ}
 use native.Mathlib.Omega.{arith}
 use mathlib.Core.Path.{sym, ap, ◌∙◌}
 use lib.ListN.{get_or}
-use borrow.Author.Tests.{not-true, not-false}
 use Rattle.table_index.specs.internal.Cells.{chase}
 use Rattle.table_index.proofs.Chains.{bucket_low, search_from, chase_next, next_less}
 use Rattle.table_index.proofs.Words.{small, key_low}
@@ -12,39 +11,18 @@ use Rattle.table_index.proofs.Revisions.{range_read}
 use Rattle.table_index.proofs.InsertLoop.{words_start, words_end, words_bad, words_repeated, words_continue}
 use Rattle.table_index.proofs.insert_words.Goals as goal
 
-pub smaller-most-requires : goal.smaller-most-requires
-smaller-most-requires c = tt
-
 pub words-init : goal.words-init
 words-init c =
     let a = c.args in
     words_start a.revision a.words.now a.cells.now
 
-pub offset_bounds-words-n : goal.offset_bounds-words-n
-offset_bounds-words-n c = omega (arith, c.smaller-most.ensures)
-
-pub bounds-words-n : goal.bounds-words-n
-bounds-words-n c = omega (arith, c.smaller-most.ensures)
-
-pub in_range-requires : goal.in_range-requires
-in_range-requires c = tt
-
-pub offset_bounds-words-n-in-words : goal.offset_bounds-words-n-in-words
-offset_bounds-words-n-in-words c = omega (arith, c.smaller-most.ensures)
-
-pub bounds-words-n-in-words : goal.bounds-words-n-in-words
-bounds-words-n-in-words c = omega (arith, c.smaller-most.ensures)
-
-pub under-w-requires : goal.under-w-requires
-under-w-requires c = tt
-
 pub word_key-key-requires : goal.word_key-key-requires
-word_key-key-requires c = range_read c.args.revision (get_or c.args.words.now c.words.n 0) c.under-w.ensures c.in_range.ensures c.if-not-in_range.false-raw
+word_key-key-requires c = range_read c.args.revision (get_or c.args.words.now c.words.n 0) c.under-w.ensures c.in_range.ensures c.if-not-in_range.false
 
 pub bucket-requires : goal.bucket-requires
 bucket-requires c =
     let u = c.under-w in
-    let range = range_read c.args.revision (get_or c.args.words.now c.words.n 0) u.ensures c.in_range.ensures c.if-not-in_range.false-raw in
+    let range = range_read c.args.revision (get_or c.args.words.now c.words.n 0) u.ensures c.in_range.ensures c.if-not-in_range.false in
     omega (arith, c.word_key-key.ensures, key_low u.result (small u.result range))
 
 pub offset_bounds-cells-bucket : goal.offset_bounds-cells-bucket
@@ -53,16 +31,10 @@ offset_bounds-cells-bucket c = omega (arith, c.bucket.ensures, bucket_low c.word
 pub bounds-cells-bucket : goal.bounds-cells-bucket
 bounds-cells-bucket c = omega (arith, c.bucket.ensures, bucket_low c.word_key-key.result)
 
-pub wide-c-requires : goal.wide-c-requires
-wide-c-requires c = tt
-
 pub loop-c-init : goal.loop-c-init
 loop-c-init c =
     let cells = c.words.cells in
-    search_from cells c.word_key-key.result (c.wide-c.ensures ∙ ap (λ (b : ℕ). get_or cells b 0) c.bucket.ensures)
-
-pub next-c-requires : goal.next-c-requires
-next-c-requires c = tt
+    search_from cells c.word_key-key.result (c.from-c.ensures ∙ ap (λ (b : ℕ). get_or cells b 0) c.bucket.ensures)
 
 pub loop-c-smaller : goal.loop-c-smaller
 loop-c-smaller c = next_less c.words.cells c.loop-c.c c.next-c.result c.next-c.ensures c.loop-c-test.true
@@ -75,13 +47,7 @@ loop-c-preserved c =
     l.invariant ∙ chase_next cells key l.c c.if-c-key.false ∙ ap (chase 64 cells key) (sym c.next-c.ensures)
 
 pub link-requires : goal.link-requires
-link-requires c = record { w_value = range_read c.args.revision (get_or c.args.words.now c.words.n 0) c.under-w.ensures c.in_range.ensures c.if-not-in_range.false-raw; key_value = c.word_key-key.ensures; i_bound = omega (arith, c.smaller-most.ensures) }
-
-pub overflow_add-n : goal.overflow_add-n
-overflow_add-n c = omega (arith, c.smaller-most.ensures)
-
-pub words-smaller : goal.words-smaller
-words-smaller c = omega arith
+link-requires c = record { w_value = range_read c.args.revision (get_or c.args.words.now c.words.n 0) c.under-w.ensures c.in_range.ensures c.if-not-in_range.false; key_value = c.word_key-key.ensures; i_bound = omega (arith, c.min-most.ensures) }
 
 pub words-preserved : goal.words-preserved
 words-preserved c =
@@ -89,26 +55,26 @@ words-preserved c =
     let o = c.words in
     let l = c.loop-c in
     let i = c.in_range in
-    words_continue a.revision a.words.now a.cells.now o.n o.cells o.invariant (omega (arith, c.smaller-most.ensures)) c.under-w.ensures c.word_key-key.ensures l.c l.invariant
-    (sym i.ensures ∙ not-false i.result c.if-not-in_range.false-raw) c.loop-c-test.false c.link.ensures
+    words_continue a.revision a.words.now a.cells.now o.n o.cells o.invariant (omega (arith, c.min-most.ensures)) c.under-w.ensures c.word_key-key.ensures l.c l.invariant
+    (sym i.ensures ∙ c.if-not-in_range.false) c.loop-c-test.false c.link.ensures
 
 pub returns-then-most-n : goal.returns-then-most-n
 returns-then-most-n c =
     let a = c.args in
     let o = c.words in
-    let all = words_end a.revision a.words.now a.cells.now o.n o.cells o.invariant (omega (arith, c.smaller-most.ensures)) in record { value = all.0; cells_after = all.1 }
+    let all = words_end a.revision a.words.now a.cells.now o.n o.cells o.invariant (omega (arith, c.min-most.ensures)) in record { value = all.0; cells_after = all.1 }
 
 pub returns-then-not-in_range : goal.returns-then-not-in_range
 returns-then-not-in_range c =
     let a = c.args in
     let o = c.words in
     let i = c.in_range in
-    let all = words_bad a.revision a.words.now a.cells.now o.n o.cells o.invariant (omega (arith, c.smaller-most.ensures)) (sym i.ensures ∙ not-true i.result c.if-not-in_range.true-raw) in record { value = all.0; cells_after = all.1 }
+    let all = words_bad a.revision a.words.now a.cells.now o.n o.cells o.invariant (omega (arith, c.min-most.ensures)) (sym i.ensures ∙ c.if-not-in_range.true) in record { value = all.0; cells_after = all.1 }
 
 pub returns-then-c-key : goal.returns-then-c-key
 returns-then-c-key c =
     let a = c.args in
     let o = c.words in
     let l = c.loop-c in
-    let all = words_repeated a.revision a.words.now a.cells.now o.n o.cells o.invariant (omega (arith, c.smaller-most.ensures)) c.under-w.ensures c.word_key-key.ensures l.c l.invariant
+    let all = words_repeated a.revision a.words.now a.cells.now o.n o.cells o.invariant (omega (arith, c.min-most.ensures)) c.under-w.ensures c.word_key-key.ensures l.c l.invariant
     c.loop-c-test.true c.if-c-key.true in record { value = all.0; cells_after = all.1 }

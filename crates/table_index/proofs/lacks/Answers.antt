@@ -16,11 +16,11 @@ bounds-cells-bucket c = omega (arith, c.bucket.ensures, bucket_low c.args.key)
 pub returns-then-head-eq0 : goal.returns-then-head-eq0
 returns-then-head-eq0 c =
     let a = c.args in
-    let head = c.wide-head.ensures ∙ ap (λ (b : ℕ). get_or a.cells.now b 0) c.bucket.ensures in
+    let head = c.from-head.ensures ∙ ap (λ (b : ℕ). get_or a.cells.now b 0) c.bucket.ensures in
     rw (search_empty a.cells.now a.key (sym head ∙ c.if-head-eq0.true)) refl
 
 pub returns : goal.returns
 returns c =
     let a = c.args in
-    let head = c.wide-head.ensures ∙ ap (λ (b : ℕ). get_or a.cells.now b 0) c.bucket.ensures in
+    let head = c.from-head.ensures ∙ ap (λ (b : ℕ). get_or a.cells.now b 0) c.bucket.ensures in
     ap (λ (r : ℕ). eqb r 0) (c.follow.ensures ∙ sym (search_from a.cells.now a.key head))

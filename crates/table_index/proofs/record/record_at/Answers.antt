@@ -16,24 +16,25 @@ returns-then-s-at-ne1 c =
 
 pub returns-then-length-eq5 : goal.returns-then-length-eq5
 returns-then-length-eq5 c =
-    let l = c in
     let a = c.args in
     c.sized_word.ensures
-    ∙ right_five a.s.now a.at l.announced-length.ensures l.if-s-at-ne1.false c.five-unmarked.ensures.0 c.if-length-eq5.true (omega (arith, c.if-remaining-lt8.false))
+    ∙ right_five a.s.now a.at c.announced-length.ensures c.if-s-at-ne1.false c.five-unmarked.ensures.0 c.if-length-eq5.true (omega (arith, c.if-remaining-lt8.false))
 
 pub returns-then-length-ne6 : goal.returns-then-length-ne6
 returns-then-length-ne6 c =
     let a = c.args in
     wrong_length a.s.now a.at c.announced-length.ensures c.if-length-eq5.false c.if-length-ne6.true
 
-pub returns-then-remaining-lt9 : goal.returns-then-remaining-lt9
-returns-then-remaining-lt9 c =
+pub returns-in_err-mark : goal.returns-in_err-mark
+returns-in_err-mark c =
     let a = c.args in
-    wrong_cut a.s.now a.at c.announced-length.ensures c.if-length-ne6.false (omega (arith, c.if-remaining-lt9.true)) (omega arith)
+    let past = c.in_err-mark.ensures.lookup.3 in
+    c.from_residual.ensures
+    ∙ wrong_cut a.s.now a.at c.announced-length.ensures c.if-length-ne6.false (omega (arith, past)) (omega arith)
 
 pub returns : goal.returns
 returns c =
-    let l = c in
     let a = c.args in
+    let mark = c.in_ok-mark.ensures.lookup.3 in
     c.sized_word-2.ensures
-    ∙ right_six a.s.now a.at l.announced-length.ensures l.if-s-at-ne1.false c.five-unmarked.ensures.0 c.if-length-ne6.false (omega (arith, c.if-remaining-lt9.false)) c.octet_at.ensures.0
+    ∙ right_six a.s.now a.at c.announced-length.ensures c.if-s-at-ne1.false c.five-unmarked.ensures.0 c.if-length-ne6.false (omega (arith, mark.0)) (c.from.ensures ∙ mark.1 0)

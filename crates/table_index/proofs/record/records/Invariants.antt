@@ -1,10 +1,6 @@
 -- `records` stores the words in the order of the records, up to the first that is not well-formed.
-use Prim.Native.Nat.{◌-◌}
 use Rattle.table_index.proofs.LoadLaws.{RecordsLoop}
 use Rattle.table_index.proofs.record.records.Given as goal
 
 abbrev pub invariant-loop-n : goal.invariant-loop-n
 invariant-loop-n l = RecordsLoop l.s l.n l.words l.at
-
-abbrev pub decreases-loop-n : goal.decreases-loop-n
-decreases-loop-n l = 64 - l.n
