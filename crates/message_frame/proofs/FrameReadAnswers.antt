@@ -70,3 +70,9 @@ module _ (s : List ℕ) (w : ℕ) (short : length s ≤ 65545) (some : 0 < lengt
         → read_accepted (1 + w) (1 + w + n) ≡ frame_read s
     unfolding announced
     read_whole h k = sym (read-announced ∙ rw (le-ltb 65536 n h, le-ltb (length s - (1 + w)) n k))
+
+-- What `size` returns.
+pub ruleset sizes = (size-direct, size-follows)
+
+-- What `frame_read` answers.
+pub ruleset answers = (read_long, read-empty, read_cut, read-too-large, read_past, read_whole)

@@ -52,3 +52,12 @@ frame-refused-leaves m out ne = go (ltb 65536 (length m)) (ltb (length out) (len
     go true u p k = refl
     go false true p k = let h = ltb-true (length out) (length (framed m)) p in stored_too_long out 0 (framed m) (omega arith)
     go false false p k = absurd (k refl)
+
+pub long-leaves : (m out : List ℕ) → 65536 < length m → out ≡ frame_stored m out
+long-leaves m out h = (write-long m out h).1
+
+pub no-room-leaves : (m out : List ℕ) (octet w : ℕ) → LeastPrefix (length m) octet w → length m ≤ 65536 → length out < 1 + w + length m → out ≡ frame_stored m out
+no-room-leaves m out octet w p h k = (write-no-room m out octet w p h k).1
+
+-- What `frame_write` answers, and the buffer afterwards.
+pub ruleset answers = (write-long, write-no-room, write_done, long-leaves, no-room-leaves)

@@ -37,6 +37,9 @@ prefix_four size a b =
     marked size 0xfe 4 (omega arith)
     (rw (le-ltb size 0xfc (omega arith), le-ltb size 0x100 (omega arith), le-ltb size 0x1_0000 a, lt-ltb size 0x1_0000_0000 b))
 
+-- What `shortest_prefix` returns.
+pub ruleset prefixes = (prefix_direct, prefix_one, prefix_two, prefix_four)
+
 -- The shortest prefix, octet by octet.
 pub prefix_parts : (size octet w : ℕ) → LeastPrefix size octet w → shortest_prefix size ≡ octet ∷ octets_of w size
 unfolding shortest_prefix

@@ -1,8 +1,11 @@
 -- Frames: a prefix that says a message's size, and the message.
-use Rattle.std.specs.Prelude.{ℕ, ◌+◌, ◌-◌, cond, List, [], ◌∷◌, ◌++◌, length, take, drop, ltb}
+use Rattle.std.specs.Prelude.{ℕ, ◌+◌, ◌-◌, cond, List, [], ◌∷◌, ◌++◌, length, take, drop, ltb, Result, Ok, Err}
+use Rattle.std.specs.declared.ops.Range.{Range}
 use Rattle.octets.specs.ControlPart.{Code}
 use Rattle.octets.specs.Control.{following, coded, least_code}
 use Rattle.reading.specs.Refusals as refusals
+use Rattle.reading.specs.Refusals.{number}
+use Rattle.reading.specs.declared.Fault.{Fault}
 use Rattle.reading.specs.Reading.{message_limit}
 use Rattle.octets_store.specs.Store.{stored}
 use Rattle.message_frame.specs.declared.FrameRead.{FrameRead}
@@ -22,6 +25,11 @@ read_refused reason = record { refusal = reason; place = 0; start = 0; end = 0 }
 
 abbrev pub read_accepted : ℕ → ℕ → FrameRead
 read_accepted from to = record { refusal = 0; place = 0; start = from; end = to }
+
+-- The reader's answer in numbers, by the result of `frame_read`.
+abbrev pub read : Result (Range ℕ) Fault → FrameRead
+read (Ok part) = read_accepted part.start part.end
+read (Err f) = record { refusal = number f.refusal; place = f.place; start = 0; end = 0 }
 
 -- The reader's answer for a whole prefix of n octets that announces a size, with `remaining` octets after it.
 unfoldable pub announced : ℕ → ℕ → ℕ → FrameRead
@@ -57,6 +65,11 @@ framed m = shortest_prefix (length m) ++ m
 
 abbrev pub write_refused : ℕ → FrameWritten
 write_refused reason = record { refusal = reason; place = 0; length = 0 }
+
+-- The writer's answer in numbers, by the result of `frame_write`.
+abbrev pub written : Result ℕ Fault → FrameWritten
+written (Ok n) = record { refusal = 0; place = 0; length = n }
+written (Err f) = record { refusal = number f.refusal; place = f.place; length = 0 }
 
 -- The frame writer's answer for a message and a buffer of `room` octets.
 unfoldable pub frame_written : List ℕ → ℕ → FrameWritten
