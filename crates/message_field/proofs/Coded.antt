@@ -12,7 +12,7 @@ use Rattle.table.specs.Entry.{kind_number}
 use Rattle.table_index.specs.internal.Cells.{meaning_of}
 use Rattle.table_index.proofs.Meanings as means
 use Rattle.message.specs.Reading.{step_by_kind}
-use Rattle.message.specs.declared.Step.TheVariants.{Fault, Over, Into}
+use Rattle.message.specs.Reading.{Fault, Over, Into}
 
 module _ (size : ℕ) (s : List ℕ) where
   pub coded_message : (code : ℕ) → 4 < code → Into (code - 5) size (length s) ≡ step_by_kind (meaning_of code) size s

@@ -13,7 +13,7 @@ use Rattle.table.specs.Schema.{Schema}
 use Rattle.reading.specs.Refusals as refusals
 use Rattle.message.specs.Single.{repeats}
 use Rattle.message.specs.Reading.{step, step_from, step_by_kind, too_deep}
-use Rattle.message.specs.declared.Step.TheVariants.{Done, Fault}
+use Rattle.message.specs.Reading.{Done, Fault}
 
 pub size_inside : (s : List ℕ) (tag len size : ℕ) → control s ≡ Whole tag len size → size ≤ length s
 size_inside s tag len size e = (control_size s tag len size e).1

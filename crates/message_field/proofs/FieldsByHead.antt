@@ -14,10 +14,10 @@ use Rattle.message.specs.Cut.{Cut, end, Contents, Good}
 use Rattle.message.specs.Tree.{Tree, value, tree}
 use Rattle.message.proofs.Accepted.{depth_positive}
 use Rattle.message.proofs.Next.{Plain, next_leaf, next_nested, first_field, nothing_remaining}
-use Rattle.message_field.specs.internal.Heads.{head_at}
-use Rattle.message_field.specs.declared.Head.{Head}
-use Rattle.message_field.specs.declared.Head.TheVariants.{Field}
-use Rattle.message_field.proofs.Heads.{HeadSpan, head_span, head_field, Fieldless}
+use Rattle.message_field.specs.internal.Heads.{head_at, Fieldless}
+use Rattle.message_field.specs.internal.Heads.{Head}
+use Rattle.message_field.specs.internal.Heads.{Field}
+use Rattle.message_field.proofs.Heads.{HeadSpan, head_span, head_field}
 
 -- A cut that is good with fewer levels is good with more.
 pub good_deeper : (sc : Schema) (levels more n : ℕ) (s : List ℕ) (cut : Cut) → levels ≤ more → Good sc levels n s cut → Good sc more n s cut

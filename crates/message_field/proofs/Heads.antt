@@ -12,9 +12,12 @@ use Rattle.octets.specs.Control.{control}
 use Rattle.octets.specs.declared.Control.{Control}
 use Rattle.octets.specs.declared.Control.TheVariants.{Absent, Partial, Whole}
 use Rattle.octets.proofs.ControlPart.{control_nil, control_size}
-use Rattle.message_field.specs.internal.Heads.{head_from, head_at}
-use Rattle.message_field.specs.declared.Head.{Head}
-use Rattle.message_field.specs.declared.Head.TheVariants.{End, Fault, Field}
+use Rattle.std.specs.Prelude.{Result, Ok, Err, Option, Some, None}
+use Rattle.std.specs.Result.{result_unwrap_or}
+use Rattle.reading.specs.declared.Refusal.{Refusal}
+use Rattle.message_field.specs.declared.Head as code
+use Rattle.message_field.specs.internal.Heads.{head_of, head_from, head_at, Fieldless}
+use Rattle.message_field.specs.internal.Heads.{End, Fault, Field}
 
 -- ---- the octets of a message from an offset on, as the code takes them
 
@@ -98,16 +101,22 @@ module _ (i : ℕ) (s : List ℕ) (tag start end : ℕ) where
       go Partial c f = let z : ◌≡◌ {A = ℕ} 0 1 = cc in absurd (omega arith)
       go (Whole t len size) c f = whole_head_span t len size c (leb len (length s - size)) refl f
 
--- ---- no field
+-- ---- what `head_at` returns where the caller does not ask why there is no field
 
-unfoldable pub Fieldless : Head → Type 0
-Fieldless End = Unit {0}
-Fieldless (Fault k) = Unit {0}
-Fieldless (Field tag start end) = ⊥
+module _ (r : Result (Option code.Head) Refusal) where
+  pub found_field : (h : code.Head) → Some h ≡ result_unwrap_or r None → head_of r ≡ Field h.tag h.start h.end
+  found_field h e = go r e
+    where
+      go : (r : Result (Option code.Head) Refusal) → Some h ≡ result_unwrap_or r None → head_of r ≡ Field h.tag h.start h.end
+      go (Ok None) e = let z : ◌≡◌ {A = ℕ} 0 1 = cc in absurd (omega arith)
+      go (Ok (Some x)) e = let p : x ≡ h = cc in rw p refl
+      go (Err k) e = let z : ◌≡◌ {A = ℕ} 0 1 = cc in absurd (omega arith)
 
--- A head that equals no field.
-pub fieldless : (h : Head) → ((tag start end : ℕ) → h ≡ Field tag start end → ⊥) → Fieldless h
-unfolding Fieldless
-fieldless End o = tt
-fieldless (Fault k) o = tt
-fieldless (Field tag start end) o = absurd (o tag start end refl)
+  pub found_none : None ≡ result_unwrap_or r None → Fieldless (head_of r)
+  unfolding Fieldless
+  found_none e = go r e
+    where
+      go : (r : Result (Option code.Head) Refusal) → None ≡ result_unwrap_or r None → Fieldless (head_of r)
+      go (Ok None) e = tt
+      go (Ok (Some x)) e = let z : ◌≡◌ {A = ℕ} 0 1 = cc in absurd (omega arith)
+      go (Err k) e = tt

@@ -5,6 +5,7 @@ use native.Mathlib.Omega.{arith}
 use mathlib.Core.Path.{◌≡◌, refl, sym, ap, ◌∙◌, subst}
 use mathlib.Core.Bool.{Bool, true, false, cond, ◌&&◌, and-false}
 use mathlib.Core.List.{List, []}
+use Rattle.std.specs.Prelude.{Some, None}
 use mathlib.Core.Logic.{◌⊎◌, ⊎_elim}
 use lib.Bits.{bit_and, and_mask}
 use lib.Dec.{leb, ltb, eqb}
@@ -24,7 +25,7 @@ use Rattle.octets.proofs.Slices.{length_zero}
 use Rattle.octets.proofs.Short.{none_short_uint, none_short_int, uint_by_first, int_by_first, short_direct}
 use Rattle.octets_read.proofs.Leads.{control_from, whole_direct}
 use Rattle.reading.specs.Refusals as refusals
-use Rattle.table_index.specs.internal.Cells.{cell_for, code_in, meaning_of, meaning_in, indexed, note_in}
+use Rattle.table_index.specs.internal.Cells.{cell_for, meaning_of, meaning_in, indexed, note_in}
 use Rattle.table_index.proofs.Meanings as means
 use Rattle.table.specs.Entry.{kind_number}
 use Rattle.table.specs.Schema.{Schema}
@@ -34,11 +35,11 @@ use Rattle.message.specs.Single.{repeats}
 use Rattle.message.specs.Reading.{step, step_by_kind, too_deep, tag_at}
 use Rattle.message.proofs.Steps.{tag_is}
 use Rattle.message.specs.internal.Short.{short_contents}
-use Rattle.message.specs.declared.Step.{Step}
-use Rattle.message.specs.declared.Step.TheVariants as steps
-use Rattle.message_field.specs.internal.Nexts.{next_at, next_by_kind, short_number, short_from, short_field, next_of, Passes, NoText, small_at, no_cell, small_cell}
-use Rattle.message_field.specs.declared.Next.{Next}
-use Rattle.message_field.specs.declared.Next.TheVariants.{Done, Fault, Over, Into}
+use Rattle.message.specs.Reading.{Step}
+use Rattle.message.specs.Reading as steps
+use Rattle.message_field.specs.internal.Nexts.{next_at, next_by_kind, short_number, short_from, short_field, next_of, Passes, NoText, small_at, small_contents, small_cell}
+use Rattle.message_field.specs.internal.Nexts.{Next}
+use Rattle.message_field.specs.internal.Nexts.{Done, Fault, Over, Into}
 use Rattle.message_field.proofs.Coded.{coded_message, coded_text, coded_wide, coded_over, kind_plain}
 use Rattle.message_field.proofs.Fields.{at_end, in_control, past_end, whole_field}
 
@@ -307,27 +308,27 @@ module _ (cells : List ℕ) (number : ℕ) (s : List ℕ) (i : ℕ) where
   len_is = and_mask octet 4
 
   -- No cell by the first test that fails.
-  pub none_past : length s ≤ i → no_cell ≡ small_cell cells number s i
+  pub none_past : length s ≤ i → None ≡ small_cell cells number s i
   unfolding small_cell small_at
   none_past h = rw (le-ltb i (length s) h) refl
 
   module _ (h : i < length s) where
-    pub none_by_tag : 224 ≤ octet → no_cell ≡ small_cell cells number s i
+    pub none_by_tag : 224 ≤ octet → None ≡ small_cell cells number s i
     unfolding small_cell small_at
     none_by_tag t = rw (lt-ltb i (length s) h, le-ltb octet 224 t) refl
 
     module _ (t : octet < 224) where
-      pub none_by_length : 12 ≤ len → no_cell ≡ small_cell cells number s i
+      pub none_by_length : 12 ≤ len → None ≡ small_cell cells number s i
       unfolding small_cell small_at
       none_by_length l = rw (lt-ltb i (length s) h, lt-ltb octet 224 t, le-ltb (octet % 16) 12 (rw (← len_is) l)) refl
 
       module _ (l : len < 12) where
-        pub none_by_end : length s < i + 1 + len → no_cell ≡ small_cell cells number s i
+        pub none_by_end : length s < i + 1 + len → None ≡ small_cell cells number s i
         unfolding small_cell small_at
         none_by_end k =
             rw (lt-ltb i (length s) h, lt-ltb octet 224 t, lt-ltb (octet % 16) 12 (rw (← len_is) l), lt-leb (i + 1 + octet % 16) (length s) (rw (← len_is) k)) refl
 
-        pub cell_found : i + 1 + len ≤ length s → cell_for cells number (octet / 16) ≡ small_cell cells number s i
+        pub cell_found : i + 1 + len ≤ length s → Some (cell_for cells number (octet / 16)) ≡ small_cell cells number s i
         unfolding small_cell small_at
         cell_found k =
             rw (lt-ltb i (length s) h, lt-ltb octet 224 t, lt-ltb (octet % 16) 12 (rw (← len_is) l), le-leb (i + 1 + octet % 16) (length s) (rw (← len_is) k)) refl
@@ -374,26 +375,32 @@ module _ (s : List ℕ) (i : ℕ) (e : small_at s i ≡ true) where
       let m = and_mask (get_or s i 0) 4 in
       ap short_control (drop-cons s i 0 small.here) ∙ short_direct (get_or s i 0) _ (omega arith) (omega arith)
 
-module _ (cells : List ℕ) (number : ℕ) (s : List ℕ) (i cell : ℕ) (e : cell ≡ small_cell cells number s i) where
+module _ (cells : List ℕ) (number : ℕ) (s : List ℕ) (i cell : ℕ) (e : Some cell ≡ small_cell cells number s i) where
   -- A cell says that there is such a field.
-  pub cell_small : (cell ≡ no_cell → ⊥) → small_at s i ≡ true
+  pub cell_small : small_at s i ≡ true
   unfolding small_cell
-  cell_small h = go (small_at s i) refl
+  cell_small = go (small_at s i) e
     where
-      go : (t : Bool) → small_at s i ≡ t → t ≡ true
-      go true t = refl
-      go false t = absurd (h (rw t at e))
+      go : (t : Bool) → Some cell ≡ cond t (Some (cell_for cells number (get_or s i 0 / 16))) None → t ≡ true
+      go true f = refl
+      go false f = let z : ◌≡◌ {A = ℕ} 0 1 = cc in absurd (omega arith)
 
   module _ (w : small_at s i ≡ true) where
     abbrev end : ℕ
     end = i + 1 + bit_and (get_or s i 0) 15
 
     abbrev inside : List ℕ
-    inside = take (end - (i + 1)) (drop (i + 1) s)
+    inside = small_contents s i
+
+    found_is : Some cell ≡ Some (cell_for cells number (get_or s i 0 / 16))
+    unfolding small_cell
+    found_is = rw w at e
 
     pub cell_is : cell ≡ cell_for cells number (tag_at (drop i s))
-    unfolding small_cell
-    cell_is = rw w at e ∙ ap (cell_for cells number) (sym (small_tag s i w))
+    cell_is =
+        let f = found_is in
+        let k : cell ≡ cell_for cells number (get_or s i 0 / 16) = cc in
+        k ∙ ap (cell_for cells number) (sym (small_tag s i w))
 
     module _ (levels : ℕ) (before : List ℕ) (mask : ℕ) where
       -- A field that repeats a single one.
@@ -408,7 +415,7 @@ module _ (cells : List ℕ) (number : ℕ) (s : List ℕ) (i cell : ℕ) (e : ce
 
       module _ (fresh : repeats (indexed cells) number before (tag_at (drop i s)) ≡ false) where
         -- The step by the code and the contents.
-        small_field : next_by_kind levels (meaning_in cell) (i + 1) (short_contents (meaning_in cell) inside) (note_in mask cell) inside
+        pub small_field : next_by_kind levels (meaning_in cell) (i + 1) (short_contents (meaning_in cell) inside) (note_in mask cell) inside
             ≡ next_of cells levels number before mask s i
         unfolding indexed
         small_field =
@@ -418,51 +425,53 @@ module _ (cells : List ℕ) (number : ℕ) (s : List ℕ) (i cell : ℕ) (e : ce
             (field_at s i (get_or s i 0 / 16) (bit_and (get_or s i 0) 15) 1 (small_control s i w) cells levels number before mask (omega arith)
             (rw (small_tag s i w) at fresh) true (sym (small_short s i w)))
 
-        module _ (code : ℕ) (k : code ≡ code_in cell) where
-          coded : {r : Next} → too_deep levels (meaning_of code) ≡ false
-              → r ≡ next_at (i + 1) (short_contents (meaning_of code) inside) (note_in mask cell) (step_by_kind (meaning_of code) 0 inside)
-              → r ≡ next_of cells levels number before mask s i
-          unfolding meaning_in
-          coded d p =
-              by_kind levels (meaning_of code) (i + 1) (short_contents (meaning_of code) inside) (note_in mask cell) inside d p ∙ rw k small_field
+-- The step at such a field by the code of its kind.
+module _ (s : List ℕ) (i : ℕ) (w : small_at s i ≡ true) (levels code mask : ℕ) where
+  abbrev small_end : ℕ
+  small_end = i + 1 + bit_and (get_or s i 0) 15
 
-          span : (i + 1 ≤ end) × (end ≤ length s)
-          span = (omega arith, (small_inside s i w).1)
+  abbrev in_short : Bool
+  in_short = short_contents (meaning_of code) (small_contents s i)
 
-          pub passed_next : (r : ℕ) → r ≡ end → code ≤ 4 → Passes code (i + 1) r s → Over r true (note_in mask cell) ≡ next_of cells levels number before mask s i
-          unfolding Passes
-          passed_next r d h p =
-              let q : Passes code (i + 1) end s = subst (λ (x : ℕ). Passes code (i + 1) x s) d p in
-              ap (λ (x : ℕ). Over x true (note_in mask cell)) d ∙ coded (deep_plain levels code h) (q (note_in mask cell))
+  abbrev by_code : Next
+  by_code = next_by_kind levels (meaning_of code) (i + 1) in_short mask (small_contents s i)
 
-          pub small_no_text : code ≡ 4 → NoText code s i → Fault 7 ≡ next_of cells levels number before mask s i
-          unfolding NoText
-          small_no_text f t =
-              coded (deep_plain levels code (omega arith))
-              (no_text_at code s (i + 1) end span (short_contents (meaning_of code) inside) (note_in mask cell) f (t f))
+  coded : {r : Next} → too_deep levels (meaning_of code) ≡ false
+      → r ≡ next_at (i + 1) in_short mask (step_by_kind (meaning_of code) 0 (small_contents s i)) → r ≡ by_code
+  coded d p = by_kind levels (meaning_of code) (i + 1) in_short mask (small_contents s i) d p
 
-          pub small_wide : 8 < end - (i + 1) → (code ≡ 1) ⊎ (code ≡ 2) → Fault 6 ≡ next_of cells levels number before mask s i
-          small_wide l x =
-              coded (deep_plain levels code (⊎_elim {C = code ≤ 4} (λ y. omega arith) (λ y. omega arith) x))
-              (wide_at code s (i + 1) end span (short_contents (meaning_of code) inside) (note_in mask cell) l x)
+  span : (i + 1 ≤ small_end) × (small_end ≤ length s)
+  span = (omega arith, (small_inside s i w).1)
 
-          pub small_number : end - (i + 1) ≤ 8 → code < 4 → (b : Bool) → b ≡ short_contents (meaning_of code) inside
-              → Over end b (note_in mask cell) ≡ next_of cells levels number before mask s i
-          small_number l x b y =
-              coded (deep_plain levels code (omega arith))
-              (ap (λ (t : Bool). Over end t (note_in mask cell)) y
-              ∙ plain_at code s (i + 1) end span (short_contents (meaning_of code) inside) (note_in mask cell) x (λ z. absurd (omega arith)) (λ z. absurd (omega arith)))
+  pub passed_next : (r : ℕ) → r ≡ small_end → code ≤ 4 → Passes code (i + 1) r s → Over r true mask ≡ by_code
+  unfolding Passes
+  passed_next r d h p =
+      let q : Passes code (i + 1) small_end s = subst (λ (x : ℕ). Passes code (i + 1) x s) d p in
+      ap (λ (x : ℕ). Over x true mask) d ∙ coded (deep_plain levels code h) (q mask)
 
-          pub small_deep : levels ≡ 0 → 4 < code → Fault refusals.too_deep ≡ next_of cells levels number before mask s i
-          unfolding meaning_in
-          small_deep z h =
-              deep_refused levels (meaning_of code) (i + 1) (short_contents (meaning_of code) inside) (note_in mask cell) inside (rw z (deep_message code h)) ∙ rw k small_field
+  pub small_no_text : code ≡ 4 → NoText code s i → Fault 7 ≡ by_code
+  unfolding NoText
+  small_no_text f t = coded (deep_plain levels code (omega arith)) (no_text_at code s (i + 1) small_end span in_short mask f (t f))
 
-          pub small_message : 1 ≤ levels → 4 < code → Into (code - 5) (i + 1) end true (note_in mask cell) ≡ next_of cells levels number before mask s i
-          small_message d h =
-              coded (deep_never levels (meaning_of code) d)
-              (ap (λ (t : Bool). Into (code - 5) (i + 1) end t (note_in mask cell)) (sym (short_message code inside h))
-              ∙ message_at code s (i + 1) end span (short_contents (meaning_of code) inside) (note_in mask cell) h)
+  pub small_wide : 8 < small_end - (i + 1) → (code ≡ 1) ⊎ (code ≡ 2) → Fault 6 ≡ by_code
+  small_wide l x =
+      coded (deep_plain levels code (⊎_elim {C = code ≤ 4} (λ y. omega arith) (λ y. omega arith) x))
+      (wide_at code s (i + 1) small_end span in_short mask l x)
+
+  pub small_number : small_end - (i + 1) ≤ 8 → code < 4 → (b : Bool) → b ≡ in_short → Over small_end b mask ≡ by_code
+  small_number l x b y =
+      coded (deep_plain levels code (omega arith))
+      (ap (λ (t : Bool). Over small_end t mask) y
+      ∙ plain_at code s (i + 1) small_end span in_short mask x (λ z. absurd (omega arith)) (λ z. absurd (omega arith)))
+
+  pub small_deep : levels ≡ 0 → 4 < code → Fault refusals.too_deep ≡ by_code
+  small_deep z h = deep_refused levels (meaning_of code) (i + 1) in_short mask (small_contents s i) (rw z (deep_message code h))
+
+  pub small_message : 1 ≤ levels → 4 < code → Into (code - 5) (i + 1) small_end true mask ≡ by_code
+  small_message d h =
+      coded (deep_never levels (meaning_of code) d)
+      (ap (λ (t : Bool). Into (code - 5) (i + 1) small_end t mask) (sym (short_message code (small_contents s i) h))
+      ∙ message_at code s (i + 1) small_end span in_short mask h)
 
 -- ---- a field that passes by the code, where its contents start and where they end
 

@@ -15,7 +15,7 @@ use Rattle.message.specs.internal.Notes as specs
 use Rattle.message.proofs.Steps.{step_any_before}
 use Rattle.message.proofs.Notes as masks
 use Rattle.message_field.specs.internal.Nexts.{next_at, short_field, next_of, Notes, passing, noted_tags, noted_of}
-use Rattle.message_field.specs.declared.Noted.TheVariants.{Repeated, Mask}
+use Rattle.std.specs.Prelude.{Some, None}
 
 module _ (cells : List ℕ) (n : ℕ) where
   abbrev is_single : ℕ → Bool
@@ -101,18 +101,18 @@ module _ (cells : List ℕ) (n mask : ℕ) where
 
 -- What the function `note` returned, as it is tested.
 module _ (mask cell : ℕ) where
-  pub noted_repeats : Repeated ≡ noted_of mask cell → noted_in mask cell ≡ true
+  pub noted_repeats : None ≡ noted_of mask cell → noted_in mask cell ≡ true
   unfolding noted_of
   noted_repeats e = go (noted_in mask cell) e
     where
-      go : (b : Bool) → Repeated ≡ cond b Repeated (Mask (note_in mask cell)) → b ≡ true
+      go : (b : Bool) → None ≡ cond b None (Some (note_in mask cell)) → b ≡ true
       go true e = refl
       go false e = let z : ◌≡◌ {A = ℕ} 0 1 = cc in absurd (omega arith)
 
-  pub noted_mask : (m : ℕ) → Mask m ≡ noted_of mask cell → (noted_in mask cell ≡ false) × (m ≡ note_in mask cell)
+  pub noted_mask : (m : ℕ) → Some m ≡ noted_of mask cell → (noted_in mask cell ≡ false) × (m ≡ note_in mask cell)
   unfolding noted_of
   noted_mask m e = go (noted_in mask cell) e
     where
-      go : (b : Bool) → Mask m ≡ cond b Repeated (Mask (note_in mask cell)) → (b ≡ false) × (m ≡ note_in mask cell)
+      go : (b : Bool) → Some m ≡ cond b None (Some (note_in mask cell)) → (b ≡ false) × (m ≡ note_in mask cell)
       go true e = let z : ◌≡◌ {A = ℕ} 0 1 = cc in absurd (omega arith)
       go false e = (refl, cc)

@@ -1,41 +1,35 @@
 // Reads the field at an offset of a message: its head, or the step over it or into it.
 #![tactic(auto)]
 
-ghost use Rattle.std.specs.Prelude.{◌≡◌, true, cond, ◌&&◌, List, ℕ, ◌-◌, ◌≤◌, ◌<◌, length, take, drop};
+ghost use Rattle.std.specs.Prelude.{◌≡◌, true, cond, ◌&&◌, List, ℕ, ◌-◌, ◌≤◌, ◌<◌, length, take, drop, MatchOption};
+ghost use Rattle.reading.specs.Refusals.{number as number-of};
 ghost use Rattle.reading.specs.Refusals as refusals;
 ghost use Rattle.message.specs.Reading.{too_deep};
 ghost use Rattle.message.specs.internal.Short.{short_contents};
-ghost use Rattle.message_field.specs.internal.Heads.{head_at};
-ghost use Rattle.message_field.specs.internal.Nexts.{short_number, next_by_kind, next_of, noted_tags, noted_of};
+ghost use Rattle.message_field.specs.internal.Heads.{Field, head_of, head_at, Fieldless};
+ghost use Rattle.message_field.specs.internal.Nexts.{in_numbers, short_number, next_by_kind, next_of, noted_tags, noted_of};
 ghost use Rattle.table_index.specs.internal.Cells.{meaning_of, meaning_in};
 
 use octets::Control;
+use reading::Refusal;
 
-// The head of a field: its tag and the span of its contents. Or there is no field: the message ends there, or it has a fault with this
-// refusal.
-#[derive(Clone, Copy)]
-pub enum Head {
-    End,
-    Fault(u64),
-    Field { tag: u64, start: usize, end: usize },
+// The head of a field: its tag and the span of its contents.
+#[derive(Clone, Copy, Debug, PartialEq, Eq)]
+pub struct Head {
+    pub tag: u64,
+    pub start: usize,
+    pub end: usize,
 }
 
 // What a message has at an offset: its end; a fault with a refusal; a field that is no message, with the offset after it; a field that is a
 // message, with its message number and the span of its contents. Each field comes with whether it is in its shortest form; of a field that
 // is a message this is said of the control part alone. The last part is the mask of the single tags noted so far, with that of the field.
-#[derive(Clone, Copy)]
+#[derive(Clone, Copy, Debug, PartialEq, Eq)]
 pub enum Next {
     Done,
-    Fault(u64),
+    Fault(Refusal),
     Over(usize, bool, u64),
     Into(u64, usize, usize, bool, u64),
-}
-
-// The mask of the single tags after a field, or that the field repeats one of them.
-#[derive(Clone, Copy)]
-pub enum Noted {
-    Repeated,
-    Mask(u64),
 }
 
 // Returns whether octets are the shortest form of a uint, for code 1, or of an int, for any other code. Most numbers have a first octet with a
@@ -59,11 +53,11 @@ pub fn shortest_number(code: u64, s: &[u8]) -> bool
 // in its shortest form. Comparing the code takes less time than a match on the kind, which the compiler makes a jump table.
 fn by_any_code(code: u64, nested: u64, s: &[u8], a: usize, e: usize, short: bool, seen: u64) -> Next
     requires { (a ≤ e) × (e ≤ length s.now) }
-    ensures { result ≡ next_by_kind nested (meaning_of code) a (short && short_contents (meaning_of code) (take (e - a) (drop a s.now))) seen (take (e - a) (drop a s.now)) }
+    ensures { in_numbers result ≡ next_by_kind nested (meaning_of code) a (short && short_contents (meaning_of code) (take (e - a) (drop a s.now))) seen (take (e - a) (drop a s.now)) }
 {
     if 4 < code {
         if nested == 0 {
-            return Next::Fault(reading::TOO_DEEP);
+            return Next::Fault(Refusal::TooDeep);
         }
         return Next::Into(code - 5, a, e, short, seen);
     }
@@ -71,11 +65,11 @@ fn by_any_code(code: u64, nested: u64, s: &[u8], a: usize, e: usize, short: bool
         if octets_text::text(&s[a..e]) {
             return Next::Over(e, short, seen);
         }
-        return Next::Fault(reading::TEXT);
+        return Next::Fault(Refusal::Text);
     }
     if code == 1 || code == 2 {
         if 8 < e - a {
-            return Next::Fault(reading::NUMBER_TOO_WIDE);
+            return Next::Fault(Refusal::NumberTooWide);
         }
         return Next::Over(e, short && shortest_number(code, &s[a..e]), seen);
     }
@@ -97,7 +91,7 @@ fn needs_first_octet(s: &[u8], a: usize, e: usize) -> bool
 // The same step. Most fields are neither text nor a message and pass by a look at their first octet, so that is tested first.
 fn by_code(code: u64, nested: u64, s: &[u8], a: usize, e: usize, short: bool, seen: u64) -> Next
     requires { (a ≤ e) × (e ≤ length s.now) }
-    ensures { result ≡ next_by_kind nested (meaning_of code) a (short && short_contents (meaning_of code) (take (e - a) (drop a s.now))) seen (take (e - a) (drop a s.now)) }
+    ensures { in_numbers result ≡ next_by_kind nested (meaning_of code) a (short && short_contents (meaning_of code) (take (e - a) (drop a s.now))) seen (take (e - a) (drop a s.now)) }
 {
     if code < 4 {
         if e - a <= 8 {
@@ -109,50 +103,50 @@ fn by_code(code: u64, nested: u64, s: &[u8], a: usize, e: usize, short: bool, se
     by_any_code(code, nested, s, a, e, short, seen)
 }
 
-// Notes the tag of a cell in the mask of the single tags of the fields before: returns the mask after it, or that the field repeats one of them.
-pub fn note(seen: u64, cell: u64) -> Noted
+// Notes the tag of a cell in the mask of the single tags of the fields before: returns the mask after it, none if the field repeats one of them.
+pub fn note(seen: u64, cell: u64) -> Option<u64>
     ensures { result ≡ noted_of seen cell }
 {
     if !table_index::single(cell) {
-        return Noted::Mask(seen);
+        return Some(seen);
     }
     let order = table_index::order(cell);
     if table_index::has_bit(seen, order) {
-        return Noted::Repeated;
+        return None;
     }
-    Noted::Mask(table_index::with_bit(seen, order))
+    Some(table_index::with_bit(seen, order))
 }
 
 // The refusal of a field that repeats a single one: if it is also too deep, that comes first.
-pub fn repeat_fault(nested: u64, cell: u64) -> u64
-    ensures { result ≡ cond (too_deep nested (meaning_in cell)) refusals.too_deep refusals.repeated }
+pub fn repeat_fault(nested: u64, cell: u64) -> Refusal
+    ensures { number-of result ≡ cond (too_deep nested (meaning_in cell)) refusals.too_deep refusals.repeated }
 {
     if nested == 0 && 4 < table_index::code(cell) {
-        return reading::TOO_DEEP;
+        return Refusal::TooDeep;
     }
-    reading::REPEATED
+    Refusal::Repeated
 }
 
 // The step at an offset of a message, under the index of a table. `nested` is how many messages deep a message in it may be. `seen` is the mask of
 // the single tags of the fields before. The announced length is compared with the count of octets after the control part, because
 // adding a place to that length could overflow.
 pub fn step(cells: &[u32; 128], nested: u64, number: u64, seen: u64, s: &[u8], i: usize) -> Next
-    ensures { result ≡ next_of cells.now nested number (noted_tags cells.now number seen) seen s.now i }
+    ensures { in_numbers result ≡ next_of cells.now nested number (noted_tags cells.now number seen) seen s.now i }
 {
     let read = octets_read::control_at(s, i);
     let part = read.control;
     match part {
         Control::Absent => Next::Done,
-        Control::Partial => Next::Fault(reading::CUT),
+        Control::Partial => Next::Fault(Refusal::Cut),
         Control::Whole { tag, length, size } => {
             let start = i + (size as usize);
             let remaining = (s.len() - start) as u64;
             if remaining < length {
-                return Next::Fault(reading::PAST_THE_END);
+                return Next::Fault(Refusal::PastTheEnd);
             }
             let end = start + (length as usize);
             let cell = table_index::cell(cells, number, tag);
-            let Noted::Mask(after) = note(seen, cell) else {
+            let Some(after) = note(seen, cell) else {
                 return Next::Fault(repeat_fault(nested, cell));
             };
             by_code(
@@ -168,31 +162,38 @@ pub fn step(cells: &[u32; 128], nested: u64, number: u64, seen: u64, s: &[u8], i
     }
 }
 
-// Returns the head of the field at the offset i of the message that ends at the offset `end` of s. `step` does not call this function but
+// Returns the head of the field at the offset i of the message that ends at the offset `end` of s, none if the message ends at i. `step` does not call this function but
 // reads the control part itself: this function has other callers, so the compiler does not inline it, and the check then takes up to 1.6
 // times as long.
-pub fn head_at(s: &[u8], i: usize, end: usize) -> Head
-    ensures { result ≡ head_at i (drop i (take end s.now)) }
+pub fn head_at(s: &[u8], i: usize, end: usize) -> Result<Option<Head>, Refusal>
+    ensures { head_of result ≡ head_at i (drop i (take end s.now)) }
 {
-    let stop = numbers::smaller(end, s.len());
+    let stop = end.min(s.len());
     if stop <= i {
-        return Head::End;
+        return Ok(None);
     }
     let part = octets_read::control(&s[i..stop]).control;
     match part {
-        Control::Absent => Head::End,
-        Control::Partial => Head::Fault(reading::CUT),
+        Control::Absent => Ok(None),
+        Control::Partial => Err(Refusal::Cut),
         Control::Whole { tag, length, size } => {
             let start = i + (size as usize);
             let rest = (stop - start) as u64;
             if rest < length {
-                return Head::Fault(reading::PAST_THE_END);
+                return Err(Refusal::PastTheEnd);
             }
-            Head::Field {
+            Ok(Some(Head {
                 tag,
                 start,
                 end: start + (length as usize),
-            }
+            }))
         }
     }
+}
+
+// Returns the head of the field at the offset i of a message, none if there is no field, whatever the reason.
+pub fn field_at(s: &[u8], i: usize) -> Option<Head>
+    ensures { MatchOption result (Fieldless (head_at i (drop i s.now))) (λ h. head_at i (drop i s.now) ≡ Field h.tag h.start h.end) }
+{
+    head_at(s, i, s.len()).unwrap_or(None)
 }

@@ -11,8 +11,8 @@ use Rattle.table_index.specs.internal.Cells.{meaning_of}
 use Rattle.message.specs.internal.Short.{short_contents}
 use Rattle.message.specs.Reading.{step_by_kind}
 use Rattle.message_field.specs.internal.Nexts.{next_at, next_by_kind, short_number}
-use Rattle.message_field.specs.declared.Next.{Next}
-use Rattle.message_field.specs.declared.Next.TheVariants.{Over, Into}
+use Rattle.message_field.specs.internal.Nexts.{Next}
+use Rattle.message_field.specs.internal.Nexts.{Over, Into}
 use Rattle.message_field.proofs.Nexts.{number_contents, deep_plain, deep_message, deep_never, deep_refused, by_kind, short_message, short_text, short_no_number, message_at, plain_at, wide_at, text_at, no_text_at}
 use Rattle.message_field.proofs.by_any_code.Goals as goal
 use Rattle.message_field.proofs.by_any_code.Goals.{Joined-then-code-eq1, Start, then-code-eq1-via-then-code-eq1, then-code-eq1-via-else-code-eq1+then-code-eq2}

@@ -7,7 +7,7 @@ use lib.ListN.{take, drop}
 use Rattle.octets.proofs.Bools.{true_second}
 use Rattle.table_index.specs.internal.Cells.{meaning_of}
 use Rattle.message.specs.internal.Short.{short_contents}
-use Rattle.message_field.specs.declared.Next.TheVariants.{Over}
+use Rattle.message_field.specs.internal.Nexts.{Over}
 use Rattle.message_field.proofs.Nexts.{deep_plain, by_kind, plain_at}
 use Rattle.message_field.proofs.by_code.Goals as goal
 

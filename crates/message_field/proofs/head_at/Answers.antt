@@ -20,7 +20,7 @@ module _ (d : After-control-part) where
   octets = drop i (take d.args.end d.args.s.now)
 
   abbrev stop : ℕ
-  stop = d.smaller-stop.result
+  stop = d.min-stop.result
 
   before-stop : i ≤ stop
   before-stop = omega arith
@@ -28,12 +28,12 @@ module _ (d : After-control-part) where
   read : d.control-part.result.control ≡ control octets
   read =
       let a = d.args in
-      d.control-part.ensures.control_value ∙ ap control (span_is a.s.now i a.end stop d.smaller-stop.ensures before-stop)
+      d.control-part.ensures.control_value ∙ ap control (span_is a.s.now i a.end stop d.min-stop.ensures before-stop)
 
   many : length octets ≡ stop - i
   many =
       let a = d.args in
-      span_length a.s.now i a.end stop d.smaller-stop.ensures before-stop
+      span_length a.s.now i a.end stop d.min-stop.ensures before-stop
 
   size_fits : (tag len size : ℕ) → control octets ≡ Whole tag len size → i + size ≤ stop
   size_fits tag len size e = let h = size_inside octets tag len size e in let l = many in let k = before-stop in omega arith
@@ -42,7 +42,7 @@ pub returns-then-stop-i : goal.returns-then-stop-i
 returns-then-stop-i c =
     let a = c.args in
     head_none a.i (drop a.i (take a.end a.s.now))
-    (span_none a.s.now a.i a.end c.smaller-stop.result c.smaller-stop.ensures c.if-stop-i.true)
+    (span_none a.s.now a.i a.end c.min-stop.result c.min-stop.ensures c.if-stop-i.true)
 
 pub overflow_add-start : goal.overflow_add-start
 overflow_add-start c =

@@ -7,7 +7,7 @@ use borrow.Author.Tests.{not-true, not-false}
 use Rattle.table.specs.Mask.{has_bit, with_bit}
 use Rattle.table_index.specs.internal.Cells.{single_in, order_in, noted_in, note_in}
 use Rattle.message_field.specs.internal.Nexts.{noted_of}
-use Rattle.message_field.specs.declared.Noted.TheVariants.{Repeated, Mask}
+use Rattle.std.specs.Prelude.{Some, None}
 use Rattle.message_field.proofs.note.Goals as goal
 use Rattle.message_field.proofs.note.Goals.{After-has_bit, Start}
 
@@ -17,16 +17,16 @@ unfolding order_in
 low cell k e = omega arith
 
 module _ (mask cell : ℕ) where
-  many : single_in cell ≡ false → Mask mask ≡ noted_of mask cell
+  many : single_in cell ≡ false → Some mask ≡ noted_of mask cell
   unfolding noted_of noted_in note_in
   many e = rw e refl
 
   module _ (e : single_in cell ≡ true) (k : ℕ) (o : k ≡ order_in cell) where
-    again : has_bit mask (k % 64) ≡ true → Repeated ≡ noted_of mask cell
+    again : has_bit mask (k % 64) ≡ true → None ≡ noted_of mask cell
     unfolding noted_of noted_in
     again h = rw (e, ← low cell k o, h) refl
 
-    first : has_bit mask (k % 64) ≡ false → Mask (with_bit mask (k % 64)) ≡ noted_of mask cell
+    first : has_bit mask (k % 64) ≡ false → Some (with_bit mask (k % 64)) ≡ noted_of mask cell
     unfolding noted_of noted_in note_in
     first h = rw (e, ← low cell k o, h) refl
 
@@ -53,4 +53,4 @@ pub returns : goal.returns
 returns c =
     let d = c in
     let a = (start (goal.at.returns c).After-has_bit).args in
-    ap Mask c.with_bit.ensures ∙ first a.seen a.cell (marked (goal.at.returns c).After-has_bit) _ d.order-order.ensures (sym d.has_bit.ensures ∙ c.if-has_bit.false)
+    ap Some c.with_bit.ensures ∙ first a.seen a.cell (marked (goal.at.returns c).After-has_bit) _ d.order-order.ensures (sym d.has_bit.ensures ∙ c.if-has_bit.false)

@@ -12,7 +12,7 @@ use Rattle.octets.specs.declared.Control.TheVariants.{Whole}
 use Rattle.message.specs.Single.{repeats}
 use Rattle.message.specs.Reading.{too_deep}
 use Rattle.message_field.specs.internal.Nexts.{noted_tags, noted_of}
-use Rattle.message_field.specs.declared.Next.TheVariants.{Fault}
+use Rattle.message_field.specs.internal.Nexts.{Fault}
 use Rattle.message_field.proofs.Nexts.{done_at, partial_at, start_inside, past_at, repeated_at, field_at}
 use Rattle.message_field.proofs.Notes.{noted_tags_lem, repeats_noted, noted_repeats, noted_mask}
 use Rattle.message_field.proofs.step.Goals as goal
@@ -95,12 +95,12 @@ returns-in-Partial c =
     let a = c.args in
     partial_at a.cells.now a.nested a.number (noted_tags a.cells.now a.number a.seen) a.seen a.s.now a.i (sym c.control_at-read.ensures.control_value ∙ c.in-Partial.is)
 
-pub returns-in-Mask : goal.returns-in-Mask
+pub returns-in-Some : goal.returns-in-Some
 unfolding indexed meaning_in
-returns-in-Mask c =
-    let n = (goal.at.returns-in-Mask c).After-note in
+returns-in-Some c =
+    let n = (goal.at.returns-in-Some c).After-note in
     let a = c.args in
-    let m = noted_mask a.seen (cell n) c.in-Mask.after (sym c.in-Mask.is ∙ noted_is n) in
+    let m = noted_mask a.seen (cell n) c.in-Some.after (sym c.in-Some.is ∙ noted_is n) in
     let k = c.code.ensures ∙ ap code_in c.cell-cell.ensures in
     let w = c.control_at-read in
     c.by_code.ensures ∙ rw (k, m.1)

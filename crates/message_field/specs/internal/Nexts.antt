@@ -1,6 +1,6 @@
 -- The step at an offset of a message, with offsets in the message in place of lengths, whether the field there is in its shortest form, and the
 -- single tags noted after it. `step` returns it.
-use Rattle.std.specs.Prelude.{ℕ, zero, suc, ◌+◌, ◌-◌, ◌/◌, ◌%◌, ◌≡◌, Bool, true, false, cond, ◌&&◌, List, [], ◌∷◌, length, get_or, take, drop, eqb, leb, ltb}
+use Rattle.std.specs.Prelude.{ℕ, zero, suc, ◌+◌, ◌-◌, ◌/◌, ◌%◌, ◌≡◌, Bool, true, false, cond, ◌&&◌, List, [], ◌∷◌, Option, None, Some, length, get_or, take, drop, eqb, leb, ltb}
 use Rattle.std.specs.Int.Bits.{bit_and}
 use Rattle.octets.specs.Text.{text}
 use Rattle.octets.specs.Short.{short_part, short_uint, short_int}
@@ -14,12 +14,24 @@ use Rattle.table_index.specs.internal.Cells.{cell_for, meaning_of, single_in, or
 use Rattle.message.specs.Reading.{step, step_by_kind, too_deep, tag_at}
 use Rattle.message.specs.internal.Notes as masks
 use Rattle.message.specs.internal.Short.{short_contents}
-use Rattle.message.specs.declared.Step.{Step}
-use Rattle.message.specs.declared.Step.TheVariants as steps
-use Rattle.message_field.specs.declared.Noted.{Noted}
-use Rattle.message_field.specs.declared.Noted.TheVariants.{Repeated, Mask}
-use Rattle.message_field.specs.declared.Next.{Next}
-use Rattle.message_field.specs.declared.Next.TheVariants.{Done, Fault, Over, Into}
+use Rattle.message.specs.Reading.{Step}
+use Rattle.message.specs.Reading as steps
+use Rattle.reading.specs.Refusals.{number}
+use Rattle.message_field.specs.declared.Next as code
+use Rattle.message_field.specs.declared.Next.TheVariants as found
+
+-- What `step` finds, with a refusal by its number.
+pub data Next : Type 0 where
+  Done : Next
+  Fault : ℕ → Next
+  Over : ℕ → Bool → ℕ → Next
+  Into : ℕ → ℕ → ℕ → Bool → ℕ → Next
+
+abbrev pub in_numbers : code.Next → Next
+in_numbers found.Done = Done
+in_numbers (found.Fault r) = Fault (number r)
+in_numbers (found.Over e short mask) = Over e short mask
+in_numbers (found.Into m a e short mask) = Into m a e short mask
 
 unfoldable pub next_at : ℕ → Bool → ℕ → Step → Next
 next_at i short mask steps.Done = Done
@@ -64,9 +76,9 @@ passing test (suc k) = cond (test k) (k ∷ passing test k) (passing test k)
 unfoldable pub noted_tags : List ℕ → ℕ → ℕ → List ℕ
 noted_tags cells n mask = passing (λ tag. noted_in mask (cell_for cells n tag)) 65536
 
--- The mask after a field, by its cell, or that the field repeats a single one.
-unfoldable pub noted_of : ℕ → ℕ → Noted
-noted_of mask c = cond (noted_in mask c) Repeated (Mask (note_in mask c))
+-- The mask after a field, by its cell; none if the field repeats a single one.
+unfoldable pub noted_of : ℕ → ℕ → Option ℕ
+noted_of mask c = cond (noted_in mask c) None (Some (note_in mask c))
 
 -- The contents from a to e, of the kind with a code, are allowed, in their shortest form, and no message.
 unfoldable pub Passes : ℕ → ℕ → ℕ → List ℕ → Type 0
@@ -85,9 +97,9 @@ small_at s i =
     let c = get_or s i 0 in
     ltb i (length s) && ltb c 224 && ltb (c % 16) 12 && leb (i + 1 + c % 16) (length s)
 
--- The cell of such a field. If there is no such field, a number that is no cell, and that has no kind and no single tag.
-abbrev pub no_cell : ℕ
-no_cell = 4294969280
+-- The contents of such a field, and the cell of its tag; none where there is no such field.
+abbrev pub small_contents : List ℕ → ℕ → List ℕ
+small_contents s i = take (i + 1 + bit_and (get_or s i 0) 15 - (i + 1)) (drop (i + 1) s)
 
-unfoldable pub small_cell : List ℕ → ℕ → List ℕ → ℕ → ℕ
-small_cell cells number s i = cond (small_at s i) (cell_for cells number (get_or s i 0 / 16)) no_cell
+unfoldable pub small_cell : List ℕ → ℕ → List ℕ → ℕ → Option ℕ
+small_cell cells number s i = cond (small_at s i) (Some (cell_for cells number (get_or s i 0 / 16))) None
