@@ -16,7 +16,7 @@ use Rattle.message.specs.Tree.{tree}
 use Rattle.reading.specs.Reading.{Reading, accepted, refused, message_limit, last_number}
 use Rattle.reading.specs.Checks.{refusal, counts}
 use Rattle.reading.specs.internal.Verdicts.{verdict_of, checked_by}
-use Rattle.reading.specs.declared.Verdict.{Verdict}
+use Rattle.reading.specs.internal.Verdicts.{Verdict}
 use Rattle.message.specs.Reading.{reading, message_from}
 use Rattle.message.proofs.Shortened.{tree_depth}
 use Rattle.message_calls.specs.internal.Verdicts.{fields, verdict}

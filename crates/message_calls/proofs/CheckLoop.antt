@@ -10,20 +10,20 @@ use lib.Seq.{drop-drop, length-take-le}
 use Rattle.table.specs.Schema.{Schema}
 use Rattle.table_index.specs.internal.Cells.{cell_for, indexed, note_in}
 use Rattle.message.specs.Cut.{Cut, end, leaf, nested, depth, joined, Allowed}
-use Rattle.message.specs.declared.Step.{Step}
-use Rattle.message.specs.declared.Step.TheVariants as steps
+use Rattle.message.specs.Reading.{Step}
+use Rattle.message.specs.Reading as steps
 use Rattle.reading.specs.Reading.{Reading, accepted, refused}
 use Rattle.message.specs.Reading.{Inner, step, tag_at, after_step, fields_from, message_from}
 use Rattle.message.proofs.Steps.{StepMeans, step_means, Fresh, step_fresh}
 use Rattle.octets.proofs.ControlPart.{part_size}
 use Rattle.message_field.specs.internal.Nexts.{next_of, short_field}
-use Rattle.message_field.specs.declared.Next.{Next}
-use Rattle.message_field.specs.declared.Next.TheVariants.{Done, Fault, Over, Into}
+use Rattle.message_field.specs.internal.Nexts.{Next}
+use Rattle.message_field.specs.internal.Nexts.{Done, Fault, Over, Into}
 use Rattle.message_field.proofs.Nexts.{OverFrom, IntoFrom, NextFrom, came_from}
 use Rattle.message.proofs.Accepted.{accepted_good, depth_positive}
 use Rattle.message_calls.specs.internal.Verdicts.{fields, verdict}
-use Rattle.reading.specs.declared.Verdict.{Verdict}
-use Rattle.reading.specs.declared.Verdict.TheVariants.{Accepted, Refused}
+use Rattle.reading.specs.internal.Verdicts.{Verdict}
+use Rattle.reading.specs.internal.Verdicts.{Accepted, Refused}
 use Rattle.reading.specs.internal.Verdicts.{verdict_of}
 use Rattle.reading.proofs.Traversal as traversal
 use Rattle.reading.proofs.Traversal.{Traversal}

@@ -2,6 +2,7 @@ pub mod CheckLoop
 pub mod ShortLoop
 pub mod Progress
 pub mod FirstOctets
+pub mod SmallFields
 pub mod CheckAnswers
 pub mod AcceptedByCheck
 pub mod LookupLoop
@@ -18,8 +19,14 @@ pub mod MeasureLoop
 pub mod ShortenAnswers
 pub mod Demand3Loaded
 pub mod CallsByOctets
+pub mod IndexOrders
+pub mod OctetsIndex
+pub mod Numbers
+pub mod Prologue
+pub mod Entries
 pub mod Demand3
 pub mod Demand1
 pub mod Samples
 pub mod ShortAnswers
 pub mod ShortAlready
+pub mod ByIndex

@@ -4,6 +4,7 @@ use native.Mathlib.Omega.{arith}
 use mathlib.Core.Path.{◌≡◌, refl, sym, ap, ◌∙◌}
 use mathlib.Core.Bool.{true, false, ◌&&◌}
 use mathlib.Core.List.{List}
+use Rattle.std.specs.Prelude as std
 use mathlib.Core.Option.{Option, none, some, map}
 use lib.ListN.{length, take, drop, length-drop}
 use lib.Seq.{length-take-le}
@@ -26,13 +27,12 @@ use Rattle.message.proofs.Accepted.{accepted_good}
 use Rattle.message_calls.specs.Check.{check, check_under}
 use Rattle.reading.specs.Checks as answers
 use Rattle.reading.specs.declared.Checked.{Checked}
-use Rattle.message_calls.specs.Lookup.{ItemSpan, outermost, chosen, refusal, found, found_in, answer, lookup, lookup_last}
-use Rattle.message_calls.specs.internal.LookupUnder.{look_under, lookup_under, lookup_last_under}
+use Rattle.message_calls.specs.Lookup.{ItemSpan, outermost, chosen, refusal, found, found_in, answer}
+use Rattle.message_calls.specs.internal.LookupUnder.{look_under}
 use Rattle.message_calls.specs.internal.Spans.{spans, optional_span, nth_span, last_span, chosen_span, uint_in, int_in, read}
 use Rattle.message_calls.specs.declared.outermost.Occurrence.{Occurrence}
 use Rattle.message_calls.specs.declared.outermost.Occurrence.TheVariants.{Nth, Last}
-use Rattle.message_calls.specs.declared.outermost.OptionalSpan.{OptionalSpan}
-use Rattle.message_calls.specs.declared.outermost.OptionalSpan.TheVariants.{Absent, At}
+use Rattle.message_calls.specs.declared.outermost.Span.{Span}
 use Rattle.message_calls.proofs.ChosenElements.{Of, chosen_map, chosen_each, with_tag_each}
 use Rattle.message_calls.proofs.OutermostSpans.{item_of, InMessage, each_in_message, span_of, spans_are}
 use Rattle.message_calls.specs.InTree.{Shows}
@@ -78,14 +78,6 @@ module _ (t : Table) (revision : ℕ) (sc : Schema) (same : sc ≡ schema revisi
   unfolding look_under answer
   answer-under which = rw (under-valid t revision n s h v sc same, same) refl
 
-  pub lookup-under : (k : ℕ) → lookup_under sc n s tag k ≡ lookup t revision n s tag k
-  unfolding lookup_under lookup
-  lookup-under k = answer-under (Nth k)
-
-  pub last_under : lookup_last_under sc n s tag ≡ lookup_last t revision n s tag
-  unfolding lookup_last_under lookup_last
-  last_under = answer-under Last
-
 module _ (sc : Schema) (n : ℕ) (s : List ℕ) (tag : ℕ) (which : Occurrence) where
   pub refused-under : (c : Checked) → c ≡ check_under sc n s → (c.refusal ≡ 0 → ⊥) → refusal c.refusal c.place ≡ look_under sc n s tag which
   unfolding look_under
@@ -129,11 +121,11 @@ module _ (sc : Schema) (n : ℕ) (s : List ℕ) (tag : ℕ) (which : Occurrence)
     unfolding cut
     answer-is = under-found e (under_passed sc n s e).1.0 (under_passed sc n s e).1.1
 
-    pub absent : (p : OptionalSpan) → p ≡ chosen_span tag which s → p ≡ Absent → refusal refusals.absent 0 ≡ look_under sc n s tag which
+    pub absent : (p : std.Option Span) → p ≡ chosen_span tag which s → p ≡ std.None → refusal refusals.absent 0 ≡ look_under sc n s tag which
     unfolding optional_span found
     absent p f a = sym (answer-is ∙ go (wanted cut) (sym (span_is cut is-good) ∙ sym f ∙ a))
       where
-        go : (o : Option ItemSpan) → optional_span (map span_of o) ≡ Absent → found o ≡ refusal refusals.absent 0
+        go : (o : Option ItemSpan) → optional_span (map span_of o) ≡ std.None → found o ≡ refusal refusals.absent 0
         go none h = refl
         go (some o) h = let z : ◌≡◌ {A = ℕ} 0 1 = cc in absurd (omega arith)
 
@@ -143,23 +135,24 @@ module _ (sc : Schema) (n : ℕ) (s : List ℕ) (tag : ℕ) (which : Occurrence)
       pub inside : end ≤ length s
       pub answers : read (kind_number (sc.means n tag)) start (take (end - start) (drop start s)) ≡ look_under sc n s tag which
 
-    pub present : (start end : ℕ) (p : OptionalSpan) → p ≡ chosen_span tag which s → p ≡ At start end → Present start end
+    pub present : (x : Span) (p : std.Option Span) → p ≡ chosen_span tag which s → p ≡ std.Some x → Present x.start x.end
     unfolding optional_span Of
-    present start end p f a = go (wanted cut) refl (wanted-in-message cut is-good) (sym (span_is cut is-good) ∙ sym f ∙ a)
+    present x p f a = go (wanted cut) refl (wanted-in-message cut is-good) (sym (span_is cut is-good) ∙ sym f ∙ a)
       where
         go : (o : Option ItemSpan) → wanted cut ≡ o → Of (λ (o : ItemSpan). InMessage sc 7 n s o × (item_tag o.item ≡ tag)) o
-            → optional_span (map span_of o) ≡ At start end → Present start end
+            → optional_span (map span_of o) ≡ std.Some x → Present x.start x.end
         go none w h d = let z : ◌≡◌ {A = ℕ} 0 1 = cc in absurd (omega arith)
         go (some o) w h d =
-            let x : o.start ≡ start = cc in
-            let y : o.start + o.length ≡ end = cc in
+            let same : span_of o ≡ x = cc in
+            let begins : o.start ≡ x.start = ap (λ (y : Span). y.start) same in
+            let ends : o.start + o.length ≡ x.end = ap (λ (y : Span). y.end) same in
             let k = h.0.inside in
-            let l : end - start ≡ o.length = omega arith in
+            let l : x.end - x.start ≡ o.length = omega arith in
             let r = read-span sc 7 n s o tag h.0 h.1 in
             record {
               ordered = omega arith;
               inside = omega arith;
-              answers = rw (l, ← x) (r ∙ sym (answer-is ∙ ap found w));
+              answers = rw (l, ← begins) (r ∙ sym (answer-is ∙ ap found w));
             }
 
 module _ (t : Table) (revision n : ℕ) (s : List ℕ) (tag : ℕ) (which : Occurrence) where

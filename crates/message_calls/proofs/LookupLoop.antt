@@ -3,17 +3,18 @@ use Prim.Native.Nat.{ℕ, zero, suc, ◌+◌, ◌-◌, ◌≤◌, ◌<◌}
 use native.Mathlib.Omega.{arith}
 use mathlib.Core.Path.{◌≡◌, refl, ap, ◌∙◌}
 use mathlib.Core.List.{List, [], ◌∷◌}
+use Rattle.std.specs.Prelude as std
 use mathlib.Core.Option.{Option, none, some}
 use lib.ListN.{length, drop, get_elem?, length-drop}
 use borrow.Author.Tests.{eq-eqb, ne_eqb}
 use Rattle.message_field.specs.internal.Heads.{head_at}
-use Rattle.message_field.specs.declared.Head.{Head}
-use Rattle.message_field.specs.declared.Head.TheVariants.{End, Fault, Field}
-use Rattle.message_field.proofs.Heads.{head_span, Fieldless}
+use Rattle.message_field.specs.internal.Heads.{Head}
+use Rattle.message_field.specs.internal.Heads.{End, Fault, Field}
+use Rattle.message_field.proofs.Heads.{head_span}
+use Rattle.message_field.specs.internal.Heads.{Fieldless}
 use Rattle.message_calls.specs.Lookup.{last_or}
-use Rattle.message_calls.specs.internal.Spans.{Span, after_head, spans_from, spans, optional_span, nth_span, last_span}
-use Rattle.message_calls.specs.declared.outermost.OptionalSpan.{OptionalSpan}
-use Rattle.message_calls.specs.declared.outermost.OptionalSpan.TheVariants as optional
+use Rattle.message_calls.specs.internal.Spans.{after_head, spans_from, spans, optional_span, nth_span, last_span}
+use Rattle.message_calls.specs.declared.outermost.Span.{Span}
 
 module _ {A : Type 0} (x : A) (l : List A) where
   first_is : (k : ℕ) → k ≡ 0 → get_elem? (x ∷ l) k ≡ some x
@@ -90,7 +91,7 @@ module _ (tag : ℕ) (s : List ℕ) where
   pub nothing_sought : (k : ℕ) → Sought k 0 k
   nothing_sought k = record { ahead = at_start; same = ap (λ (l : List Span). get_elem? l k) all_ahead }
 
-  pub not_there : (k i remaining : ℕ) → Sought k i remaining → (h : Head) → head_at i (drop i s) ≡ h → Fieldless h → optional.Absent ≡ nth_span tag k s
+  pub not_there : (k i remaining : ℕ) → Sought k i remaining → (h : Head) → head_at i (drop i s) ≡ h → Fieldless h → std.None ≡ nth_span tag k s
   unfolding nth_span optional_span
   not_there k i remaining q h e f = rw (q.same, none_ahead i q.ahead h e f)
 
@@ -101,7 +102,7 @@ module _ (tag : ℕ) (s : List ℕ) where
     pub other_passed : (t ≡ tag → ⊥) → Sought k end remaining
     other_passed m = record { ahead = next.ahead; same = q.same ∙ ap (λ (l : List Span). get_elem? l remaining) (next.other m) }
 
-    pub reached : t ≡ tag → remaining ≡ 0 → optional.At start end ≡ nth_span tag k s
+    pub reached : t ≡ tag → remaining ≡ 0 → std.Some (record { start = start; end = end }) ≡ nth_span tag k s
     unfolding nth_span optional_span
     reached m z =
         let f : get_elem? (spans tag s) k ≡ some (record { start = start; end = end }) =
@@ -118,28 +119,28 @@ module _ (tag : ℕ) (s : List ℕ) where
         }
 
   -- `best` is the last span before i, if there is one.
-  pub record Latest (i : ℕ) (best : OptionalSpan) : Type 0 where
+  pub record Latest (i : ℕ) (best : std.Option Span) : Type 0 where
     pub ahead : Ahead i
     pub latest : Option Span
     pub best_is : best ≡ optional_span latest
     pub same : last_or none (spans tag s) ≡ last_or latest (rest i ahead)
 
-  pub none_yet : Latest 0 optional.Absent
+  pub none_yet : Latest 0 std.None
   unfolding optional_span
   none_yet = record { ahead = at_start; latest = none; best_is = refl; same = ap (last_or none) all_ahead }
 
-  pub settled : (i : ℕ) (best : OptionalSpan) → Latest i best → (h : Head) → head_at i (drop i s) ≡ h → Fieldless h → best ≡ last_span tag s
+  pub settled : (i : ℕ) (best : std.Option Span) → Latest i best → (h : Head) → head_at i (drop i s) ≡ h → Fieldless h → best ≡ last_span tag s
   unfolding last_span last_or
   settled i best q h e f = rw (q.best_is, q.same, none_ahead i q.ahead h e f)
 
-  module _ (i : ℕ) (best : OptionalSpan) (q : Latest i best) (t start end : ℕ) (e : head_at i (drop i s) ≡ Field t start end) where
+  module _ (i : ℕ) (best : std.Option Span) (q : Latest i best) (t start end : ℕ) (e : head_at i (drop i s) ≡ Field t start end) where
     after : Onward i q.ahead t start end e
     after = onward i q.ahead t start end e
 
     pub kept : (t ≡ tag → ⊥) → Latest end best
     kept m = record { ahead = after.ahead; latest = q.latest; best_is = q.best_is; same = q.same ∙ ap (last_or q.latest) (after.other m) }
 
-    pub replaced : t ≡ tag → Latest end (optional.At start end)
+    pub replaced : t ≡ tag → Latest end (std.Some (record { start = start; end = end }))
     unfolding last_or optional_span
     replaced m =
         record {

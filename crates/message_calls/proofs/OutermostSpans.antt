@@ -18,9 +18,10 @@ use Rattle.message.specs.Tree.{value, tree}
 use Rattle.message.specs.Items.{Item, items, item_tag, with_tag}
 use Rattle.message.proofs.Steps.{field_control, in_three}
 use Rattle.message_calls.specs.Lookup.{ItemSpan, outermost}
-use Rattle.message_calls.specs.internal.Spans.{Span, after_head, spans_from, spans}
+use Rattle.message_calls.specs.declared.outermost.Span.{Span}
+use Rattle.message_calls.specs.internal.Spans.{after_head, spans_from, spans}
 use Rattle.message_field.specs.internal.Heads.{head_from, head_at}
-use Rattle.message_field.specs.declared.Head.TheVariants.{Field}
+use Rattle.message_field.specs.internal.Heads.{Field}
 use Rattle.message_field.proofs.Heads.{head_field}
 use Rattle.message_calls.proofs.ChosenElements.{Each, map_with_tag}
 use Rattle.message_calls.specs.InTree.{Shows}

@@ -5,14 +5,14 @@ use mathlib.Core.Path.{◌≡◌, sym, subst}
 use mathlib.Core.Bool.{Bool, true, false, ◌&&◌}
 use mathlib.Core.List.{List, [], ◌∷◌}
 use lib.ListN.{length, take, drop}
-use Rattle.reading.specs.declared.Verdict.{Verdict}
-use Rattle.reading.specs.declared.Verdict.TheVariants.{Accepted, Refused}
+use Rattle.reading.specs.internal.Verdicts.{Verdict}
+use Rattle.reading.specs.internal.Verdicts.{Accepted, Refused}
 use Rattle.table_index.specs.internal.Cells.{cell_for, indexed, OneOrder, note_in}
 use Rattle.message.specs.Reading.{Inner, tag_at}
 use Rattle.message.specs.internal.Short.{short_reading}
 use Rattle.message_field.specs.internal.Nexts.{next_of, Notes}
-use Rattle.message_field.specs.declared.Next.{Next}
-use Rattle.message_field.specs.declared.Next.TheVariants.{Done, Fault, Over, Into}
+use Rattle.message_field.specs.internal.Nexts.{Next}
+use Rattle.message_field.specs.internal.Nexts.{Done, Fault, Over, Into}
 use Rattle.message_field.proofs.Notes.{notes_none, notes_more}
 use Rattle.message_calls.specs.internal.Verdicts.{verdict}
 use Rattle.message_calls.proofs.CheckLoop as fields

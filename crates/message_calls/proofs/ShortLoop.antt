@@ -17,17 +17,17 @@ use Rattle.table.specs.Schema.{Schema}
 use Rattle.table_index.specs.internal.Cells.{cell_for, indexed, note_in}
 use Rattle.table.specs.declared.Meaning.TheVariants.{Message}
 use Rattle.reading.specs.Reading.{Reading, accepted, refused, on_accepted, in_order}
-use Rattle.reading.specs.declared.Verdict.{Verdict}
-use Rattle.reading.specs.declared.Verdict.TheVariants.{Accepted, Refused}
+use Rattle.reading.specs.internal.Verdicts.{Verdict}
+use Rattle.reading.specs.internal.Verdicts.{Accepted, Refused}
 use Rattle.reading.specs.internal.Verdicts.{verdict_of}
 use Rattle.message.specs.Cut.{Cut, leaf, nested, WholeField}
 use Rattle.message.specs.Reading.{Inner, step, tag_at, after_step, fields_from}
 use Rattle.message.specs.internal.Short.{short_contents, short_cut, short_reading}
-use Rattle.message.specs.declared.Step.TheVariants as steps
+use Rattle.message.specs.Reading as steps
 use Rattle.message.proofs.Steps.{StepMeans, step_means}
 use Rattle.message_field.specs.internal.Nexts.{next_of, short_from, short_field}
-use Rattle.message_field.specs.declared.Next.{Next}
-use Rattle.message_field.specs.declared.Next.TheVariants.{Done, Fault, Over, Into}
+use Rattle.message_field.specs.internal.Nexts.{Next}
+use Rattle.message_field.specs.internal.Nexts.{Done, Fault, Over, Into}
 use Rattle.message_field.proofs.Nexts.{IntoFrom, NextFrom, came_from}
 use Rattle.message_calls.specs.internal.Verdicts.{verdict}
 use Rattle.message_calls.proofs.CheckLoop.{step_inside, step_inside_nested, found_nested, same_reading}
@@ -85,12 +85,6 @@ module _ (sc : Schema) (n : ℕ) where
   unfolding short_reading in_order verdict_of
   short_refused h (accepted x) r k p v = let z : ◌≡◌ {A = ℕ} 0 1 = cc in absurd (omega arith)
   short_refused h (refused reason place) r k p v = refl
-
--- A message that is refused is not short.
-pub refused_short : (sc : Schema) (n : ℕ) (q : Reading Cut) (k p : ℕ) → verdict q ≡ Refused k p → short_reading sc n q ≡ false
-unfolding short_reading verdict_of
-refused_short sc n (accepted x) k p v = let z : ◌≡◌ {A = ℕ} 0 1 = cc in absurd (omega arith)
-refused_short sc n (refused reason place) k p v = refl
 
 -- ---- the loop
 

@@ -18,9 +18,9 @@ use Rattle.message.specs.Shortest.{least_contents, field, shortest}
 use Rattle.message.proofs.Accepted.{good_accepted, accepts_good, good_accepts}
 use Rattle.message.proofs.Next.{Plain}
 use Rattle.message_field.specs.internal.Heads.{head_at}
-use Rattle.message_field.specs.declared.Head.{Head}
-use Rattle.message_field.specs.declared.Head.TheVariants.{Field}
-use Rattle.message_field.proofs.Heads.{Fieldless}
+use Rattle.message_field.specs.internal.Heads.{Head}
+use Rattle.message_field.specs.internal.Heads.{Field}
+use Rattle.message_field.specs.internal.Heads.{Fieldless}
 use Rattle.message_field.proofs.FieldsByHead as fields
 use Rattle.message_field.proofs.FieldsByHead.{Remaining, all_remaining, none_remaining, here, leaf_next, nested_next}
 use Rattle.message_calls.specs.Written.{shortest_of_reading}

@@ -15,9 +15,9 @@ use Rattle.message.specs.Tree.{value}
 use Rattle.message.specs.Shortest.{field, least_contents}
 use Rattle.message.proofs.Next.{Plain}
 use Rattle.message_field.specs.internal.Heads.{head_at}
-use Rattle.message_field.specs.declared.Head.{Head}
-use Rattle.message_field.specs.declared.Head.TheVariants.{Field}
-use Rattle.message_field.proofs.Heads.{Fieldless}
+use Rattle.message_field.specs.internal.Heads.{Head}
+use Rattle.message_field.specs.internal.Heads.{Field}
+use Rattle.message_field.specs.internal.Heads.{Fieldless}
 use Rattle.message_field.proofs.FieldsByHead.{Ends, ends}
 use Rattle.octets_store.specs.Store.{stored}
 use Rattle.octets_store.specs.internal.Moved.{moved}

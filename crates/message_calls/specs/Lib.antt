@@ -5,6 +5,7 @@ pub mod Written
 pub mod Shorten
 pub mod Short
 pub mod Demand3
+pub mod Results
 pub mod Calls
 pub mod ShortAlready
 pub mod Demand1

@@ -1,94 +1,82 @@
 // The lookup: finds the k-th or the last of the outermost fields of a message that have a tag.
-ghost use Rattle.std.specs.Prelude.{◌≡◌};
-ghost use Rattle.message_calls.specs.Lookup.{refusal, answer};
-ghost use Rattle.table_index.specs.internal.Cells.{indexed, OneOrder};
-ghost use Rattle.message_calls.specs.internal.LookupUnder.{look_under, lookup_under, lookup_last_under};
+ghost use Rattle.std.specs.Prelude.{◌≡◌, MatchOption};
+ghost use Rattle.reading.specs.Refusals as refusals;
+ghost use Rattle.table.specs.Entry.{kind_number};
+ghost use Rattle.table_index.specs.internal.Cells.{indexed};
+ghost use Rattle.message_calls.specs.Check.{check_under};
+ghost use Rattle.message_calls.specs.Lookup.{refusal};
+ghost use Rattle.message_calls.specs.Results.{kind_of_value, uint_of_value, int_of_value, field_numbers, found_numbers};
+ghost use Rattle.message_calls.specs.internal.LookupUnder.{look_under};
 ghost use Rattle.message_calls.specs.internal.Spans.{nth_span, last_span, chosen_span, uint_in, int_in, read};
 
-use crate::{Found, traversal};
+use crate::index::Index;
+use crate::{Field, Found, Value, traversal};
 use message_field::Head;
-use table::Table;
+use reading::{Fault, Refusal};
+use table::Meaning;
 
 // Which of the fields with a tag is wanted.
-#[derive(Clone, Copy)]
+#[derive(Clone, Copy, Debug, PartialEq, Eq)]
 pub(crate) enum Occurrence {
     Nth(u64),
     Last,
 }
 
-// The span of a field's contents, if there is such a field.
-#[derive(Clone, Copy)]
-enum OptionalSpan {
-    Absent,
-    At { start: usize, end: usize },
-}
-
-// The answer if the message is rejected or has no such field.
-pub(crate) fn refused(reason: u64, place: u64) -> Found
-    ensures { result ≡ refusal reason place }
-{
-    Found {
-        refusal: reason,
-        place,
-        kind: 0,
-        value: 0,
-        signed: 0,
-        start: 0,
-        length: 0,
-    }
+// Where the contents of a field start and end.
+#[derive(Clone, Copy, Debug, PartialEq, Eq)]
+struct Span {
+    start: usize,
+    end: usize,
 }
 
 // Returns the span of the k-th field with a tag. It skips each field as a whole, so it reads no field of a nested message. It does not ask
 // the index for a tag's kind: a field's end does not depend on it, and a search for each field would take time.
-fn nth(s: &[u8], tag: u64, k: u64) -> OptionalSpan
+// Kept: the loop steps by a field's length; an iterator over the fields would hold the same offset, and one function would become three.
+fn nth(s: &[u8], tag: u64, k: u64) -> Option<Span>
     ensures { result ≡ nth_span tag k s.now }
 {
     let mut i: usize = 0;
     let mut remaining = k;
-    loop {
-        match message_field::head_at(s, i, s.len()) {
-            Head::Field { tag: t, start, end } => {
-                i = end;
-                if t == tag {
-                    if remaining == 0 {
-                        return OptionalSpan::At { start, end };
-                    }
-                    remaining = remaining - 1;
-                }
+    while let Some(Head { tag: t, start, end }) = message_field::field_at(s, i) {
+        i = end;
+        if t == tag {
+            if remaining == 0 {
+                return Some(Span { start, end });
             }
-            _ => return OptionalSpan::Absent,
+            remaining -= 1;
         }
     }
+    None
 }
 
 // Returns the span of the last field with a tag.
-fn last(s: &[u8], tag: u64) -> OptionalSpan
+// Kept: the loop steps by a field's length, as in `nth`.
+fn last(s: &[u8], tag: u64) -> Option<Span>
     ensures { result ≡ last_span tag s.now }
 {
     let mut i: usize = 0;
-    let mut best = OptionalSpan::Absent;
-    loop {
-        match message_field::head_at(s, i, s.len()) {
-            Head::Field {
-                tag: seen,
+    let mut best = None;
+    while let Some(
+        Head {
+            tag: seen,
+            start: first,
+            end: after,
+        },
+    ) = message_field::field_at(s, i)
+    {
+        i = after;
+        if seen == tag {
+            best = Some(Span {
                 start: first,
                 end: after,
-            } => {
-                i = after;
-                if seen == tag {
-                    best = OptionalSpan::At {
-                        start: first,
-                        end: after,
-                    };
-                }
-            }
-            _ => return best,
+            });
         }
     }
+    best
 }
 
 // Returns the span of the wanted field with a tag.
-fn pick(s: &[u8], tag: u64, which: Occurrence) -> OptionalSpan
+fn pick(s: &[u8], tag: u64, which: Occurrence) -> Option<Span>
     ensures { result ≡ chosen_span tag which s.now }
 {
     match which {
@@ -97,107 +85,92 @@ fn pick(s: &[u8], tag: u64, which: Occurrence) -> OptionalSpan
     }
 }
 
-// The value of a uint, 0 for any other kind.
-fn unsigned(kind: u64, s: &[u8]) -> u64
-    ensures { result ≡ uint_in kind s.now }
+// The value of contents of a kind.
+fn value(kind: Meaning, s: &[u8]) -> Value
+    ensures kind_value { kind_of_value result ≡ kind_number kind }
+    ensures uint_value { uint_of_value result ≡ uint_in (kind_number kind) s.now }
+    ensures int_value { int_of_value result ≡ int_in (kind_number kind) s.now }
 {
-    if kind != 1 {
-        return 0;
+    match kind {
+        Meaning::Raw => Value::Raw,
+        Meaning::Uint => Value::Uint(octets_read::uint(s).value),
+        Meaning::Int => Value::Int(octets_read::int(s).value),
+        Meaning::String => Value::String,
+        Meaning::Text => Value::Text,
+        Meaning::Message(_) => Value::Message,
     }
-    octets_read::uint(s).value
 }
 
-// The value of an int, 0 for any other kind.
-fn signed(kind: u64, s: &[u8]) -> i64
-    ensures { result ≡ int_in kind s.now }
+// The field of a kind, by its contents and the offset where they start.
+fn contents(kind: Meaning, start: usize, s: &[u8]) -> Field
+    ensures { field_numbers result ≡ read (kind_number kind) start s.now }
 {
-    if kind != 2 {
-        return 0;
-    }
-    octets_read::int(s).value
-}
-
-// The answer for a field of a kind, by its contents and the offset where they start.
-fn contents(kind: u64, start: u64, s: &[u8]) -> Found
-    ensures { result ≡ read kind start s.now }
-{
-    let value = unsigned(kind, s);
-    let signed = signed(kind, s);
-    Found {
-        refusal: 0,
-        place: 0,
-        kind,
-        value,
-        signed,
+    Field {
+        value: value(kind, s),
         start,
-        length: s.len() as u64,
+        length: s.len(),
     }
 }
 
-// A lookup under any index. It checks the whole message before it looks for a field, so it also rejects a message with a fault after the
+// Returns the wanted field of a message that the check accepts.
+fn wanted(index: &Index, number: u64, message: &[u8], tag: u64, which: Occurrence) -> Option<Field>
+    requires { (check_under (indexed index.now.cells) number message.now).refusal ≡ 0 }
+    ensures { MatchOption result (refusal refusals.absent 0 ≡ look_under (indexed index.now.cells) number message.now tag which) (λ f. field_numbers f ≡ look_under (indexed index.now.cells) number message.now tag which) }
+{
+    let Span { start, end } = pick(message, tag, which)?;
+    let kind = table_index::find(&index.cells, number, tag);
+    Some(contents(kind, start, &message[start..end]))
+}
+
+// A lookup under an index. It checks the whole message before it looks for a field, so it also rejects a message with a fault after the
 // wanted field.
-fn look_under(cells: &[u32; 128], number: u64, message: &[u8], tag: u64, which: Occurrence) -> Found
-    requires { OneOrder cells.now }
-    ensures { result ≡ look_under (indexed cells.now) number message.now tag which }
-{
-    let c = traversal::check_under(cells, number, message);
-    if c.checked.refusal != 0 {
-        return refused(c.checked.refusal, c.checked.place);
-    }
-    match pick(message, tag, which) {
-        OptionalSpan::Absent => refused(reading::ABSENT, 0),
-        OptionalSpan::At { start, end } => {
-            let kind = table_index::find(cells, number, tag);
-            contents(
-                table_index::kind_number(kind),
-                start as u64,
-                &message[start..end],
-            )
-        }
-    }
-}
-
-// The two lookups under an index. Internal: callers have already rejected tables that the loader cannot return.
-pub(crate) fn lookup_under(
-    cells: &[u32; 128],
-    number: u64,
-    message: &[u8],
-    tag: u64,
-    k: u64,
-) -> Found
-    requires { OneOrder cells.now }
-    ensures { result ≡ lookup_under (indexed cells.now) number message.now tag k }
-{
-    look_under(cells, number, message, tag, Occurrence::Nth(k))
-}
-
-pub(crate) fn lookup_last_under(cells: &[u32; 128], number: u64, message: &[u8], tag: u64) -> Found
-    requires { OneOrder cells.now }
-    ensures { result ≡ lookup_last_under (indexed cells.now) number message.now tag }
-{
-    look_under(cells, number, message, tag, Occurrence::Last)
-}
-
-// A lookup under a table. A table that the loader cannot return is rejected before the message is read.
 pub(crate) fn look(
-    t: Table,
-    revision: u64,
+    index: &Index,
     number: u64,
     message: &[u8],
     tag: u64,
     which: Occurrence,
-) -> Found
-    ensures { result ≡ answer t revision number message.now tag which }
+) -> Result<Field, Fault>
+    ensures { found_numbers result ≡ look_under (indexed index.now.cells) number message.now tag which }
 {
-    if reading::MESSAGE_LIMIT < message.len() {
-        return refused(reading::TOO_LONG, 0);
+    traversal::check(index, number, message)?;
+    wanted(index, number, message, tag, which).ok_or(Refusal::Absent.at(0))
+}
+
+// The lookup's answer in numbers.
+impl From<Result<Field, Fault>> for Found {
+    ghost from_gives = { λ r answer. answer ≡ found_numbers r };
+
+    fn from(looked: Result<Field, Fault>) -> Found {
+        match looked {
+            Ok(field) => {
+                let (kind, value, signed) = match field.value {
+                    Value::Raw => (0, 0, 0),
+                    Value::Uint(v) => (1, v, 0),
+                    Value::Int(v) => (2, 0, v),
+                    Value::String => (3, 0, 0),
+                    Value::Text => (4, 0, 0),
+                    Value::Message => (5, 0, 0),
+                };
+                Found {
+                    refusal: 0,
+                    place: 0,
+                    kind,
+                    value,
+                    signed,
+                    start: field.start as u64,
+                    length: field.length as u64,
+                }
+            }
+            Err(fault) => Found {
+                refusal: fault.refusal.number(),
+                place: fault.place,
+                kind: 0,
+                value: 0,
+                signed: 0,
+                start: 0,
+                length: 0,
+            },
+        }
     }
-    let mut cells = [0u32; 128];
-    if !table_index::index_table(&t.words, t.count, revision, &mut cells) {
-        return refused(reading::TABLE, 0);
-    }
-    if !table_index::is_revision(revision) {
-        return refused(reading::TABLE, 0);
-    }
-    look_under(&cells, number, message, tag, which)
 }

@@ -1,23 +1,24 @@
 // The shortener: writes the shortest octets that read the same as a message.
-ghost use Rattle.std.specs.Prelude.{◌≡◌, ◌∷◌, ◌+◌, ◌*◌, ◌-◌, ◌≤◌, ◌<◌, length, drop};
-ghost use Rattle.octets.specs.Number.{Octets, big_endian as number_of_lem, octets_of, least_uint};
-ghost use Rattle.octets.specs.Signed.{integer, least_int};
+ghost use Rattle.std.specs.Prelude.{◌≡◌, ◌∷◌, ◌+◌, ◌*◌, ◌-◌, ◌≤◌, ◌<◌, length, drop, MatchOption};
+ghost use Rattle.octets.specs.Number.{Octets, octets_of};
 ghost use Rattle.octets.specs.Control.{least_control, control as control-of};
 ghost use Rattle.octets_store.specs.Store.{stored};
 ghost use Rattle.octets_store.specs.internal.Moved.{moved};
-ghost use Rattle.table_index.specs.internal.Cells.{meaning_of, indexed, OneOrder};
-ghost use Rattle.message_field.specs.internal.Heads.{head_at};
+ghost use Rattle.table_index.specs.internal.Cells.{meaning_of, indexed};
+ghost use Rattle.message_field.specs.internal.Heads.{Field, Fieldless, head_at};
 ghost use Rattle.message.specs.Cut.{Contents};
 ghost use Rattle.message.specs.internal.Accepts.{Accepts};
 ghost use Rattle.message.specs.Tree.{value};
 ghost use Rattle.message.specs.Shortest.{field, least_contents};
-ghost use Rattle.message_calls.specs.Shorten.{refusal};
+ghost use Rattle.message_calls.specs.Results.{shortened_numbers};
 ghost use Rattle.message_calls.specs.internal.ShortenUnder.{shorten_under, buffer_under, copy_answer, copy_buffer};
 ghost use Rattle.message_calls.specs.internal.Stores.{shortest_within, Put};
 
+use crate::index::Index;
 use crate::{Shortened, sizes, traversal};
 use message_field::Head;
 use octets::{Control, Least};
+use reading::{Fault, Refusal};
 
 // Stores the octets of a number and returns the place after them. Most numbers take at most one octet, which needs no loop.
 fn put_digits(out: &mut [u8], at: usize, w: u64, v: u64) -> usize
@@ -98,45 +99,16 @@ fn put_plain(tag: u16, s: &[u8], out: &mut [u8], to: usize) -> usize
     a + n
 }
 
-// Stores a uint. Callers pass at most eight octets; the test tells the compiler so, which then reads them in fewer steps. `put_int`, and
-// `uint_size` and `int_size` of `sizes`, have the test for the same reason.
-fn put_uint(tag: u16, s: &[u8], out: &mut [u8], to: usize) -> usize
-    requires s_len_bound { length s.now ≤ 8 }
-    requires s_in_bounds { to + length (field tag (least_uint (number_of_lem s.now))) ≤ length out.old }
-    ensures { Put out.old to (field tag (least_uint (number_of_lem s.now))) result out.new }
-{
-    if 8 < s.len() {
-        return to;
-    }
-    let v = octets_read::uint(s).value;
-    put_least(tag, octets_least::uint_least(v), out, to)
-}
-
-fn put_int(tag: u16, s: &[u8], out: &mut [u8], to: usize) -> usize
-    requires s_len_bound { length s.now ≤ 8 }
-    requires s_in_bounds { to + length (field tag (least_int (integer s.now))) ≤ length out.old }
-    ensures { Put out.old to (field tag (least_int (integer s.now))) result out.new }
-{
-    if 8 < s.len() {
-        return to;
-    }
-    let v = octets_read::int(s).value;
-    put_least(tag, octets_least::int_least(v), out, to)
-}
-
 // Stores a field that is no message in its least form, by the code of its tag's kind.
 fn put_value(code: u64, tag: u16, s: &[u8], out: &mut [u8], to: usize) -> usize
     requires contents { Contents (meaning_of code) s.now }
     requires s_in_bounds { to + length (field tag (least_contents (value (meaning_of code) s.now))) ≤ length out.old }
     ensures { Put out.old to (field tag (least_contents (value (meaning_of code) s.now))) result out.new }
 {
-    if code == 1 {
-        return put_uint(tag, s, out, to);
+    match sizes::least(code, s) {
+        Some(least) => put_least(tag, least, out, to),
+        None => put_plain(tag, s, out, to),
     }
-    if code == 2 {
-        return put_int(tag, s, out, to);
-    }
-    put_plain(tag, s, out, to)
 }
 
 // Stores the control part of a message field at `to`. Its n octets of contents are already written and start at `to + 1`; they are moved
@@ -155,8 +127,8 @@ fn wrap(tag: u16, out: &mut [u8], to: usize, n: usize) -> usize
     put_wide_control(tag, n, out, to) + n
 }
 
-// The control part with this first octet and these octets after it. Most take one octet, so that case is tested first. This does not call
-// `octets_read::control`: the compiler would not inline it here, and the shortener would take a fifth longer.
+// Kept: the control part with this first octet and these octets after it. Most take one octet, so that case is tested first. The compiler does not
+// inline `octets_read::control` here, and the shortener then takes a fifth longer.
 fn control(c: u8, s: &[u8]) -> Control
     ensures { result ≡ control-of (c ∷ s.now) }
 {
@@ -170,34 +142,32 @@ fn control(c: u8, s: &[u8]) -> Control
     octets_read::control_after(c, s).control
 }
 
-// The head of the field at the offset i of a message, as `message_field::head_at` returns it. That function has other callers, so the
-// compiler does not inline it into `write`, and the shortener then takes a fifth to a third longer.
-fn next_field(s: &[u8], i: usize) -> Head
-    ensures { result ≡ head_at i (drop i s.now) }
+// Kept: the head of the field at the offset i of a message, as `message_field::field_at` returns it. The compiler does not inline that function into
+// `write`, and the shortener then takes a fifth to a third longer.
+fn next_field(s: &[u8], i: usize) -> Option<Head>
+    ensures { MatchOption result (Fieldless (head_at i (drop i s.now))) (λ h. head_at i (drop i s.now) ≡ Field h.tag h.start h.end) }
 {
     if s.len() <= i {
-        return Head::End;
+        return None;
     }
-    match control(s[i], &s[i + 1..]) {
-        Control::Absent => Head::End,
-        Control::Partial => Head::Fault(reading::CUT),
-        Control::Whole { tag, length, size } => {
-            let start = i + (size as usize);
-            let remaining = (s.len() - start) as u64;
-            if remaining < length {
-                return Head::Fault(reading::PAST_THE_END);
-            }
-            Head::Field {
-                tag,
-                start,
-                end: start + (length as usize),
-            }
-        }
+    let Control::Whole { tag, length, size } = control(s[i], &s[i + 1..]) else {
+        return None;
+    };
+    let start = i + (size as usize);
+    let remaining = (s.len() - start) as u64;
+    if remaining < length {
+        return None;
     }
+    Some(Head {
+        tag,
+        start,
+        end: start + (length as usize),
+    })
 }
 
 // Writes the shortest form of an accepted message at `to` and returns the place after it. It writes a nested message before the control
 // part of its field, because the control part needs the final length.
+// Kept: the loop steps by a field's length, and the invariant of its proof speaks of the octets from that offset on.
 fn write(cells: &[u32; 128], number: u64, levels: u64, s: &[u8], out: &mut [u8], to: usize) -> usize
     requires octets { Octets s.now }
     requires accepts { Accepts (indexed cells.now) levels number s.now }
@@ -206,80 +176,73 @@ fn write(cells: &[u32; 128], number: u64, levels: u64, s: &[u8], out: &mut [u8],
 {
     let mut i: usize = 0;
     let mut place = to;
-    loop {
-        match next_field(s, i) {
-            Head::Field { tag: t, start, end } => {
-                // A tag is below 65,536, so the remainder is the tag. This makes the cast easy to prove.
-                let tag = (t % 65536) as u16;
-                let cell = table_index::cell(cells, number, t);
-                let code = table_index::code(cell);
-                if code < 5 {
-                    place = put_value(code, tag, &s[start..end], out, place);
-                    i = end;
-                } else {
-                    let after = write(cells, code - 5, levels - 1, &s[start..end], out, place + 1);
-                    place = wrap(tag, out, place, after - (place + 1));
-                    i = end;
-                }
-            }
-            _ => return place,
+    while let Some(Head { tag: t, start, end }) = next_field(s, i) {
+        // A tag is below 65,536, so the remainder is the tag. This makes the cast easy to prove.
+        let tag = (t % 65536) as u16;
+        let cell = table_index::cell(cells, number, t);
+        let code = table_index::code(cell);
+        if code < 5 {
+            place = put_value(code, tag, &s[start..end], out, place);
+            i = end;
+        } else {
+            let after = write(cells, code - 5, levels - 1, &s[start..end], out, place + 1);
+            place = wrap(tag, out, place, after - (place + 1));
+            i = end;
         }
     }
+    place
 }
 
-// The answer if the message is rejected or there is no room.
-pub(crate) fn refused(reason: u64, place: u64) -> Shortened
-    ensures { result ≡ refusal reason place }
-{
-    Shortened {
-        refusal: reason,
-        place,
-        length: 0,
-    }
-}
-
-// The answer for a message that is in its shortest form already: it is copied.
-fn copied(message: &[u8], out: &mut [u8]) -> Shortened
-    ensures value { result ≡ copy_answer message.now out.old }
+// Copies a message that is in its shortest form already.
+fn copied(message: &[u8], out: &mut [u8]) -> Result<usize, Fault>
+    ensures value { shortened_numbers result ≡ copy_answer message.now out.old }
     ensures out_after { out.new ≡ copy_buffer message.now out.old }
 {
     let n = message.len();
     if out.len() < n {
-        return refused(reading::NO_ROOM, 0);
+        return Err(Refusal::NoRoom.at(0));
     }
     octets_store::put_octets(out, 0, message);
-    Shortened {
-        refusal: 0,
-        place: 0,
-        length: n as u64,
-    }
+    Ok(n)
 }
 
-// The shortener under any index. Internal: callers have already rejected tables that the loader cannot return.
-pub(crate) fn shorten_under(
-    cells: &[u32; 128],
+// The shortener under an index.
+pub(crate) fn shorten(
+    index: &Index,
     number: u64,
     message: &[u8],
     out: &mut [u8],
-) -> Shortened
-    requires { OneOrder cells.now }
-    ensures value { result ≡ shorten_under (indexed cells.now) number message.now out.old }
-    ensures out_after { out.new ≡ buffer_under (indexed cells.now) number message.now out.old }
+) -> Result<usize, Fault>
+    ensures value { shortened_numbers result ≡ shorten_under (indexed index.now.cells) number message.now out.old }
+    ensures out_after { out.new ≡ buffer_under (indexed index.now.cells) number message.now out.old }
 {
-    let c = traversal::check_under(cells, number, message);
-    if c.checked.refusal != 0 {
-        return refused(c.checked.refusal, c.checked.place);
-    }
+    let c = traversal::check(index, number, message)?;
     if c.shortest {
         return copied(message, out);
     }
-    if !sizes::has_room(cells, number, message, out.len()) {
-        return refused(reading::NO_ROOM, 0);
+    if !sizes::has_room(&index.cells, number, message, out.len()) {
+        return Err(Refusal::NoRoom.at(0));
     }
-    let end = write(cells, number, reading::DEPTH_LIMIT, message, out, 0);
-    Shortened {
-        refusal: 0,
-        place: 0,
-        length: end as u64,
+    let end = write(&index.cells, number, reading::DEPTH_LIMIT, message, out, 0);
+    Ok(end)
+}
+
+// The shortener's answer in numbers.
+impl From<Result<usize, Fault>> for Shortened {
+    ghost from_gives = { λ r answer. answer ≡ shortened_numbers r };
+
+    fn from(written: Result<usize, Fault>) -> Shortened {
+        match written {
+            Ok(length) => Shortened {
+                refusal: 0,
+                place: 0,
+                length: length as u64,
+            },
+            Err(fault) => Shortened {
+                refusal: fault.refusal.number(),
+                place: fault.place,
+                length: 0,
+            },
+        }
     }
 }

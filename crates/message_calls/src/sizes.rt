@@ -1,8 +1,7 @@
 // Measures the shortest form of a message without writing it.
-ghost use Rattle.std.specs.Prelude.{◌≡◌, ◌≤◌, length, leb};
+ghost use Rattle.std.specs.Prelude.{◌≡◌, ◌≤◌, length, leb, MatchOption};
 ghost use Rattle.reading.specs.Reading.{message_limit, depth_limit};
-ghost use Rattle.octets.specs.Number.{Octets, big_endian as number_of_lem, least_uint};
-ghost use Rattle.octets.specs.Signed.{integer, least_int};
+ghost use Rattle.octets.specs.Number.{Octets, octets_of};
 ghost use Rattle.table_index.specs.internal.Cells.{meaning_of, indexed};
 ghost use Rattle.message.specs.Cut.{Contents};
 ghost use Rattle.message.specs.internal.Accepts.{Accepts};
@@ -11,29 +10,24 @@ ghost use Rattle.message.specs.Shortest.{field, least_contents};
 ghost use Rattle.message_calls.specs.internal.Stores.{shortest_within};
 
 use message_field::Head;
+use octets::Least;
 
-// The length of the least octets of a uint.
-fn uint_size(s: &[u8]) -> usize
-    requires { length s.now ≤ 8 }
-    ensures { result ≡ length (least_uint (number_of_lem s.now)) }
+// The shortest form of contents that are a number, by the code of their kind; none for any other kind, whose contents have one form only. No
+// number has more than eight octets: the test tells the compiler so, which then reads it in fewer steps.
+pub(crate) fn least(code: u64, s: &[u8]) -> Option<Least>
+    requires { Contents (meaning_of code) s.now }
+    ensures { MatchOption result (least_contents (value (meaning_of code) s.now) ≡ s.now) (λ l. least_contents (value (meaning_of code) s.now) ≡ octets_of l.width l.bits) }
 {
     if 8 < s.len() {
-        return 0;
+        return None;
     }
-    let v = octets_read::uint(s).value;
-    octets_least::uint_least(v).width as usize
-}
-
-// The length of the least octets of an int.
-fn int_size(s: &[u8]) -> usize
-    requires { length s.now ≤ 8 }
-    ensures { result ≡ length (least_int (integer s.now)) }
-{
-    if 8 < s.len() {
-        return 0;
+    if code == 1 {
+        return Some(octets_least::uint_least(octets_read::uint(s).value));
     }
-    let v = octets_read::int(s).value;
-    octets_least::int_least(v).width as usize
+    if code == 2 {
+        return Some(octets_least::int_least(octets_read::int(s).value));
+    }
+    None
 }
 
 // The length of the least contents, by the code of the tag's kind.
@@ -41,13 +35,10 @@ fn least_size(code: u64, s: &[u8]) -> usize
     requires { Contents (meaning_of code) s.now }
     ensures { result ≡ length (least_contents (value (meaning_of code) s.now)) }
 {
-    if code == 1 {
-        return uint_size(s);
+    match least(code, s) {
+        Some(l) => l.width as usize,
+        None => s.len(),
     }
-    if code == 2 {
-        return int_size(s);
-    }
-    s.len()
 }
 
 // The length of a field that is no message in its least form.
@@ -61,6 +52,7 @@ fn value_size(code: u64, tag: u16, s: &[u8]) -> usize
 }
 
 // The length of the shortest form of an accepted message.
+// Kept: the loop steps by a field's length, and the invariant of its proof speaks of the octets from that offset on.
 fn measure(cells: &[u32; 128], number: u64, levels: u64, s: &[u8]) -> usize
     requires s_len_bound { length s.now ≤ message_limit }
     requires octets { Octets s.now }
@@ -69,24 +61,20 @@ fn measure(cells: &[u32; 128], number: u64, levels: u64, s: &[u8]) -> usize
 {
     let mut i: usize = 0;
     let mut size: usize = 0;
-    loop {
-        match message_field::head_at(s, i, s.len()) {
-            Head::Field { tag: t, start, end } => {
-                let tag = (t % 65536) as u16;
-                let cell = table_index::cell(cells, number, t);
-                let code = table_index::code(cell);
-                if code < 5 {
-                    size = size + value_size(code, tag, &s[start..end]);
-                    i = end;
-                } else {
-                    let n = measure(cells, code - 5, levels - 1, &s[start..end]);
-                    size = size + (octets_put::control_size(tag, n as u64) + n);
-                    i = end;
-                }
-            }
-            _ => return size,
+    while let Some(Head { tag: t, start, end }) = message_field::field_at(s, i) {
+        let tag = (t % 65536) as u16;
+        let cell = table_index::cell(cells, number, t);
+        let code = table_index::code(cell);
+        if code < 5 {
+            size = size + value_size(code, tag, &s[start..end]);
+            i = end;
+        } else {
+            let n = measure(cells, code - 5, levels - 1, &s[start..end]);
+            size = size + (octets_put::control_size(tag, n as u64) + n);
+            i = end;
         }
     }
+    size
 }
 
 // Returns whether the shortest form of an accepted message takes at most `len` octets. It is no longer than the message, so it is

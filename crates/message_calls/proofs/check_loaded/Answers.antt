@@ -1,48 +1,37 @@
--- `check_loaded` refuses a table that no loader gives, then a number that is no revision, and reads under the index otherwise.
-use mathlib.Core.Path.{sym, ◌∙◌}
-use borrow.Author.Tests.{not-true, not-false}
-use Rattle.octets.proofs.Bools.{and_both}
-use Rattle.table_index.proofs.IndexLaws.{table_valid, table_schema, table_one_order}
+-- `check_loaded` refuses a message that is too long and then what the index is not built for. Else it reads under the index.
+use mathlib.Core.Path.{◌∙◌}
+use Rattle.std.proofs.lemmas.Result.{err_from_is_err_and}
 use Rattle.table_index.specs.internal.Cells.{indexed}
-use Rattle.message_calls.proofs.CheckAnswers.{table-fails, revision-fails, too_long, bad_table, under-valid}
-use Rattle.message_calls.proofs.ShortAnswers.{too-long-not-short, bad-table-not-short, short-under}
+use Rattle.message_calls.proofs.Entries.{checking, shortness}
+use Rattle.message_calls.proofs.Prologue.{loaded_long, loaded_refused, loaded_read}
 use Rattle.message_calls.proofs.check_loaded.Goals as goal
 
-pub returns-then-n-gt-MESSAGE_LIMIT : goal.returns-then-n-gt-MESSAGE_LIMIT
-returns-then-n-gt-MESSAGE_LIMIT c =
+pub returns-in_err-fits : goal.returns-in_err-fits
+returns-in_err-fits c =
     let a = c.args in
-    let h = c.if-n-gt-MESSAGE_LIMIT.true in record { checked_value = c.refused.ensures.checked_value ∙ too_long a.t a.revision a.number a.message.now h; shortest_value = c.refused.ensures.shortest_value ∙ too-long-not-short a.t a.revision a.number a.message.now h }
+    let q = err_from_is_err_and c.from_residual.result c.from_residual.ensures.1 in
+    let p = c.in_err-fits.ensures in
+    record {
+      checked_value = rw (q.1, q.2, p.1) (loaded_long (checking a.revision a.number a.message.now) a.t p.0);
+      shortest_value = rw q.1 (loaded_long (shortness a.revision a.number a.message.now) a.t p.0);
+    }
 
-pub returns-then-not-index_table : goal.returns-then-not-index_table
-returns-then-not-index_table c =
+pub returns-in_err-fill_table : goal.returns-in_err-fill_table
+returns-in_err-fill_table c =
     let a = c.args in
-    let x = c.index_table in
-    let h = c.if-n-gt-MESSAGE_LIMIT.false in
-    let v = table-fails a.t a.revision (sym (table_valid a.revision a.t x.ensures.value) ∙ not-true x.result c.if-not-index_table.true-raw) in record { checked_value = c.refused-then-not-index_table.ensures.checked_value ∙ bad_table a.t a.revision a.number a.message.now h v; shortest_value = c.refused-then-not-index_table.ensures.shortest_value ∙ bad-table-not-short a.t a.revision a.number a.message.now h v }
-
-pub returns-then-not-is_revision : goal.returns-then-not-is_revision
-returns-then-not-is_revision c =
-    let d = c in
-    let a = d.args in
-    let w = c.is_revision in
-    let h = d.if-n-gt-MESSAGE_LIMIT.false in
-    let v = revision-fails a.t a.revision (sym w.ensures ∙ not-true w.result c.if-not-is_revision.true-raw) in record { checked_value = c.refused-then-not-is_revision.ensures.checked_value ∙ bad_table a.t a.revision a.number a.message.now h v; shortest_value = c.refused-then-not-is_revision.ensures.shortest_value ∙ bad-table-not-short a.t a.revision a.number a.message.now h v }
-
-pub check_under-requires : goal.check_under-requires
-check_under-requires c =
-    let d = c in
-    let a = d.args in
-    let x = d.index_table in
-    let v = sym (table_valid a.revision a.t x.ensures.value) ∙ not-false x.result c.if-not-index_table.false-raw in
-    table_one_order a.revision a.t v x.ensures.cells_after
+    let q = err_from_is_err_and c.from_residual-in_err-fill_table.result c.from_residual-in_err-fill_table.ensures.1 in
+    let h = c.in_ok-fits.ensures in
+    let e = c.in_err-fill_table.ensures in
+    record {
+      checked_value = rw (q.1, q.2) (loaded_refused (checking a.revision a.number a.message.now) h a.t _ _ e);
+      shortest_value = rw q.1 (loaded_refused (shortness a.revision a.number a.message.now) h a.t _ _ e);
+    }
 
 pub returns : goal.returns
 returns c =
-    let d = c in
-    let a = d.args in
-    let x = d.index_table in
-    let w = c.is_revision in
-    let h = d.if-n-gt-MESSAGE_LIMIT.false in
-    let v = sym (table_valid a.revision a.t x.ensures.value) ∙ not-false x.result c.if-not-index_table.false-raw in
-    let g = and_both _ _ v (sym w.ensures ∙ not-false w.result c.if-not-is_revision.false-raw) in
-    let e = table_schema a.revision a.t v x.ensures.cells_after in record { checked_value = c.check_under.ensures.checked_value ∙ under-valid a.t a.revision a.number a.message.now h g (indexed x.new.cells) e; shortest_value = c.check_under.ensures.shortest_value ∙ short-under a.t a.revision a.number a.message.now h g (indexed x.new.cells) e }
+    let a = c.args in
+    let h = c.in_ok-fits.ensures in
+    record {
+      checked_value = c.check.ensures.checked_value ∙ loaded_read (checking a.revision a.number a.message.now) h a.t (indexed c.fill_table.new.self.cells) c.in_ok-fill_table.ensures;
+      shortest_value = c.check.ensures.shortest_value ∙ loaded_read (shortness a.revision a.number a.message.now) h a.t (indexed c.fill_table.new.self.cells) c.in_ok-fill_table.ensures;
+    }

@@ -1,53 +1,37 @@
--- `shorten_loaded` refuses a table that no loader gives, then a number that is no revision, and shortens under the index otherwise.
-use mathlib.Core.Path.{sym, ◌∙◌}
-use borrow.Author.Tests.{not-true, not-false}
-use Rattle.octets.proofs.Bools.{and_both}
+-- `shorten_loaded` refuses a message that is too long and then what the index is not built for. Else it reads under the index.
+use mathlib.Core.Path.{◌∙◌}
+use Rattle.std.proofs.lemmas.Result.{err_from_is_err_and}
 use Rattle.table_index.specs.internal.Cells.{indexed}
-use Rattle.table_index.proofs.IndexLaws.{table_valid, table_schema, table_one_order}
-use Rattle.message_calls.proofs.CheckAnswers.{table-fails, revision-fails}
-use Rattle.message_calls.proofs.ShortenAnswers.{answer-under, buffer-under, too-long-refused, bad-table-refused}
+use Rattle.message_calls.proofs.Entries.{shortening, buffering}
+use Rattle.message_calls.proofs.Prologue.{loaded_long, loaded_refused, loaded_read}
 use Rattle.message_calls.proofs.shorten_loaded.Goals as goal
 
-pub returns-then-message-gt-MESSAGE_LIMIT : goal.returns-then-message-gt-MESSAGE_LIMIT
-returns-then-message-gt-MESSAGE_LIMIT c =
+pub returns-in_err-fits : goal.returns-in_err-fits
+returns-in_err-fits c =
     let a = c.args in
-    let r = too-long-refused a.t a.revision a.number a.message.now a.out.now c.if-message-gt-MESSAGE_LIMIT.true in record { value = c.refused.ensures ∙ r.0; out_after = r.1 }
+    let q = err_from_is_err_and c.from_residual.result c.from_residual.ensures.1 in
+    let p = c.in_err-fits.ensures in
+    record {
+      value = rw (q.1, q.2, p.1) (loaded_long (shortening a.revision a.number a.message.now a.out.now) a.t p.0);
+      out_after = loaded_long (buffering a.revision a.number a.message.now a.out.now) a.t p.0;
+    }
 
-pub returns-then-not-index_table : goal.returns-then-not-index_table
-returns-then-not-index_table c =
+pub returns-in_err-fill_table : goal.returns-in_err-fill_table
+returns-in_err-fill_table c =
     let a = c.args in
-    let x = c.index_table in
-    let h = c.if-message-gt-MESSAGE_LIMIT.false in
-    let v = table-fails a.t a.revision (sym (table_valid a.revision a.t x.ensures.value) ∙ not-true x.result c.if-not-index_table.true-raw) in
-    let r = bad-table-refused a.t a.revision a.number a.message.now a.out.now h v in record { value = c.refused-then-not-index_table.ensures ∙ r.0; out_after = r.1 }
-
-pub returns-then-not-is_revision : goal.returns-then-not-is_revision
-returns-then-not-is_revision c =
-    let d = c in
-    let a = d.args in
-    let w = c.is_revision in
-    let h = d.if-message-gt-MESSAGE_LIMIT.false in
-    let v = revision-fails a.t a.revision (sym w.ensures ∙ not-true w.result c.if-not-is_revision.true-raw) in
-    let r = bad-table-refused a.t a.revision a.number a.message.now a.out.now h v in record { value = c.refused-then-not-is_revision.ensures ∙ r.0; out_after = r.1 }
-
-pub shorten_under-requires : goal.shorten_under-requires
-shorten_under-requires c =
-    let d = c in
-    let a = d.args in
-    let x = d.index_table in
-    let v = sym (table_valid a.revision a.t x.ensures.value) ∙ not-false x.result c.if-not-index_table.false-raw in
-    table_one_order a.revision a.t v x.ensures.cells_after
+    let q = err_from_is_err_and c.from_residual-in_err-fill_table.result c.from_residual-in_err-fill_table.ensures.1 in
+    let h = c.in_ok-fits.ensures in
+    let e = c.in_err-fill_table.ensures in
+    record {
+      value = rw (q.1, q.2) (loaded_refused (shortening a.revision a.number a.message.now a.out.now) h a.t _ _ e);
+      out_after = loaded_refused (buffering a.revision a.number a.message.now a.out.now) h a.t _ _ e;
+    }
 
 pub returns : goal.returns
 returns c =
-    let d = c in
-    let a = d.args in
-    let m = a.message.now in
-    let x = d.index_table in
-    let w = c.is_revision in
-    let v = sym (table_valid a.revision a.t x.ensures.value) ∙ not-false x.result c.if-not-index_table.false-raw in
-    let g = and_both _ _ v (sym w.ensures ∙ not-false w.result c.if-not-is_revision.false-raw) in
-    let h = d.if-message-gt-MESSAGE_LIMIT.false in
-    let sc = indexed x.new.cells in
-    let e = table_schema a.revision a.t v x.ensures.cells_after in
-    let s = c.shorten_under.ensures in record { value = s.value ∙ answer-under a.t a.revision sc e a.number m a.out.now h g; out_after = s.out_after ∙ buffer-under a.t a.revision sc e a.number m a.out.now h g }
+    let a = c.args in
+    let h = c.in_ok-fits.ensures in
+    record {
+      value = c.shorten.ensures.value ∙ loaded_read (shortening a.revision a.number a.message.now a.out.now) h a.t (indexed c.fill_table.new.self.cells) c.in_ok-fill_table.ensures;
+      out_after = c.shorten.ensures.out_after ∙ loaded_read (buffering a.revision a.number a.message.now a.out.now) h a.t (indexed c.fill_table.new.self.cells) c.in_ok-fill_table.ensures;
+    }

@@ -1,23 +1,18 @@
 -- The spans of the outermost fields by their heads alone, and the answer by a field's kind and contents. proofs/OutermostSpans.antt and
 -- proofs/LookupAnswers.antt show that in an accepted message these are the spans and the values of Lookup.antt.
+use Rattle.std.specs.Prelude as std
 use Rattle.std.specs.Prelude.{ℕ, zero, suc, cond, List, [], ◌∷◌, length, drop, ℤ, pos, eqb}
 use Rattle.std.proofs.Math.Option.{Option, none, some}
 use Rattle.std.proofs.Math.ListN.{get_elem?}
 use Rattle.octets.specs.internal.Bounded.{unsigned, signed}
 use Rattle.message_field.specs.internal.Heads.{head_at}
-use Rattle.message_field.specs.declared.Head.{Head}
-use Rattle.message_field.specs.declared.Head.TheVariants as head
+use Rattle.message_field.specs.internal.Heads as head
+use Rattle.message_field.specs.internal.Heads.{Head}
 use Rattle.message_calls.specs.Lookup.{last_or}
 use Rattle.message_calls.specs.declared.outermost.Occurrence.{Occurrence}
 use Rattle.message_calls.specs.declared.outermost.Occurrence.TheVariants.{Nth, Last}
-use Rattle.message_calls.specs.declared.outermost.OptionalSpan as optional
-use Rattle.message_calls.specs.declared.outermost.OptionalSpan.{OptionalSpan}
+use Rattle.message_calls.specs.declared.outermost.Span.{Span}
 use Rattle.message_calls.specs.declared.Found.{Found}
-
--- Where the contents of a field start and end.
-pub record Span : Type 0 where
-  pub start : ℕ
-  pub end : ℕ
 
 -- The spans of the fields with a tag, by the head of the first field. `next` has the spans of the fields from an offset on.
 unfoldable pub after_head : ℕ → (ℕ → List Span) → Head → List Span
@@ -34,17 +29,18 @@ spans_from tag s (suc fuel) i = after_head tag (spans_from tag s fuel) (head_at 
 unfoldable pub spans : ℕ → List ℕ → List Span
 spans tag s = spans_from tag s (suc (length s)) 0
 
-unfoldable pub optional_span : Option Span → OptionalSpan
-optional_span none = optional.TheVariants.Absent
-optional_span (some p) = optional.TheVariants.At p.start p.end
+-- The same as an option of the code.
+unfoldable pub optional_span : Option Span → std.Option Span
+optional_span none = std.None
+optional_span (some p) = std.Some p
 
-unfoldable pub nth_span : ℕ → ℕ → List ℕ → OptionalSpan
+unfoldable pub nth_span : ℕ → ℕ → List ℕ → std.Option Span
 nth_span tag k s = optional_span (get_elem? (spans tag s) k)
 
-unfoldable pub last_span : ℕ → List ℕ → OptionalSpan
+unfoldable pub last_span : ℕ → List ℕ → std.Option Span
 last_span tag s = optional_span (last_or none (spans tag s))
 
-unfoldable pub chosen_span : ℕ → Occurrence → List ℕ → OptionalSpan
+unfoldable pub chosen_span : ℕ → Occurrence → List ℕ → std.Option Span
 chosen_span tag (Nth k) s = nth_span tag k s
 chosen_span tag Last s = last_span tag s
 

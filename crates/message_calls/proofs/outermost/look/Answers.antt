@@ -1,52 +1,41 @@
--- `look` refuses a table that no loader gives, then a number that is no revision, and looks under the index otherwise.
-use mathlib.Core.Path.{sym, ◌∙◌}
-use borrow.Author.Tests.{not-true, not-false}
-use Rattle.octets.proofs.Bools.{and_both}
+-- `look` checks the message, and then looks for the field.
+use mathlib.Core.Path.{◌≡◌}
+use Rattle.std.specs.Prelude.{Option, Some, None, MatchOption, Err}
+use Rattle.std.specs.Option.{ok_or}
+use Rattle.std.proofs.lemmas.Result.{err_from_is_err_and}
+use Rattle.reading.specs.Checks as answers
+use Rattle.reading.specs.Refusals as refusals
+use Rattle.reading.specs.declared.Fault.{Fault}
+use Rattle.reading.specs.declared.Refusal.TheVariants.{Absent}
 use Rattle.table_index.specs.internal.Cells.{indexed}
-use Rattle.table_index.proofs.IndexLaws.{table_valid, table_schema, table_one_order}
-use Rattle.message_calls.proofs.CheckAnswers.{table-fails, revision-fails}
-use Rattle.message_calls.proofs.LookupAnswers.{answer-under, too-long-refused, bad-table-refused}
+use Rattle.message_calls.specs.Check.{check_under}
+use Rattle.message_calls.specs.Lookup.{refusal}
+use Rattle.message_calls.specs.Results.{checked_numbers, field_numbers, found_numbers}
+use Rattle.message_calls.specs.declared.Field.{Field}
+use Rattle.message_calls.specs.declared.Found.{Found}
+use Rattle.message_calls.proofs.LookupAnswers.{refused-under}
+use Rattle.message_calls.proofs.Numbers.{fault_refuses, summary_passes}
 use Rattle.message_calls.proofs.outermost.look.Goals as goal
 
-pub returns-then-message-gt-MESSAGE_LIMIT : goal.returns-then-message-gt-MESSAGE_LIMIT
-returns-then-message-gt-MESSAGE_LIMIT c =
+-- The answer by the field that is found, if any.
+found-or-absent : (x : Found) (o : Option Field) (f : Fault) → f ≡ record { refusal = Absent; place = 0 }
+    → MatchOption o (refusal refusals.absent 0 ≡ x) (λ y. field_numbers y ≡ x) → found_numbers (ok_or o f) ≡ x
+found-or-absent x None f e h = rw e h
+found-or-absent x (Some y) f e h = h
+
+pub returns-in_err-check : goal.returns-in_err-check
+unfolding answers.refusal
+returns-in_err-check c =
     let a = c.args in
-    c.refused.ensures ∙ too-long-refused a.t a.revision a.number a.message.now a.tag a.which c.if-message-gt-MESSAGE_LIMIT.true
+    let q = err_from_is_err_and c.from_residual.result c.from_residual.ensures.1 in
+    let f = c.in_err-check.field-0.0 in
+    rw (q.1, q.2)
+    (refused-under (indexed a.index.now.cells) a.number a.message.now a.tag a.which (checked_numbers (Err f)) c.in_err-check.ensures.checked_value (fault_refuses f))
 
-pub returns-then-not-index_table : goal.returns-then-not-index_table
-returns-then-not-index_table c =
+pub wanted-requires : goal.wanted-requires
+wanted-requires c =
     let a = c.args in
-    let x = c.index_table in
-    let h = c.if-message-gt-MESSAGE_LIMIT.false in
-    let v = table-fails a.t a.revision (sym (table_valid a.revision a.t x.ensures.value) ∙ not-true x.result c.if-not-index_table.true-raw) in
-    c.refused-then-not-index_table.ensures ∙ bad-table-refused a.t a.revision a.number a.message.now a.tag a.which h v
-
-pub returns-then-not-is_revision : goal.returns-then-not-is_revision
-returns-then-not-is_revision c =
-    let d = c in
-    let a = d.args in
-    let w = c.is_revision in
-    let h = d.if-message-gt-MESSAGE_LIMIT.false in
-    let v = revision-fails a.t a.revision (sym w.ensures ∙ not-true w.result c.if-not-is_revision.true-raw) in
-    c.refused-then-not-is_revision.ensures ∙ bad-table-refused a.t a.revision a.number a.message.now a.tag a.which h v
-
-pub look_under-requires : goal.look_under-requires
-look_under-requires c =
-    let d = c in
-    let a = d.args in
-    let x = d.index_table in
-    let v = sym (table_valid a.revision a.t x.ensures.value) ∙ not-false x.result c.if-not-index_table.false-raw in
-    table_one_order a.revision a.t v x.ensures.cells_after
+    summary_passes (check_under (indexed a.index.now.cells) a.number a.message.now) c.in_ok-check.field-0 c.in_ok-check.ensures.checked_value
 
 pub returns : goal.returns
-returns c =
-    let d = c in
-    let a = d.args in
-    let x = d.index_table in
-    let w = c.is_revision in
-    let h = d.if-message-gt-MESSAGE_LIMIT.false in
-    let v = sym (table_valid a.revision a.t x.ensures.value) ∙ not-false x.result c.if-not-index_table.false-raw in
-    let g = and_both _ _ v (sym w.ensures ∙ not-false w.result c.if-not-is_revision.false-raw) in
-    let e = table_schema a.revision a.t v x.ensures.cells_after in
-    c.look_under.ensures
-    ∙ answer-under a.t a.revision (indexed x.new.cells) e a.number a.message.now h g a.tag a.which
+returns c = rw c.ok_or.ensures.value (found-or-absent _ c.wanted.result c.at.result c.at.ensures c.wanted.ensures)

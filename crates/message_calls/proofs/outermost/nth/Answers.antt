@@ -1,23 +1,16 @@
 use Prim.Native.Nat.{ℕ}
 use native.Mathlib.Omega.{arith}
-use mathlib.Core.Path.{◌≡◌, sym, ◌∙◌}
+use mathlib.Core.Path.{◌≡◌, refl}
 use mathlib.Core.List.{List}
-use lib.ListN.{length, take, drop}
-use lib.Seq.{take-length}
+use lib.ListN.{drop}
 use Rattle.message_field.specs.internal.Heads.{head_at}
-use Rattle.message_field.specs.declared.Head.{Head}
-use Rattle.message_field.specs.declared.Head.TheVariants.{Field}
-use Rattle.message_field.proofs.Heads.{fieldless}
+use Rattle.message_field.specs.internal.Heads.{Field}
 use Rattle.message_calls.proofs.LookupLoop.{Onward, onward, Sought, nothing_sought, not_there, other_passed, reached, one_passed}
 use Rattle.message_calls.proofs.outermost.nth.Goals as goal
-use Rattle.message_calls.proofs.outermost.nth.Goals.{In-Field}
-
--- What the code found at i.
-found : (s : List ℕ) (i : ℕ) (h : Head) → h ≡ head_at i (drop i (take (length s) s)) → h ≡ head_at i (drop i s)
-found s i h e = e ∙ rw (take-length s)
+use Rattle.message_calls.proofs.outermost.nth.Goals.{In-Some}
 
 -- A field was found.
-module _ (c : In-Field) where
+module _ (c : In-Some) where
   abbrev s : List ℕ
   s = c.args.s.now
 
@@ -28,16 +21,16 @@ module _ (c : In-Field) where
   i = c.loop-t.i
 
   abbrev t : ℕ
-  t = c.in-Field.t
+  t = c.in-Some.field-0.tag
 
   abbrev start : ℕ
-  start = c.in-Field.start
+  start = c.in-Some.field-0.start
 
   abbrev end : ℕ
-  end = c.in-Field.end
+  end = c.in-Some.field-0.end
 
   is : head_at i (drop i s) ≡ Field t start end
-  is = sym (found s i c.head_at.result c.head_at.ensures) ∙ c.in-Field.is
+  is = c.in-Some.ensures
 
   passed : Onward tag s i c.loop-t.invariant.ahead t start end is
   passed = onward tag s i c.loop-t.invariant.ahead t start end is
@@ -56,28 +49,26 @@ loop-t-init c = nothing_sought c.args.tag c.args.s.now c.args.k
 
 pub returns-then-remaining-eq0 : goal.returns-then-remaining-eq0
 returns-then-remaining-eq0 c =
-    let f = (goal.at.returns-then-remaining-eq0 c).In-Field in
+    let f = (goal.at.returns-then-remaining-eq0 c).In-Some in
     reached (tag f) (s f) (k f) (i f) (remaining f) (state f) (t f) (start f) (end f) (is f) c.if-t-tag.true c.if-remaining-eq0.true
 
 pub loop-t-smaller-then-t-tag : goal.loop-t-smaller-then-t-tag
-loop-t-smaller-then-t-tag c = let h = passed (goal.at.loop-t-smaller-then-t-tag c).In-Field in omega arith
+loop-t-smaller-then-t-tag c = let h = passed (goal.at.loop-t-smaller-then-t-tag c).In-Some in omega arith
 
 pub loop-t-preserved-then-t-tag : goal.loop-t-preserved-then-t-tag
 loop-t-preserved-then-t-tag c =
-    let f = (goal.at.loop-t-preserved-then-t-tag c).In-Field in
+    let f = (goal.at.loop-t-preserved-then-t-tag c).In-Some in
     one_passed (tag f) (s f) (k f) (i f) (remaining f) (state f) (t f) (start f) (end f) (is f) c.if-t-tag.true c.if-remaining-eq0.false
 
 pub loop-t-smaller : goal.loop-t-smaller
-loop-t-smaller c = let h = passed (goal.at.loop-t-smaller c).In-Field in omega arith
+loop-t-smaller c = let h = passed (goal.at.loop-t-smaller c).In-Some in omega arith
 
 pub loop-t-preserved : goal.loop-t-preserved
 loop-t-preserved c =
-    let f = (goal.at.loop-t-preserved c).In-Field in
+    let f = (goal.at.loop-t-preserved c).In-Some in
     other_passed (tag f) (s f) (k f) (i f) (remaining f) (state f) (t f) (start f) (end f) (is f) c.if-t-tag.false
 
-pub returns-in_default : goal.returns-in_default
-returns-in_default c =
-    let f = c in
-    let a = f.args in
-    not_there a.tag a.s.now a.k f.loop-t.i f.loop-t.remaining f.loop-t.invariant f.head_at.result
-    (sym (found c.args.s.now c.loop-t.i c.head_at.result c.head_at.ensures)) (fieldless f.head_at.result c.in_default.not-Field)
+pub returns : goal.returns
+returns c =
+    let a = c.args in
+    not_there a.tag a.s.now a.k c.loop-t.i c.loop-t.remaining c.loop-t.invariant (head_at c.loop-t.i (drop c.loop-t.i a.s.now)) refl c.in_default.ensures

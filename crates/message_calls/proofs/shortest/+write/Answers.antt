@@ -1,7 +1,7 @@
 -- `write` stores the shortest form of the fields so far.
 use Prim.Native.Nat.{ℕ, suc, ◌+◌, ◌-◌, ◌%◌, ◌≤◌}
 use native.Mathlib.Omega.{arith}
-use mathlib.Core.Path.{◌≡◌, sym, ◌∙◌, subst}
+use mathlib.Core.Path.{◌≡◌, refl, sym, subst}
 use mathlib.Core.List.{List}
 use lib.ListN.{length, take, drop}
 use Rattle.message.specs.internal.Accepts.{Accepts}
@@ -13,8 +13,7 @@ use Rattle.table.specs.declared.Meaning.TheVariants.{Message}
 use Rattle.table_index.specs.internal.Cells.{meaning_of, indexed}
 use Rattle.table_index.proofs.Meanings as meaning
 use Rattle.message_field.specs.internal.Heads.{head_at}
-use Rattle.message_field.specs.declared.Head.TheVariants.{Field}
-use Rattle.message_field.proofs.Heads.{fieldless}
+use Rattle.message_field.specs.internal.Heads.{Field}
 use Rattle.message_field.proofs.FieldsByHead.{Ends}
 use Rattle.message_calls.specs.internal.Stores.{shortest_within, Put}
 use Rattle.message_calls.proofs.Codes.{plain_code, code_means}
@@ -51,19 +50,19 @@ module _ (t : ℕ) (c : After-code-code t) where
   state = c.loop-t.invariant
 
   abbrev tag : ℕ
-  tag = c.in-Field.t
+  tag = c.in-Some.field-0.tag
 
   abbrev start : ℕ
-  start = c.in-Field.start
+  start = c.in-Some.field-0.start
 
   abbrev end : ℕ
-  end = c.in-Field.end
+  end = c.in-Some.field-0.end
 
   abbrev code : ℕ
   code = c.code-code.result
 
   found : head_at i (drop i c.args.s.now) ≡ Field tag start end
-  found = sym c.next_field.ensures ∙ c.in-Field.is
+  found = c.in-Some.ensures
 
   means : meaning_of code ≡ sc.means c.args.number tag
   means = code_means c.args.cells.now c.args.number tag c.cell-cell.result code c.cell-cell.ensures c.code-code.ensures
@@ -110,19 +109,19 @@ pub put_value-place-requires-clause-contents : goal.put_value-place-requires-cla
 put_value-place-requires-clause-contents t c =
     let a = c.args in
     let l = c.loop-t in
-    let p = c.in-Field in
+    let p = c.in-Some.field-0 in
     let k = c.code-code.result in
     let f = (goal.at.put_value-place-requires-clause-contents t c).After-code-code in
-    next_contents (indexed a.cells.now) (a.levels - 1) a.number a.s.now a.out.now a.to (fits t f) l.i l.place l.out l.invariant c.requires.octets p.t p.start p.end (found t f) (meaning_of k) (means t f) (plain_code k c.if-code-lt5.true)
+    next_contents (indexed a.cells.now) (a.levels - 1) a.number a.s.now a.out.now a.to (fits t f) l.i l.place l.out l.invariant c.requires.octets p.tag p.start p.end (found t f) (meaning_of k) (means t f) (plain_code k c.if-code-lt5.true)
 
 pub put_value-place-requires-clause-s_in_bounds : goal.put_value-place-requires-clause-s_in_bounds
 put_value-place-requires-clause-s_in_bounds t c =
     let a = c.args in
     let l = c.loop-t in
-    let p = c.in-Field in
+    let p = c.in-Some.field-0 in
     let k = c.code-code.result in
     let f = (goal.at.put_value-place-requires-clause-s_in_bounds t c).After-code-code in
-    leaf_fits (indexed a.cells.now) (a.levels - 1) a.number a.s.now a.out.now a.to (fits t f) l.i l.place l.out l.invariant c.requires.octets p.t p.start p.end (found t f) (meaning_of k) (means t f) (plain_code k c.if-code-lt5.true)
+    leaf_fits (indexed a.cells.now) (a.levels - 1) a.number a.s.now a.out.now a.to (fits t f) l.i l.place l.out l.invariant c.requires.octets p.tag p.start p.end (found t f) (meaning_of k) (means t f) (plain_code k c.if-code-lt5.true)
 
 pub loop-t-smaller-then-code-lt5 : goal.loop-t-smaller-then-code-lt5
 loop-t-smaller-then-code-lt5 t c = let h = next t (goal.at.loop-t-smaller-then-code-lt5 t c).After-code-code in omega arith
@@ -131,10 +130,10 @@ pub loop-t-preserved-then-code-lt5 : goal.loop-t-preserved-then-code-lt5
 loop-t-preserved-then-code-lt5 t c =
     let a = c.args in
     let l = c.loop-t in
-    let p = c.in-Field in
+    let p = c.in-Some.field-0 in
     let k = c.code-code.result in
     let f = (goal.at.loop-t-preserved-then-code-lt5 t c).After-code-code in
-    leaf_written (indexed a.cells.now) (a.levels - 1) a.number a.s.now a.out.now a.to (fits t f) l.i l.place l.out l.invariant c.requires.octets p.t p.start p.end (found t f) (meaning_of k) (means t f)
+    leaf_written (indexed a.cells.now) (a.levels - 1) a.number a.s.now a.out.now a.to (fits t f) l.i l.place l.out l.invariant c.requires.octets p.tag p.start p.end (found t f) (meaning_of k) (means t f)
     c.put_value-place.result c.put_value-place.new.out (plain_code k c.if-code-lt5.true) c.put_value-place.ensures
 
 pub overflow_sub-levels : goal.overflow_sub-levels
@@ -165,8 +164,8 @@ write-after-requires t c =
     let h = inside t f l in
     let k = h.0 in
     let p = c.decreases in
-    let start = c.in-Field.start in
-    (omega arith, (octets_part (c.in-Field.end - start) start c.args.s.now c.requires.octets, (h.1, inner-fits t f l)))
+    let start = c.in-Some.field-0.start in
+    (omega arith, (octets_part (c.in-Some.field-0.end - start) start c.args.s.now c.requires.octets, (h.1, inner-fits t f l)))
 
 pub wrap-place-requires : goal.wrap-place-requires
 wrap-place-requires t c =
@@ -180,19 +179,18 @@ pub loop-t-preserved : goal.loop-t-preserved
 loop-t-preserved t c =
     let a = c.args in
     let l = c.loop-t in
-    let p = c.in-Field in
+    let p = c.in-Some.field-0 in
     let k = c.code-code.result in
     let w = c.write-after in
     let f = (goal.at.loop-t-preserved t c).After-code-code in
-    nested_written (indexed a.cells.now) (a.levels - 1) a.number a.s.now a.out.now a.to (fits t f) l.i l.place l.out l.invariant c.requires.octets p.t p.start p.end (found t f) (meaning_of k) (means t f) (k - 5) (message t f c.if-code-lt5.false)
+    nested_written (indexed a.cells.now) (a.levels - 1) a.number a.s.now a.out.now a.to (fits t f) l.i l.place l.out l.invariant c.requires.octets p.tag p.start p.end (found t f) (meaning_of k) (means t f) (k - 5) (message t f c.if-code-lt5.false)
     w.result w.new.out w.ensures c.wrap-place.result c.wrap-place.new.out c.wrap-place.ensures.value c.wrap-place.ensures.out_after
 
-pub returns-in_default : goal.returns-in_default
-returns-in_default t c =
+pub returns : goal.returns
+returns t c =
     let a = c.args in
     let sc = indexed a.cells.now in
     let l = c.loop-t in
-    let h = c.next_field in
     subst (λ (r : ℕ). Put a.out.now a.to (shortest_within sc r a.number a.s.now) l.place l.out) (levels-is sc a.levels a.number a.s.now c.requires.accepts)
     (ended sc (a.levels - 1) a.number a.s.now a.out.now a.to l.i l.place l.out l.invariant
-    h.result (sym h.ensures) (fieldless h.result c.in_default.not-Field))
+    (head_at l.i (drop l.i a.s.now)) refl c.in_default.ensures)

@@ -1,10 +1,9 @@
 -- `measure` counts the octets of the shortest form of the fields so far.
 use Prim.Native.Nat.{ℕ, suc, ◌+◌, ◌-◌, ◌%◌, ◌≤◌, ◌<◌}
 use native.Mathlib.Omega.{arith}
-use mathlib.Core.Path.{◌≡◌, sym, ap, ◌∙◌, subst}
+use mathlib.Core.Path.{◌≡◌, refl, sym, ap, ◌∙◌, subst}
 use mathlib.Core.List.{List}
 use lib.ListN.{length, take, drop, length-drop, length-take}
-use lib.Seq.{take-length}
 use Rattle.message.specs.internal.Accepts.{Accepts}
 use Rattle.message.proofs.Accepted.{accepts_levels}
 use Rattle.message.specs.Tree.{value}
@@ -17,8 +16,7 @@ use Rattle.table.specs.declared.Meaning.TheVariants.{Message}
 use Rattle.table_index.specs.internal.Cells.{meaning_of, indexed}
 use Rattle.table_index.proofs.Meanings as meaning
 use Rattle.message_field.specs.internal.Heads.{head_at}
-use Rattle.message_field.specs.declared.Head.TheVariants.{Field}
-use Rattle.message_field.proofs.Heads.{fieldless}
+use Rattle.message_field.specs.internal.Heads.{Field}
 use Rattle.message_field.proofs.FieldsByHead.{Ends}
 use Rattle.message_calls.specs.internal.Stores.{shortest_within}
 use Rattle.message_calls.proofs.Codes.{plain_code, code_means}
@@ -63,19 +61,19 @@ module _ (t : ℕ) (c : After-code-code t) where
   state = c.loop-t.invariant
 
   abbrev tag : ℕ
-  tag = c.in-Field.t
+  tag = c.in-Some.field-0.tag
 
   abbrev start : ℕ
-  start = c.in-Field.start
+  start = c.in-Some.field-0.start
 
   abbrev end : ℕ
-  end = c.in-Field.end
+  end = c.in-Some.field-0.end
 
   abbrev code : ℕ
   code = c.code-code.result
 
   found : head_at i (drop i c.args.s.now) ≡ Field tag start end
-  found = rw (take-length c.args.s.now) at (sym c.head_at.ensures ∙ c.in-Field.is)
+  found = c.in-Some.ensures
 
   means : meaning_of code ≡ sc.means c.args.number tag
   means = code_means c.args.cells.now c.args.number tag c.cell-cell.result code c.cell-cell.ensures c.code-code.ensures
@@ -127,7 +125,7 @@ pub value_size-size-requires-clause-contents : goal.value_size-size-requires-cla
 value_size-size-requires-clause-contents t c =
     let a = c.args in
     let f = (goal.at.value_size-size-requires-clause-contents t c).After-code-code in
-    next_contents (indexed a.cells.now) (a.levels - 1) a.number a.s.now c.loop-t.i c.loop-t.size c.loop-t.invariant c.requires.octets c.in-Field.t c.in-Field.start c.in-Field.end (found t f) (meaning_of c.code-code.result) (means t f) (plain_code c.code-code.result c.if-code-lt5.true)
+    next_contents (indexed a.cells.now) (a.levels - 1) a.number a.s.now c.loop-t.i c.loop-t.size c.loop-t.invariant c.requires.octets c.in-Some.field-0.tag c.in-Some.field-0.start c.in-Some.field-0.end (found t f) (meaning_of c.code-code.result) (means t f) (plain_code c.code-code.result c.if-code-lt5.true)
 
 pub overflow_add-size : goal.overflow_add-size
 overflow_add-size t c =
@@ -159,8 +157,8 @@ measure-n-requires t c =
     let h = inside t (goal.at.measure-n-requires t c).After-code-code c.if-code-lt5.false in
     let k = h.0 in
     let p = c.decreases in
-    let start = c.in-Field.start in
-    let n = c.in-Field.end - start in
+    let start = c.in-Some.field-0.start in
+    let n = c.in-Some.field-0.end - start in
     (omega arith, (part-few a.s.now c.requires.s_len_bound start n, (octets_part n start a.s.now c.requires.octets, h.1)))
 
 pub overflow_add-size-else-code-lt5 : goal.overflow_add-size-else-code-lt5
@@ -181,11 +179,10 @@ loop-t-smaller t c = let h = next t (goal.at.loop-t-smaller t c).After-code-code
 pub loop-t-preserved : goal.loop-t-preserved
 loop-t-preserved t c = nested t (goal.at.loop-t-preserved t c).After-code-code c.if-code-lt5.false c.measure-n.result c.control_size.result c.measure-n.ensures c.control_size.ensures
 
-pub returns-in_default : goal.returns-in_default
-returns-in_default t c =
+pub returns : goal.returns
+returns t c =
     let a = c.args in
     let l = c.loop-t in
-    let h = c.head_at in
     counted_all (indexed a.cells.now) (a.levels - 1) a.number a.s.now l.i l.size l.invariant
-    h.result (rw (take-length a.s.now) at (sym h.ensures)) (fieldless h.result c.in_default.not-Field)
+    (head_at l.i (drop l.i a.s.now)) refl c.in_default.ensures
     ∙ ap (λ (r : ℕ). length (shortest_within (indexed a.cells.now) r a.number a.s.now)) (levels-is (indexed a.cells.now) a.levels a.number a.s.now c.requires.accepts)

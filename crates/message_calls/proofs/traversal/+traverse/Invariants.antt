@@ -8,9 +8,10 @@ use Rattle.message_calls.proofs.traversal.+traverse.Given as goal
 abbrev pub decreases-traverse : goal.decreases-traverse
 decreases-traverse l = l.levels
 
-abbrev pub invariant-loop-mask : goal.invariant-loop-mask
-invariant-loop-mask l =
-    Progress l.fn.cells (l.fn.levels - 1) (message_from (indexed l.fn.cells) (l.fn.levels - 1)) l.fn.n l.fn.at l.fn.s l.seen l.i l.fields l.depth l.shortest
+abbrev pub invariant-loop-end : goal.invariant-loop-end
+invariant-loop-end l =
+    Progress l.fn.index.cells (l.fn.levels - 1) (message_from (indexed l.fn.index.cells) (l.fn.levels - 1)) l.fn.n l.fn.at l.fn.s l.seen l.i
+    l.found.counts.fields l.found.counts.depth l.found.shortest
 
-abbrev pub decreases-loop-mask : goal.decreases-loop-mask
-decreases-loop-mask l = length l.fn.s - l.i
+abbrev pub decreases-loop-end : goal.decreases-loop-end
+decreases-loop-end l = length l.fn.s - l.i

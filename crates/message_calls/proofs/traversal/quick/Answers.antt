@@ -13,15 +13,15 @@ use Rattle.message_calls.proofs.traversal.quick.Goals.{then-n-eq0, else-n-eq0}
 use Rattle.message_calls.proofs.traversal.quick.Goals.{Else-code-ge4, Start, Then-code-eq4}
 
 -- The field lies within the octets.
-inside : (b : Start) → b.args.code ≤ 4 → let a = b.args in
+inside : (b : Start) → let a = b.args in
     (a.i < length a.s.now) × (a.i + 1 + bit_and (get_or a.s.now a.i 0) 15 ≤ length a.s.now)
-inside b h = let a = b.args in small_inside a.s.now a.i (b.requires h)
+inside b = let a = b.args in small_inside a.s.now a.i b.requires
 
 -- A text.
 module _ (c : Then-code-eq4) where
   text-inside : let a = c.args in
       (a.i < length a.s.now) × (a.i + 1 + bit_and (get_or a.s.now a.i 0) 15 ≤ length a.s.now)
-  text-inside = let e = c.if-code-eq4.true in inside c.before.before.before.before (omega arith)
+  text-inside = inside c.before.before.before.before
 
 pub overflow_add-a : goal.overflow_add-a
 overflow_add-a c = let h = (text-inside (goal.at.overflow_add-a c).Then-code-eq4).1 in omega arith
@@ -42,23 +42,23 @@ pub returns-then-text : goal.returns-then-text
 returns-then-text c =
     let d = c in
     let a = d.args in
-    let k = d.if-code-eq4.true in record { no_text = λ z. absurd (omega arith); code_bound = λ h. (omega arith, refl, text_passes a.code a.s.now (a.i + 1) _ (omega arith, (text-inside (goal.at.returns-then-text c).Then-code-eq4).1) k (sym c.text.ensures ∙ c.if-text.true)) }
+    let k = d.if-code-eq4.true in (omega arith, refl, text_passes a.code a.s.now (a.i + 1) _ (omega arith, (text-inside (goal.at.returns-then-text c).Then-code-eq4).1) k (sym c.text.ensures ∙ c.if-text.true))
 
 pub returns-else-text : goal.returns-else-text
 unfolding NoText
 returns-else-text c =
-    let k = c.if-code-eq4.true in record { no_text = λ z. (λ e. sym c.text.ensures ∙ c.if-text.false, λ l. absurd (omega arith)); code_bound = λ h. absurd (omega arith) }
+    let k = c.if-code-eq4.true in (λ e. sym c.text.ensures ∙ c.if-text.false, λ l. absurd (omega arith))
 
 pub returns-else-code-eq4 : goal.returns-else-code-eq4
 unfolding NoText
 returns-else-code-eq4 c =
-    let k = c.if-code-ge4.true in record { no_text = λ z. (λ e. absurd (c.if-code-eq4.false e), λ l. absurd (omega arith)); code_bound = λ h. absurd (omega arith) }
+    let k = c.if-code-ge4.true in (λ e. absurd (c.if-code-eq4.false e), λ l. absurd (omega arith))
 
 -- A field that is neither text nor a message.
 module _ (c : Else-code-ge4) where
   start_inside : let a = c.args in
       (a.i < length a.s.now) × (a.i + 1 + bit_and (get_or a.s.now a.i 0) 15 ≤ length a.s.now)
-  start_inside = let k = c.if-code-ge4.false in inside c.before.before.before (omega arith)
+  start_inside = inside c.before.before.before
 
 pub bounds-s-i-2 : goal.bounds-s-i-2
 bounds-s-i-2 c = (start_inside (goal.at.bounds-s-i-2 c).Else-code-ge4).0
@@ -99,28 +99,25 @@ returns-then-s-first-ne0 c =
     let z : e - (a.i + 1) ≡ n = omega arith in
     let few : n ≤ 8 = c.if-n-le8.true in
     let inside = start_inside (goal.at.returns-then-s-first-ne0 c).Else-code-ge4 in
-    let o = octets_of_slice s (λ k. (c.type_inv.s k).fits) in record {
-      no_text = λ y. absurd (omega arith);
-      code_bound = λ h. (
-        omega arith,
-        refl,
-        elim c.if-n-eq0.branch [
-          | then-n-eq0 w ↦ none_passes a.code s (a.i + 1) e (omega arith, inside.1) four (let y : n ≡ 0 = w.if-n-eq0.true in omega arith)
-          | else-n-eq0 w ↦
-              first_passes a.code s (a.i + 1) e (omega arith, inside.1) four o (let y : n ≡ 0 → ⊥ = w.if-n-eq0.false in omega (arith, y)) (omega arith)
-              (subst (λ (q : ℕ). bit_and (get_or s q 0) 127 ≡ 0 → ⊥) w.first-is c.if-s-first-ne0.true)
-        ],
-      );
-    }
+    let o = octets_of_slice s (λ k. (c.type_inv.s k).fits) in (
+      omega arith,
+      refl,
+      elim c.if-n-eq0.branch [
+        | then-n-eq0 w ↦ none_passes a.code s (a.i + 1) e (omega arith, inside.1) four (let y : n ≡ 0 = w.if-n-eq0.true in omega arith)
+        | else-n-eq0 w ↦
+            first_passes a.code s (a.i + 1) e (omega arith, inside.1) four o (let y : n ≡ 0 → ⊥ = w.if-n-eq0.false in omega (arith, y)) (omega arith)
+            (subst (λ (q : ℕ). bit_and (get_or s q 0) 127 ≡ 0 → ⊥) w.first-is c.if-s-first-ne0.true)
+      ],
+    )
 
 pub short_by_first_octets-requires : goal.short_by_first_octets-requires
 short_by_first_octets-requires c = let d = c in (d.if-code-ge4.false, omega arith, (start_inside (goal.at.short_by_first_octets-requires c).Else-code-ge4).1)
 
 pub returns-then-short_by_first_octets : goal.returns-then-short_by_first_octets
 returns-then-short_by_first_octets c =
-    let k = c.if-code-ge4.false in record { no_text = λ z. absurd (omega arith); code_bound = λ h. (omega arith, refl, c.short_by_first_octets.ensures.passes c.if-short_by_first_octets.true) }
+    let k = c.if-code-ge4.false in (omega arith, refl, c.short_by_first_octets.ensures.passes c.if-short_by_first_octets.true)
 
 pub returns : goal.returns
 unfolding NoText
 returns c =
-    let k = c.if-code-ge4.false in record { no_text = λ z. (λ e. absurd (omega arith), λ l. c.short_by_first_octets.ensures.le_code c.if-short_by_first_octets.false); code_bound = λ h. absurd (omega arith) }
+    let k = c.if-code-ge4.false in (λ e. absurd (omega arith), λ l. c.short_by_first_octets.ensures.le_code c.if-short_by_first_octets.false)

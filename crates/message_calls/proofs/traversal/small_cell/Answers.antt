@@ -1,6 +1,7 @@
 -- `small_cell` tests what its definition tests.
 use native.Mathlib.Omega.{arith}
-use mathlib.Core.Path.{◌∙◌}
+use mathlib.Core.Path.{ap, ◌∙◌}
+use Rattle.std.specs.Prelude.{Some}
 use lib.Bits.{bit_and, mask_lt}
 use lib.ListN.{get_or}
 use Rattle.message_field.proofs.Nexts.{none_past, none_by_tag, none_by_length, none_by_end, cell_found}
@@ -44,5 +45,5 @@ returns c =
     let a = b.args in
     let s = a.s.now in
     let n = bit_and (get_or s a.i 0) 15 in
-    c.cell.ensures
+    ap Some c.cell.ensures
     ∙ cell_found a.cells.now a.number s a.i b.if-s-i.false k.if-c-ge224.false (k.if-n-ge12.false) (k.if-s-i-2.false)

@@ -1,6 +1,0 @@
-use Rattle.message_calls.specs.internal.LookupUnder.{lookup_under}
-use Rattle.message_calls.proofs.outermost.lookup_under.Goals as goal
-
-pub returns : goal.returns
-unfolding lookup_under
-returns c = c.look_under.ensures
