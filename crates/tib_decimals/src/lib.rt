@@ -4,11 +4,13 @@
 
 ghost use Rattle.std.specs.Prelude.{◌≡◌, ◌+◌, ◌*◌, ◌^◌, ◌≤◌, ◌<◌, eqb};
 ghost use Rattle.tib_real.specs.WholeNumber.{signed};
+ghost use Rattle.tib_real.specs.InNumbers.{whole_number};
 ghost use Rattle.tib_decimals.specs.Nearest.{nearest};
 ghost use Rattle.tib_decimals.specs.InDecimals.{answer as answer-of, in_decimals, decimals_of};
 ghost use Rattle.tib_decimals.specs.internal.Sizes.{capped, size_of, Factors};
 
-use tib_real::types::{Real, WholeNumber};
+use reading::Refusal;
+use tib_real::types::Real;
 
 // The largest size of a number of 64 bits with a sign, and one more, which stands for every size above it.
 const LARGEST: u64 = 0x8000_0000_0000_0000;
@@ -99,25 +101,21 @@ fn with_sign(sign: u64, n: u64) -> i64
 }
 
 // Returns the number with this sign and this size, or the refusal if it is out of range.
-fn answer(sign: u64, n: u64) -> WholeNumber
+fn answer(sign: u64, n: u64) -> Result<i64, Refusal>
     requires { sign ≤ 1 }
-    ensures { result ≡ answer-of (eqb sign 1) n }
+    ensures { whole_number result ≡ answer-of (eqb sign 1) n }
 {
     if LARGEST + sign <= n {
-        return tib_real::refused();
+        return Err(Refusal::NotInFractions);
     }
-    WholeNumber {
-        refusal: 0,
-        place: 0,
-        value: with_sign(sign, n),
-    }
+    Ok(with_sign(sign, n))
 }
 
 // Reads the real with these bits in decimals, with k digits after the point. Infinities and not-a-numbers need no test: with their exponent
 // `size` returns TOO_LARGE. Zero and subnormals get a wrong significand here, but with exponent 0 `size` returns 0 for every significand.
-fn in_decimals(bits: u64, k: u64) -> WholeNumber
+fn in_decimals(bits: u64, k: u64) -> Result<i64, Refusal>
     requires { (1 ≤ k) × (k ≤ 9) }
-    ensures { result ≡ in_decimals bits k }
+    ensures { whole_number result ≡ in_decimals bits k }
 {
     let m = 0x10_0000_0000_0000 + (bits & 0xf_ffff_ffff_ffff);
     let e = (bits >> 52) & 0x7ff;
@@ -126,11 +124,11 @@ fn in_decimals(bits: u64, k: u64) -> WholeNumber
 
 // Reads a real in decimals: the whole number nearest to it times 10^k, a tie to the even one, where k is the hint less 16. It uses the bits
 // and ignores the value beside them.
-pub fn decimals(r: Real) -> WholeNumber
-    ensures { result ≡ decimals_of r }
+pub fn decimals(r: Real) -> Result<i64, Refusal>
+    ensures { whole_number result ≡ decimals_of r }
 {
     if !tib_real::hint_within(r, 17, 25) {
-        return tib_real::refused();
+        return Err(Refusal::NotInFractions);
     }
     in_decimals(r.bits, r.hint - 16)
 }

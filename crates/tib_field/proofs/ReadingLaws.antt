@@ -8,7 +8,7 @@ use mathlib.Core.Option.{Option}
 use Rattle.reading.specs.Reading.{Reading, accepted, refused}
 use Rattle.reading.specs.internal.Verdicts.{IsAccepted, verdict_of}
 use Rattle.reading.specs.Checks.{refusal, counts}
-use Rattle.reading.specs.declared.Verdict.TheVariants.{Accepted, Refused}
+use Rattle.reading.specs.internal.Verdicts.{Accepted, Refused}
 use Rattle.tib_field.specs.Kth.{field_or_absent, field_of}
 use Rattle.tib_field.specs.internal.KthOf.{kth_of}
 

@@ -1,16 +1,16 @@
--- The loop invariant of a traversal that gets one number for each field, and what each turn of the loop does to it.
-use Prim.Native.Nat.{ℕ, ◌+◌, ◌-◌, ◌≤◌, ◌<◌}
+-- The loop invariant of a traversal of fields, and what each turn of the loop does to it.
+use Prim.Native.Nat.{ℕ, ◌+◌, ◌≤◌, ◌<◌}
 use native.Mathlib.Omega.{arith}
-use mathlib.Core.Path.{◌≡◌, refl, ap}
+use mathlib.Core.Path.{◌≡◌, refl, ap, ◌∙◌}
 use mathlib.Core.List.{List, [], ◌∷◌}
 use lib.ListN.{length, drop, length-drop, drop_of_length-le}
-use Rattle.reading.specs.Reading.{Reading, message_limit}
-use Rattle.reading.specs.declared.Verdict.{Verdict}
-use Rattle.reading.specs.declared.Verdict.TheVariants.{Accepted, Refused}
+use Rattle.reading.specs.Reading.{Reading}
+use Rattle.reading.specs.internal.Verdicts.{Verdict}
+use Rattle.reading.specs.internal.Verdicts.{Accepted, Refused}
 use Rattle.reading.proofs.Traversal as traversal
 use Rattle.reading.proofs.Traversal.{Traversal}
 use Rattle.tib_field.specs.Steps.{Step, Done, Fault, Over, after_step, fields_by, flat_depth}
-use Rattle.tib_field.specs.internal.Numbers.{fault_base, number_of}
+use Rattle.tib_field.specs.internal.Measured.{measured}
 use Rattle.tib_field.proofs.Steps.{Exact, step_inside}
 
 -- The first field of the message s begins after its header.
@@ -40,41 +40,37 @@ module _ {A Z : Type 0} (octets : A → List ℕ) (Allowed : A → Type 0) (Wron
     unfolding fields_by after_step
     at_fault k e = traversal.at_fault length flat_depth from tt 0 header s tt i f 1 now k i (let p : 0 + i ≡ i = omega arith in rw (e, p))
 
-    -- The octets n of the field at i, or its refusal. A message is too short for a field of as many octets as the number of a refusal.
-    module _ (inside : i < length s) (few : length s ≤ message_limit) (n : ℕ) (e : n ≡ number_of total (next (drop i s))) where
-      pub refused_here : fault_base ≤ n → Refused (n - fault_base) i ≡ whole
-      unfolding number_of
-      refused_here large = go (next (drop i s)) refl e
-        where
-          go : (p : Step Z) → next (drop i s) ≡ p → n ≡ number_of total p → Refused (n - fault_base) i ≡ whole
-          go Done g h = absurd (omega arith)
-          go (Fault k) g h = let d : n - fault_base ≡ k = omega arith in rw d (at_fault k g)
-          go (Over z) g h =
-              let b = (step_inside octets Allowed WrongField next total parts_at exact (drop i s) z g).1 in
-              let l = length-drop i s in
-              absurd (omega arith)
+    -- What a function that measures fields finds at i: a refusal, or how many octets the field has.
+    pub refused_step : (k : ℕ) → Fault k ≡ measured total (next (drop i s)) → Refused k i ≡ whole
+    unfolding measured
+    refused_step k e = go (next (drop i s)) refl e
+      where
+        go : (p : Step Z) → next (drop i s) ≡ p → Fault k ≡ measured total p → Refused k i ≡ whole
+        go Done g h = let z : ◌≡◌ {A = ℕ} 0 1 = cc in absurd (omega arith)
+        go (Fault m) g h = let d : m ≡ k = cc in at_fault k (g ∙ ap Fault d)
+        go (Over z) g h = let y : ◌≡◌ {A = ℕ} 0 1 = cc in absurd (omega arith)
 
-      stepped : n < fault_base → (z : Z) × (next (drop i s) ≡ Over z) × (n ≡ total z)
-      unfolding number_of
-      stepped small = go (next (drop i s)) refl e
+    module _ (inside : i < length s) (n : ℕ) (e : Over n ≡ measured total (next (drop i s))) where
+      sized : (z : Z) × (next (drop i s) ≡ Over z) × (n ≡ total z)
+      unfolding measured
+      sized = go (next (drop i s)) refl e
         where
-          go : (p : Step Z) → next (drop i s) ≡ p → n ≡ number_of total p → (z : Z) × (next (drop i s) ≡ Over z) × (n ≡ total z)
+          go : (p : Step Z) → next (drop i s) ≡ p → Over n ≡ measured total p → (z : Z) × (next (drop i s) ≡ Over z) × (n ≡ total z)
           go Done g h = let d = ap length (exact.done (drop i s) g) in let l = length-drop i s in absurd (omega arith)
-          go (Fault k) g h = absurd (omega arith)
-          go (Over z) g h = (z, g, h)
+          go (Fault k) g h = let y : ◌≡◌ {A = ℕ} 0 1 = cc in absurd (omega arith)
+          go (Over z) g h = (z, g, cc)
 
-      pub forward : n < fault_base → (i < i + n) × (i + n ≤ length s)
-      forward small =
-          let r = stepped small in
-          let h = step_inside octets Allowed WrongField next total parts_at exact (drop i s) r.0 r.1 in
-          traversal.forward length flat_depth from tt 0 header s tt i f 1 now (total r.0) (i + n) h.0 h.1 (ap (λ (x : ℕ). i + x) r.2)
+      pub forward_step : (i < i + n) × (i + n ≤ length s)
+      forward_step =
+          let h = step_inside octets Allowed WrongField next total parts_at exact (drop i s) sized.0 sized.1 in
+          traversal.forward length flat_depth from tt 0 header s tt i f 1 now (total sized.0) (i + n) h.0 h.1 (ap (λ (x : ℕ). i + x) sized.2)
 
-      pub over_field : n < fault_base → State (i + n) (f + 1)
+      pub over_step : State (i + n) (f + 1)
       unfolding fields_by after_step flat_depth
-      over_field small =
-          let r = stepped small in
-          let z = r.0 in
-          let g = r.1 in
+      over_step =
+          let z = sized.0 in
+          let g = sized.1 in
+          let q = sized.2 in
           let h = step_inside octets Allowed WrongField next total parts_at exact (drop i s) z g in
-          traversal.over length flat_depth from tt 0 header s tt i f 1 now (total z) (i + n) h.0 h.1 (ap (λ (x : ℕ). i + x) r.2) tt (0 + i + total z) (omega arith)
+          traversal.over length flat_depth from tt 0 header s tt i f 1 now (total z) (i + n) h.0 h.1 (ap (λ (x : ℕ). i + x) sized.2) tt (0 + i + total z) (omega arith)
           (λ (fs : List A). parts_at (drop i s) z ∷ fs) (λ x. omega arith) (λ x. refl) (rw g)

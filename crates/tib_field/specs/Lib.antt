@@ -1,6 +1,7 @@
 pub mod Mark
 pub mod Name
 pub mod Refused
+pub mod InNumbers
 pub mod Fields
 pub mod Whole
 pub mod FirstFault

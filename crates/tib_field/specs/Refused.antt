@@ -2,13 +2,13 @@
 use Rattle.std.specs.Prelude.{ℕ, false, []}
 use Rattle.tib_real.specs.FromOctets.{real_of}
 use Rattle.tib_real.specs.declared.types.Real.{Real}
-use Rattle.tib_field.specs.declared.Field.{Field}
+use Rattle.tib_field.specs.declared.FieldAnswer.{FieldAnswer}
 
 -- The real of a field that has none: a real of zeros.
 abbrev pub no_real : Real
 no_real = real_of [] 0 false
 
-abbrev pub refused_field : ℕ → ℕ → Field
+abbrev pub refused_field : ℕ → ℕ → FieldAnswer
 refused_field refusal at =
     record {
       refusal = refusal;

@@ -1,3 +1,3 @@
 pub mod Zeros
 pub mod KthOf
-pub mod Numbers
+pub mod Measured

@@ -1,7 +1,7 @@
 -- The answer for a field, by its sizes and its place in the message.
 use Prim.Native.Nat.{ℕ, ◌+◌, ◌-◌, ◌≤◌, ◌<◌}
 use native.Mathlib.Omega.{arith}
-use mathlib.Core.Path.{◌≡◌, refl, ap, ◌∙◌}
+use mathlib.Core.Path.{◌≡◌, refl, sym, ap, ◌∙◌}
 use mathlib.Core.Bool.{Bool, true, false, cond, ◌||◌}
 use mathlib.Core.List.{List, [], ◌∷◌}
 use lib.ListN.{length, get_or, take, drop, length-drop}
@@ -16,6 +16,9 @@ use Rattle.tib_msg_field.specs.declared.Sizes.{Sizes}
 use Rattle.tib_msg_field.specs.Reading.{total, parts_at}
 use Rattle.tib_real.specs.declared.types.Real.{Real}
 use Rattle.tib_msg_field.specs.Layout.{kind, hinted}
+use Rattle.tib_field.specs.declared.Hint.{Hint}
+use Rattle.tib_field.specs.InNumbers.{hinted as hinted-numbers, hint_or_zeros}
+use Rattle.std.specs.Bool.{then_some}
 use Rattle.tib_msg.specs.CheckAndField.{hint_value, real_shown, shown}
 
 pub first_none : (s : List ℕ) → length s ≡ 0 → 0 ≡ get_or s 0 0
@@ -120,3 +123,18 @@ module _ (s : List ℕ) (at : ℕ) (z : Sizes) (inside : at + total z ≤ length
   unfolding shown
   shown_is k n first present r a b c d e =
       rw (e, d, c, b, a, octet_is, name_length, size_length, contents_length, contents_are, hint_is)
+
+  -- A hint of no octets has the type 0 and the value 0.
+  pub no_hint : (k n first : ℕ) → z.hint ≡ 0 → n ≡ hint_value k (take (hint + z.hint - hint) (drop hint s))
+      → first ≡ get_or (take (hint + z.hint - hint) (drop hint s)) 0 0 → ◌≡◌ {A = Hint} (record { kind = 0; value = 0 }) (record { kind = first; value = n })
+  no_hint k n first e d g =
+      let x : hint + z.hint - hint ≡ 0 = omega arith in
+      let u : first ≡ 0 = rw x at g in
+      let v : n ≡ 0 = rw x at d ∙ sym (value_none k [] (omega arith)) in
+      rw (u, v)
+
+-- A hint that is there where a test says so.
+pub hint_told : (t : Bool) (h : Hint) → (t ≡ false → ◌≡◌ {A = Hint} (record { kind = 0; value = 0 }) h)
+    → (hinted-numbers (then_some t h) ≡ t) × (hint_or_zeros (then_some t h) ≡ h)
+hint_told true h e = (refl, refl)
+hint_told false h e = (refl, e refl)

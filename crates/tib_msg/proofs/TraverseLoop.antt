@@ -4,10 +4,10 @@ use mathlib.Core.Path.{◌≡◌, ap, ◌∙◌}
 use mathlib.Core.List.{List}
 use lib.ListN.{length, take, drop}
 use Rattle.octets.proofs.Slices.{tail_part}
-use Rattle.reading.specs.Reading.{message_limit}
-use Rattle.reading.specs.declared.Verdict.{Verdict}
-use Rattle.reading.specs.declared.Verdict.TheVariants.{Accepted, Refused}
-use Rattle.tib_field.specs.internal.Numbers.{fault_base, number_of}
+use Rattle.reading.specs.internal.Verdicts.{Verdict}
+use Rattle.reading.specs.internal.Verdicts.{Accepted, Refused}
+use Rattle.tib_field.specs.Steps.{Fault, Over}
+use Rattle.tib_field.specs.internal.Measured.{measured}
 use Rattle.tib_field.proofs.Traversals as traversals
 use Rattle.tib_msg_field.specs.Layout.{octets, Allowed}
 use Rattle.tib_msg_field.specs.FirstFault.{WrongField}
@@ -29,15 +29,19 @@ module _ (s : List ℕ) where
     pub at_end : length s ≤ i → Accepted f 1 ≡ whole
     at_end = traversals.at_end octets Allowed WrongField next_field total parts_at exact 9 s i f now
 
-    module _ (inside : i < length s) (few : length s ≤ message_limit) (n : ℕ) (e : n ≡ number_of total (next_field (take (length s - i) (drop i s)))) where
-      numbered : n ≡ number_of total (next_field (drop i s))
-      numbered = e ∙ ap (λ (r : List ℕ). number_of total (next_field r)) (tail_part s i)
+    module _ (inside : i < length s) where
+      abbrev rest : List ℕ
+      rest = take (length s - i) (drop i s)
 
-      pub refused_here : fault_base ≤ n → Refused (n - fault_base) i ≡ whole
-      refused_here = traversals.refused_here octets Allowed WrongField next_field total parts_at exact 9 s i f now inside few n numbered
+      same_step : measured total (next_field rest) ≡ measured total (next_field (drop i s))
+      same_step = ap (λ (r : List ℕ). measured total (next_field r)) (tail_part s i)
 
-      pub forward : n < fault_base → (i < i + n) × (i + n ≤ length s)
-      forward = traversals.forward octets Allowed WrongField next_field total parts_at exact 9 s i f now inside few n numbered
+      pub refused_here : (k : ℕ) → Fault k ≡ measured total (next_field rest) → Refused k i ≡ whole
+      refused_here k e = traversals.refused_step octets Allowed WrongField next_field total parts_at exact 9 s i f now k (e ∙ same_step)
 
-      pub over_field : n < fault_base → State (i + n) (f + 1)
-      over_field = traversals.over_field octets Allowed WrongField next_field total parts_at exact 9 s i f now inside few n numbered
+      module _ (n : ℕ) (e : Over n ≡ measured total (next_field rest)) where
+        pub forward : (i < i + n) × (i + n ≤ length s)
+        forward = traversals.forward_step octets Allowed WrongField next_field total parts_at exact 9 s i f now inside n (e ∙ same_step)
+
+        pub over_field : State (i + n) (f + 1)
+        over_field = traversals.over_step octets Allowed WrongField next_field total parts_at exact 9 s i f now inside n (e ∙ same_step)

@@ -9,7 +9,7 @@ use Rattle.tib_field.specs.Refused.{no_real, refused_field}
 use Rattle.tib_field.specs.Fields.{placed}
 use Rattle.tib_field.specs.Kth.{field_of}
 use Rattle.tib_field.specs.Steps.{flat_depth}
-use Rattle.tib_field.specs.declared.Field.{Field}
+use Rattle.tib_field.specs.declared.FieldAnswer.{FieldAnswer}
 use Rattle.tib_msg_field.specs.Layout.{kind, hinted, Parts, octets}
 use Rattle.tib_msg_field.specs.Reading.{reading}
 
@@ -26,7 +26,7 @@ unfoldable pub real_shown : ℕ → List ℕ → ℕ → Bool → Real
 real_shown kind contents hint present = cond (eqb kind 7) (real_of contents hint present) no_real
 
 -- A field that begins at a place. The octet before the name is its size, and the octet after it the type.
-unfoldable pub shown : ℕ → Parts → Field
+unfoldable pub shown : ℕ → Parts → FieldAnswer
 shown at f =
     record {
       refusal = 0;
@@ -47,5 +47,5 @@ unfoldable pub places : List Parts → List (ℕ × Parts)
 places fs = placed octets 9 fs
 
 -- The k-th field of a message.
-unfoldable pub field : List ℕ → ℕ → Field
+unfoldable pub field : List ℕ → ℕ → FieldAnswer
 field s k = field_of refused_field shown places k (reading s)

@@ -1,7 +1,7 @@
 -- What an answer says of the k-th field of a TibMsg message.
 use Rattle.std.specs.Prelude.{ℕ, ◌+◌, ◌≡◌, Bool, true, false, List, [], ◌∷◌, length}
 use Rattle.octets.specs.Number.{big_endian}
-use Rattle.tib_field.specs.declared.Field.{Field}
+use Rattle.tib_field.specs.declared.FieldAnswer.{FieldAnswer}
 use Rattle.tib_field.specs.Fields.{joined, KthField}
 use Rattle.tib_field.specs.Stands.{Stands}
 use Rattle.tib_msg_field.specs.Layout.{kind, Parts, octets}
@@ -17,7 +17,7 @@ pub data HintTold (kind : ℕ) : List ℕ → Bool → ℕ → ℕ → Type 0 wh
 
 -- An answer tells the k-th of these fields: the one with k fields before it. Its name, with the closing zero, and its data stand at the
 -- places that the answer gives; the octet before the name is its size, and the type octet and the data's size are between name and data.
-pub record KthTold (s : List ℕ) (fs : List Parts) (k : ℕ) (r : Field) : Type 0 where
+pub record KthTold (s : List ℕ) (fs : List Parts) (k : ℕ) (r : FieldAnswer) : Type 0 where
   pub kth : KthField fs k
   pub accepted : r.refusal ≡ 0
   pub nowhere : r.place ≡ 0

@@ -211,3 +211,10 @@ type_of c size hint p q h =
       array = λ e. (no_hint (kind c) size (hinted c) hint e h).0;
       partial = λ e. (no_hint (kind c) size (hinted c) hint e h).1;
     })
+
+-- Without the bit for a hint there is none.
+pub hint_missing : (k n : ℕ) (b : Bool) (hint : List ℕ) → Hint k n b hint → b ≡ false → length hint ≡ 0
+hint_missing k n b hint (none f g) e = refl
+hint_missing k n b hint (array t m f g h w d) e = let z : ◌≡◌ {A = ℕ} 0 1 = cc in absurd (omega arith)
+hint_missing k n b hint (partial m f) e = let z : ◌≡◌ {A = ℕ} 0 1 = cc in absurd (omega arith)
+hint_missing k n b hint (value t s f g h l w) e = let z : ◌≡◌ {A = ℕ} 0 1 = cc in absurd (omega arith)

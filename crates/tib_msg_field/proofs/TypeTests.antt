@@ -1,11 +1,11 @@
 -- The tests of a type octet and of a size, as the code does them.
-use Prim.Native.Nat.{ℕ, zero, suc, ◌+◌, ◌*◌, ◌/◌, ◌%◌, ◌≤◌, ◌<◌}
+use Prim.Native.Nat.{ℕ, ◌+◌, ◌*◌, ◌/◌, ◌%◌, ◌≤◌, ◌<◌}
 use native.Mathlib.Omega.{arith}
 use mathlib.Core.Path.{◌≡◌, refl}
 use mathlib.Core.Bool.{Bool, true, false, ◌&&◌, ◌||◌, not}
 use lib.Dec.{eqb, leb}
 use borrow.Author.Tests.{lt-leb, le-leb, eqb-true, eqb-false, eq-eqb, ne_eqb}
-use Rattle.tib_msg_field.specs.Layout.{kind, hinted, is_width, size_allowed}
+use Rattle.tib_msg_field.specs.Layout.{kind, hinted}
 use Rattle.tib_msg_field.specs.Reading.{type_allowed}
 
 -- The low six bits of an octet are the type and the two unused bits.
@@ -50,43 +50,3 @@ module _ (c m : ℕ) (e : m ≡ c % 64) where
         go : (t : Bool) → eqb m 8 ≡ t → hinted c ≡ type_allowed c
         go true f = rw (tested, f, or-false (hinted c))
         go false f = let z = eqb-false m 8 f in rw (tested, f, eq-eqb m 9 (omega arith), or-false (hinted c))
-
-module _ (n : ℕ) where
-  pub width_few : n < 3 → not (eqb n 0) ≡ is_width n
-  unfolding is_width
-  width_few h = go n h
-    where
-      go : (n : ℕ) → n < 3 → not (eqb n 0) ≡ (eqb n 1 || eqb n 2 || eqb n 4 || eqb n 8)
-      go zero h = refl
-      go (suc zero) h = refl
-      go (suc (suc zero)) h = refl
-      go (suc (suc (suc n))) h = absurd (omega arith)
-
-  pub width_four : n ≡ 4 → true ≡ is_width n
-  unfolding is_width
-  width_four e = rw e
-
-  pub width_eight : 3 ≤ n → (n ≡ 4 → ⊥) → eqb n 8 ≡ is_width n
-  unfolding is_width
-  width_eight h d = rw (ne_eqb n 1 (λ e. omega arith), ne_eqb n 2 (λ e. omega arith), ne_eqb n 4 d)
-
-module _ (k n : ℕ) where
-  pub size_any : (k ≡ 5 → ⊥) → (k ≡ 6 → ⊥) → (k ≡ 7 → ⊥) → true ≡ size_allowed k n
-  unfolding size_allowed
-  size_any a b d = rw (ne_eqb k 5 a, ne_eqb k 6 b, ne_eqb k 7 d)
-
-  pub size_whole : 5 ≤ k → k < 7 → is_width n ≡ size_allowed k n
-  unfolding size_allowed
-  size_whole a b = go (eqb k 5) refl
-    where
-      go : (t : Bool) → eqb k 5 ≡ t → is_width n ≡ size_allowed k n
-      go true f = rw f
-      go false f = let z = eqb-false k 5 f in rw (f, eq-eqb k 6 (omega arith))
-
-  pub size_four : k ≡ 7 → n ≡ 4 → true ≡ size_allowed k n
-  unfolding size_allowed
-  size_four e f = rw (e, f)
-
-  pub size_eight : k ≡ 7 → (n ≡ 4 → ⊥) → eqb n 8 ≡ size_allowed k n
-  unfolding size_allowed
-  size_eight e d = rw (e, ne_eqb n 4 d)

@@ -5,10 +5,10 @@
 ghost use Rattle.std.specs.Prelude.{◌≡◌, ◌+◌, ◌<◌, ◌^◌, length};
 ghost use Rattle.tib_msg_field.specs.Layout.{kind as kind-of, hinted as hinted-of, size_width, is_width, size_allowed};
 ghost use Rattle.tib_msg_field.specs.Reading.{type_allowed, array_hint, partial_hint, value_hint, read_hint, hint_at, from_data, from_size, from_type, next_field, total};
-ghost use Rattle.tib_field.specs.internal.Numbers.{number_of};
-ghost use Rattle.tib_msg_field.specs.internal.Numbers.{hint_number};
+ghost use Rattle.tib_field.specs.internal.Measured.{step_of, measured};
+ghost use Rattle.tib_msg_field.specs.internal.Numbers.{hint_step};
 
-use tib_field::FAULT;
+use reading::Refusal;
 
 // The sizes of the parts of a field, and its type octet.
 #[derive(Clone, Copy)]
@@ -20,18 +20,11 @@ pub struct Sizes {
     pub hint: usize,
 }
 
-// The numbers of refusals that functions return in place of a count of octets.
-const CUT: u64 = FAULT + reading::CUT;
-
-const PAST_THE_END: u64 = FAULT + reading::PAST_THE_END;
-
-const BAD: u64 = FAULT + reading::TYPE_SIZE_OR_HINT;
-
 // Returns the type that a type octet names.
 pub fn kind(c: u8) -> u64
     ensures { result ≡ kind-of c }
 {
-    numbers::wide(c & 15)
+    u64::from(c & 15)
 }
 
 // Returns whether a type octet announces a hint.
@@ -49,16 +42,11 @@ pub fn size_width(c: u8) -> usize
 }
 
 // Returns whether n is the width of a whole number: 1, 2, 4 or 8 octets.
+#[tactic(auto, unfolding(crate::specs::Layout::is_width))]
 fn is_width(n: u64) -> bool
     ensures { result ≡ is_width n }
 {
-    if n < 3 {
-        return n != 0;
-    }
-    if n == 4 {
-        return true;
-    }
-    n == 8
+    matches!(n, 1 | 2 | 4 | 8)
 }
 
 // Returns whether a type octet is allowed: the two unused bits are clear, the type is 10 at most, and an array and a partial have a hint.
@@ -80,78 +68,75 @@ fn type_allowed(c: u8) -> bool
 }
 
 // Returns whether data of the type k may have n octets.
+#[tactic(auto, unfolding(crate::specs::Layout::size_allowed))]
 fn size_allowed(k: u64, n: u64) -> bool
     ensures { result ≡ size_allowed k n }
 {
-    if k < 5 {
-        return true;
+    match k {
+        5 | 6 => is_width(n),
+        7 => n == 4 || n == 8,
+        _ => true,
     }
-    if k < 7 {
-        return is_width(n);
-    }
-    if k == 7 {
-        if n == 4 {
-            return true;
-        }
-        return n == 8;
-    }
-    true
 }
 
 // Returns the octets of the hint of an array of `size` octets, or a refusal. The hint is the type and the size of the elements.
-fn array_hint(size: u64, t: u64, n: u64) -> u64
-    ensures { result ≡ hint_number (array_hint size t n) }
+fn array_hint(size: u64, t: u64, n: u64) -> Result<u64, Refusal>
+    ensures { hint_step result ≡ array_hint size t n }
 {
     if t < 4 {
-        return BAD;
+        return Err(Refusal::TypeSizeOrHint);
     }
     if 7 < t {
-        return BAD;
+        return Err(Refusal::TypeSizeOrHint);
     }
     if !is_width(n) {
-        return BAD;
+        return Err(Refusal::TypeSizeOrHint);
     }
     if size % n != 0 {
-        return BAD;
+        return Err(Refusal::TypeSizeOrHint);
     }
-    2
+    Ok(2)
 }
 
 // Returns the octets of the hint of a partial, which has the type 6, or a refusal.
-fn partial_hint(t: u64) -> u64
-    ensures { result ≡ hint_number (partial_hint t) }
+fn partial_hint(t: u64) -> Result<u64, Refusal>
+    ensures { hint_step result ≡ partial_hint t }
 {
-    if t == 6 { 2 } else { BAD }
+    if t == 6 {
+        Ok(2)
+    } else {
+        Err(Refusal::TypeSizeOrHint)
+    }
 }
 
 // Returns the octets of any other hint, which is a type, a size, and a value of that size, or a refusal. The type and the size are tested before the value is found to be cut.
-fn value_hint(t: u64, n: u64, remaining: usize) -> u64
-    ensures { result ≡ hint_number (value_hint t n remaining) }
+fn value_hint(t: u64, n: u64, remaining: usize) -> Result<u64, Refusal>
+    ensures { hint_step result ≡ value_hint t n remaining }
 {
     if t < 5 {
-        return BAD;
+        return Err(Refusal::TypeSizeOrHint);
     }
     if 6 < t {
-        return BAD;
+        return Err(Refusal::TypeSizeOrHint);
     }
     if !is_width(n) {
-        return BAD;
+        return Err(Refusal::TypeSizeOrHint);
     }
     if (remaining as u64) < n {
-        return CUT;
+        return Err(Refusal::Cut);
     }
-    2 + n
+    Ok(2 + n)
 }
 
 // Returns the octets of the hint at the front of octets, by the field's type and the size of its data, or a refusal.
-fn read_hint(k: u64, size: u64, s: &[u8]) -> u64
-    ensures { result ≡ hint_number (read_hint k size s.now) }
+fn read_hint(k: u64, size: u64, s: &[u8]) -> Result<u64, Refusal>
+    ensures { hint_step result ≡ read_hint k size s.now }
 {
     if s.len() < 2 {
-        return CUT;
+        return Err(Refusal::Cut);
     }
-    let t = numbers::wide(s[0]);
-    let n = numbers::wide(s[1]);
+    let t = u64::from(s[0]);
+    let n = u64::from(s[1]);
     if k == 8 {
         return array_hint(size, t, n);
     }
@@ -162,97 +147,91 @@ fn read_hint(k: u64, size: u64, s: &[u8]) -> u64
 }
 
 // Returns the octets of the hint after the data: 0 where the type octet announces none.
-fn hint_at(c: u8, size: u64, s: &[u8]) -> u64
-    ensures { result ≡ hint_number (hint_at c size s.now) }
+fn hint_at(c: u8, size: u64, s: &[u8]) -> Result<u64, Refusal>
+    ensures { hint_step result ≡ hint_at c size s.now }
 {
     if hinted(c) {
         read_hint(kind(c), size, s)
     } else {
-        0
+        Ok(0)
     }
 }
 
 // Returns the octets of a field, or its refusal, by what stands from its data on. The data have l octets by their size.
-fn from_data(n: usize, c: u8, w: usize, l: u64, s: &[u8]) -> u64
+fn from_data(n: usize, c: u8, w: usize, l: u64, s: &[u8]) -> Result<u64, Refusal>
     requires { 2 + n + w + length s.now < 2 ^ 64 }
-    ensures { result ≡ number_of total (from_data n c w l s.now) }
+    ensures { step_of result ≡ measured total (from_data n c w l s.now) }
 {
     if (s.len() as u64) < l {
-        return PAST_THE_END;
+        return Err(Refusal::PastTheEnd);
     }
     let d = l as usize;
-    let h = hint_at(c, l, &s[d..]);
-    if FAULT <= h {
-        return h;
-    }
-    ((2 + n + w + d) as u64) + h
+    let h = hint_at(c, l, &s[d..])?;
+    Ok((2 + n + w + d) as u64 + h)
 }
 
 // Returns the octets of a field, or its refusal, by what stands from its size on. The size takes four octets.
-fn from_long(n: usize, c: u8, s: &[u8]) -> u64
+fn from_long(n: usize, c: u8, s: &[u8]) -> Result<u64, Refusal>
     requires { 2 + n + length s.now < 2 ^ 64 }
-    ensures { result ≡ number_of total (from_size n c 4 s.now) }
+    ensures { step_of result ≡ measured total (from_size n c 4 s.now) }
 {
     if s.len() < 4 {
-        return CUT;
+        return Err(Refusal::Cut);
     }
     let l = tib_field::uint(&s[0..4]);
     if size_allowed(kind(c), l) {
         from_data(n, c, 4, l, &s[4..])
     } else {
-        BAD
+        Err(Refusal::TypeSizeOrHint)
     }
 }
 
 // The same for a size of one octet or four. Each has its own branch: the processor then need not wait for
 // the type octet to find the next field.
-fn from_size(n: usize, c: u8, s: &[u8]) -> u64
+fn from_size(n: usize, c: u8, s: &[u8]) -> Result<u64, Refusal>
     requires { 2 + n + length s.now < 2 ^ 64 }
-    ensures { result ≡ number_of total (from_size n c (size_width c) s.now) }
+    ensures { step_of result ≡ measured total (from_size n c (size_width c) s.now) }
 {
     if size_width(c) == 4 {
         return from_long(n, c, s);
     }
     if s.len() == 0 {
-        return CUT;
+        return Err(Refusal::Cut);
     }
-    let l = numbers::wide(s[0]);
+    let l = u64::from(s[0]);
     if size_allowed(kind(c), l) {
         from_data(n, c, 1, l, &s[1..])
     } else {
-        BAD
+        Err(Refusal::TypeSizeOrHint)
     }
 }
 
 // Returns the octets of a field, or its refusal, by what stands from its type on. Its name has n octets.
-fn from_type(n: usize, s: &[u8]) -> u64
+fn from_type(n: usize, s: &[u8]) -> Result<u64, Refusal>
     requires { 1 + n + length s.now < 2 ^ 64 }
-    ensures { result ≡ number_of total (from_type n s.now) }
+    ensures { step_of result ≡ measured total (from_type n s.now) }
 {
     if s.len() == 0 {
-        return CUT;
+        return Err(Refusal::Cut);
     }
     let c = s[0];
     if type_allowed(c) {
         from_size(n, c, &s[1..])
     } else {
-        BAD
+        Err(Refusal::TypeSizeOrHint)
     }
 }
 
-// Returns how many octets the field at the front of octets has, 0 where there are none, or FAULT plus the refusal. It reads the size of the name from
-// its octet, not from the result of the test of the name, so that the processor need not wait for that test to find the next field.
-pub fn field_octets(s: &[u8]) -> u64
-    ensures { result ≡ number_of total (next_field s.now) }
+// Returns how many octets the field at the front of octets has, 0 where there are none, or its refusal. It reads the size of the name from its octet,
+// not from the result of the test of the name, so that the processor need not wait for that test to find the next field.
+pub fn field_octets(s: &[u8]) -> Result<u64, Refusal>
+    ensures { step_of result ≡ measured total (next_field s.now) }
 {
     if s.len() == 0 {
-        return 0;
+        return Ok(0);
     }
-    let fault = tib_field::name_fault(s);
-    if fault != 0 {
-        return FAULT + fault;
-    }
-    let n = numbers::wide(s[0]) as usize;
+    tib_field::check_name(s)?;
+    let n = usize::from(s[0]);
     let start = 1 + n;
     from_type(n, &s[start..])
 }

@@ -7,10 +7,12 @@ ghost use Rattle.std.specs.Prelude.{◌≡◌, ◌^◌, ◌<◌, ◌≤◌, from
 ghost use Rattle.std.specs.Float.{binary64};
 ghost use Rattle.tib_real.specs.Widened.{widened};
 ghost use Rattle.tib_real.specs.FromOctets.{with_bits, real_of};
-ghost use Rattle.tib_real.specs.WholeNumber.{hint_within, refused as refused-answer};
+ghost use Rattle.tib_real.specs.WholeNumber.{hint_within};
+ghost use Rattle.tib_real.specs.InNumbers.{whole_number};
 ghost use Rattle.tib_real.specs.InFractions.{in_fractions, fractions_of};
 
-use types::{Real, WholeNumber};
+use reading::Refusal;
+use types::Real;
 
 // Returns the value of these bits. The language makes no not-a-number from bits, so a division without a result makes it.
 fn value(bits: u64) -> f64
@@ -68,44 +70,29 @@ pub fn hint_within(r: Real, least: u64, most: u64) -> bool
     r.hinted & (least <= r.hint) & (r.hint <= most)
 }
 
-// Returns the refusal of a real that cannot be read in fractions, or in decimals.
-pub fn refused() -> WholeNumber
-    ensures { result ≡ refused-answer }
-{
-    WholeNumber {
-        refusal: reading::NOT_IN_FRACTIONS,
-        place: 0,
-        value: 0,
-    }
-}
-
 // Internal: callers have already rejected other hints. With an exponent of 1076 - h or more the product's size is 2^53 or more, or the bits
 // are no number. With a smaller exponent the product is exact.
-fn in_fractions(bits: u64, h: u64) -> WholeNumber
+fn in_fractions(bits: u64, h: u64) -> Result<i64, Refusal>
     requires { (1 ≤ h) × (h ≤ 8) }
-    ensures { result ≡ in_fractions bits h }
+    ensures { whole_number result ≡ in_fractions bits h }
 {
     if 1076 - h <= (bits >> 52) & 0x7ff {
-        return refused();
+        return Err(Refusal::NotInFractions);
     }
     let product = f64::from_bits(bits) * ((1u64 << h) as f64);
     let whole = std::num::truncating_f64_to_i64(product);
     if whole as f64 == product {
-        return WholeNumber {
-            refusal: 0,
-            place: 0,
-            value: whole,
-        };
+        return Ok(whole);
     }
-    refused()
+    Err(Refusal::NotInFractions)
 }
 
 // Reads a real in fractions. It uses the bits and ignores the value beside them.
-pub fn fractions(r: Real) -> WholeNumber
-    ensures { result ≡ fractions_of r }
+pub fn fractions(r: Real) -> Result<i64, Refusal>
+    ensures { whole_number result ≡ fractions_of r }
 {
     if !hint_within(r, 1, 8) {
-        return refused();
+        return Err(Refusal::NotInFractions);
     }
     in_fractions(r.bits, r.hint)
 }

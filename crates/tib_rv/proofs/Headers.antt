@@ -14,7 +14,7 @@ use Rattle.octets.proofs.Slices.{tail_part}
 use Rattle.octets.proofs.Number.{unsigned_is}
 use Rattle.reading.specs.Reading.{message_limit}
 use Rattle.reading.specs.internal.Verdicts.{verdict_of}
-use Rattle.reading.specs.declared.Verdict.TheVariants.{Refused}
+use Rattle.reading.specs.internal.Verdicts.{Refused}
 use Rattle.tib_rv_field.specs.Layout.{magic, depth}
 use Rattle.tib_rv_field.specs.Reading.{header_fault, message_from, reading}
 use Rattle.tib_rv.specs.CheckAndField.{count}

@@ -4,9 +4,10 @@ use native.Mathlib.Omega.{arith}
 use mathlib.Core.Path.{◌≡◌, refl, sym, ap, ◌∙◌}
 use mathlib.Core.List.{List, ◌++◌}
 use mathlib.Core.Option.{Option, none, some}
+use Rattle.std.specs.Prelude.{Some, None}
 use lib.ListN.{length, take, drop, length-drop}
 use Rattle.octets.proofs.Slices.{tail_part}
-use Rattle.tib_field.specs.declared.Field.{Field as Shown}
+use Rattle.tib_field.specs.declared.FieldAnswer.{FieldAnswer}
 use Rattle.reading.specs.internal.Verdicts.{IsAccepted}
 use Rattle.tib_field.specs.Name.{Name}
 use Rattle.tib_field.specs.Fields.{Each, joined as joinedParts}
@@ -16,12 +17,11 @@ use Rattle.tib_field.specs.Refused.{refused_field}
 use Rattle.tib_field.proofs.Kths.{Going as Passing, Look, ends, stands, look, OneMore, none_at_end, one_here, kth_found, kth_absent}
 use Rattle.tib_field.proofs.ReadingLaws.{field_of_kth}
 use Rattle.tib_rv_field.specs.declared.Sizes.{Sizes}
-use Rattle.tib_rv.specs.declared.Kth.TheVariants.{At, Absent}
 use Rattle.tib_rv_field.specs.Layout.{Parts, octets, Leaf, holder, Fields, end, leaf, nested, joined, message, Allowed}
 use Rattle.tib_rv_field.specs.Reading.{next_field, lead, total, reading}
 use Rattle.tib_rv_field.specs.internal.Sizes.{sizes}
 use Rattle.tib_rv.specs.CheckAndField.{outermost, shown, places, field}
-use Rattle.tib_rv.specs.internal.Found.{any_field, HasField, found_at, shown_sizes}
+use Rattle.tib_rv.specs.internal.Found.{at, any_field, HasField, found_at, shown_sizes}
 use Rattle.tib_rv_field.proofs.Steps.{Counted, step_of_leaf, step_of_held, step_of_end, length_octets}
 use Rattle.tib_rv_field.proofs.Accepted.{message_counted, message_parts, accepted_message, field_size}
 
@@ -76,6 +76,11 @@ start s k a =
 pub measured : (f : Parts) → (1 ≤ total (sizes f)) × (length (octets f) ≡ total (sizes f))
 measured f = let h = field_size f in let l = length_octets f in (omega arith, l)
 
+same_found : (p q : ℕ) (x y : Sizes) → at p x ≡ at q y → (p ≡ q) × (x ≡ y)
+same_found p q x y e =
+    let h : ◌≡◌ {A = ℕ × Sizes} (p, x) (q, y) = cc in
+    (ap (λ (t : ℕ × Sizes). t.0) h, ap (λ (t : ℕ × Sizes). t.1) h)
+
 module _ (s : List ℕ) (k i remaining : ℕ) (now : Going s k i remaining) where
   -- Before the end of the octets a field stands,
   pub field_here : i < length s → HasField (take (length s - i) (drop i s))
@@ -86,44 +91,44 @@ module _ (s : List ℕ) (k i remaining : ℕ) (now : Going s k i remaining) wher
       go (stands f rest o d fits this later) = (sizes f, ap next (tail_part s i ∙ d) ∙ found_first f rest o)
 
   -- and none stands at their end.
-  pub ended : length s ≤ i → Absent ≡ found_at (wanted s k)
-  ended h = none_at_end octets Outermost sizes total At Absent measured s (wanted s k) i remaining now h
+  pub ended : length s ≤ i → None ≡ found_at (wanted s k)
+  ended h = none_at_end octets Outermost sizes total at None measured s (wanted s k) i remaining now h
 
-  pub one_more : (z : Sizes) → next (take (length s - i) (drop i s)) ≡ some z → OneMore octets Outermost sizes total At Absent measured s (wanted s k) i remaining now z
+  pub one_more : (z : Sizes) → next (take (length s - i) (drop i s)) ≡ some z → OneMore octets Outermost sizes total at None measured s (wanted s k) i remaining now z
   unfolding any_field
   one_more z g =
       let e = ap next (sym (tail_part s i)) ∙ g in
-      one_here octets Outermost sizes total At Absent measured s (wanted s k) i remaining now z
+      one_here octets Outermost sizes total at None measured s (wanted s k) i remaining now z
       (λ d. let n : next (drop i s) ≡ none = ap next d ∙ rw step_of_end in let y : ◌≡◌ {A = ℕ} 0 1 = cc in absurd (omega arith))
       (λ f rest o d. let n = ap next d ∙ found_first f rest o in cc)
 
 -- The answer for a field is that for its sizes.
-shown_sizes_lem : (at : ℕ) (f : Parts) → shown_sizes at (sizes f) ≡ shown at f
+shown_sizes_lem : (p : ℕ) (f : Parts) → shown_sizes p (sizes f) ≡ shown p f
 unfolding shown_sizes shown sizes lead
-shown_sizes_lem at f =
-    let e : at + (2 + length f.name + length f.size) ≡ at + 2 + length f.name + length f.size = omega arith in
+shown_sizes_lem p f =
+    let e : p + (2 + length f.name + length f.size) ≡ p + 2 + length f.name + length f.size = omega arith in
     rw e
 
 -- What the answer for a field that was found rests on.
-pub record KthFound (s : List ℕ) (place : ℕ) (z : Sizes) (answer : Shown) : Type 0 where
+pub record KthFound (s : List ℕ) (place : ℕ) (z : Sizes) (answer : FieldAnswer) : Type 0 where
   pub inside : place + total z ≤ length s
   pub shows : shown_sizes place z ≡ answer
 
 module _ (s : List ℕ) (k : ℕ) (a : IsAccepted (reading s)) where
-  pub field_found : (place : ℕ) (z : Sizes) → found_at (wanted s k) ≡ At place z → KthFound s place z (field s k)
+  pub field_found : (place : ℕ) (z : Sizes) → found_at (wanted s k) ≡ Some (place, z) → KthFound s place z (field s k)
   unfolding field_or_absent field
   field_found place z e =
-      let h = kth_found octets Outermost sizes total At Absent measured s (wanted s k) 8 k (start s k a)
-      (λ p y f. let n : ◌≡◌ {A = ℕ} 0 1 = cc in absurd (omega arith)) (λ p q x y f. (cc, cc)) place z e in
+      let h = kth_found octets Outermost sizes total at None measured s (wanted s k) 8 k (start s k a)
+      (λ p y f. let n : ◌≡◌ {A = ℕ} 0 1 = cc in absurd (omega arith)) same_found place z e in
       let f = h.field in
       record {
         inside = h.inside;
         shows = ap (shown_sizes place) (sym h.sized) ∙ shown_sizes_lem place f ∙ field_of_kth refused_field shown places k (reading s) a (some (place, f)) h.same;
       }
 
-  pub field_absent : found_at (wanted s k) ≡ Absent → refused_field 18 0 ≡ field s k
+  pub field_absent : found_at (wanted s k) ≡ None → refused_field 18 0 ≡ field s k
   unfolding field_or_absent field
   field_absent e =
       field_of_kth refused_field shown places k (reading s) a none
-      (kth_absent octets Outermost sizes total At Absent measured s (wanted s k) 8 k (start s k a)
+      (kth_absent octets Outermost sizes total at None measured s (wanted s k) 8 k (start s k a)
       (λ p y f. let n : ◌≡◌ {A = ℕ} 0 1 = cc in absurd (omega arith)) e)

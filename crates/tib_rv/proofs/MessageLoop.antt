@@ -10,14 +10,16 @@ use borrow.Author.Tests.{ne_eqb}
 use Rattle.tib_rv_field.specs.declared.Sizes.{Sizes}
 use Rattle.reading.specs.Reading.{Reading, accepted, refused}
 use Rattle.reading.specs.internal.Verdicts.{verdict_of}
-use Rattle.reading.specs.declared.Verdict.{Verdict}
-use Rattle.reading.specs.declared.Verdict.TheVariants.{Accepted, Refused}
+use Rattle.reading.specs.internal.Verdicts.{Verdict}
+use Rattle.reading.specs.internal.Verdicts.{Accepted, Refused}
 use Rattle.reading.proofs.Traversal as traversal
 use Rattle.reading.proofs.Traversal.{Traversal}
 use Rattle.tib_rv_field.specs.Layout.{Parts, octets, holder, magic, Fields, end, leaf, nested, joined, message, depth}
 use Rattle.tib_rv_field.specs.Reading.{Step, Done, Fault, Over, Into, next_field, lead, total, parts_at, Inner, nested_of, after_step, fields_from, header_fault, message_from}
 use Rattle.tib_rv_field.specs.internal.Sizes.{sizes}
-use Rattle.tib_rv_field.specs.internal.Numbers.{number_of}
+use Rattle.tib_field.specs.Steps.{Fault as Refusing, Over as Whole}
+use Rattle.tib_rv_field.specs.declared.Extent.TheVariants.{Plain, Holder}
+use Rattle.tib_rv_field.specs.internal.Measured.{measured}
 use Rattle.tib_rv.specs.CheckAndField.{count}
 use Rattle.tib_rv_field.proofs.Steps.{step_found, step_holder, step_of_end, length_octets}
 use Rattle.tib_rv_field.proofs.WrongFields.{step_done}
@@ -67,43 +69,46 @@ lead_at s i z e x h =
     let b : get_or (drop i s) 0 0 ≡ get_or s i 0 = get_or-drop i s 0 0 ∙ ap (λ (k : ℕ). get_or s k 0) p in
     omega arith
 
--- What stands at i, by its number n. A message is too short for a field of as many octets as the other numbers.
-module _ (s : List ℕ) (i : ℕ) (inside : i < length s) (few : length s ≤ 65536) (n : ℕ) (e : n ≡ number_of (next_field (take (length s - i) (drop i s)))) where
-  numbered : n ≡ number_of (next_field (drop i s))
-  numbered = e ∙ ap (λ (r : List ℕ). number_of (next_field r)) (tail_part s i)
+-- What stands at i, by what the function that measures fields finds there.
+module _ (s : List ℕ) (i : ℕ) (inside : i < length s) where
+  abbrev rest_at : List ℕ
+  rest_at = take (length s - i) (drop i s)
+
+  same_rest : measured (next_field rest_at) ≡ measured (next_field (drop i s))
+  same_rest = ap (λ (r : List ℕ). measured (next_field r)) (tail_part s i)
 
   abbrev pub Found : ℕ → (Sizes → Step) → Type 0
-  Found more step = (z : Sizes) × (next_field (drop i s) ≡ step z) × (n ≡ more + total z)
+  Found n step = (z : Sizes) × (next_field (drop i s) ≡ step z) × (n ≡ total z)
 
-  pub leaf_here : n < 1048576 → Found 0 Over
-  unfolding number_of
-  leaf_here small = go (next_field (drop i s)) refl numbered
+  pub leaf_here : (n : ℕ) → Whole (Plain n) ≡ measured (next_field rest_at) → Found n Over
+  unfolding measured
+  leaf_here n e = go (next_field (drop i s)) refl (e ∙ same_rest)
     where
-      go : (p : Step) → next_field (drop i s) ≡ p → n ≡ number_of p → Found 0 Over
+      go : (p : Step) → next_field (drop i s) ≡ p → Whole (Plain n) ≡ measured p → Found n Over
       go Done g h = let d = ap length (step_done (drop i s) g) in let l = length-drop i s in absurd (omega arith)
-      go (Fault k) g h = absurd (omega arith)
-      go (Over z) g h = (z, g, omega arith)
-      go (Into z) g h = absurd (omega arith)
+      go (Fault k) g h = let y : ◌≡◌ {A = ℕ} 0 1 = cc in absurd (omega arith)
+      go (Over z) g h = (z, g, cc)
+      go (Into z) g h = let y : ◌≡◌ {A = ℕ} 0 1 = cc in absurd (omega arith)
 
-  pub fault_here : 2097152 ≤ n → next_field (drop i s) ≡ Fault (n - 2097152)
-  unfolding number_of
-  fault_here large = go (next_field (drop i s)) refl numbered
+  pub fault_here : (k : ℕ) → Refusing k ≡ measured (next_field rest_at) → next_field (drop i s) ≡ Fault k
+  unfolding measured
+  fault_here k e = go (next_field (drop i s)) refl (e ∙ same_rest)
     where
-      go : (p : Step) → next_field (drop i s) ≡ p → n ≡ number_of p → next_field (drop i s) ≡ Fault (n - 2097152)
-      go Done g h = absurd (omega arith)
-      go (Fault k) g h = let d : n - 2097152 ≡ k = omega arith in rw d g
-      go (Over z) g h = let b = (over_inside (drop i s) z g).1 in let l = length-drop i s in absurd (omega arith)
-      go (Into z) g h = let b = (into_inside (drop i s) z g).1 in let l = length-drop i s in absurd (omega arith)
+      go : (p : Step) → next_field (drop i s) ≡ p → Refusing k ≡ measured p → next_field (drop i s) ≡ Fault k
+      go Done g h = let y : ◌≡◌ {A = ℕ} 0 1 = cc in absurd (omega arith)
+      go (Fault m) g h = let d : m ≡ k = cc in g ∙ ap Fault d
+      go (Over z) g h = let y : ◌≡◌ {A = ℕ} 0 1 = cc in absurd (omega arith)
+      go (Into z) g h = let y : ◌≡◌ {A = ℕ} 0 1 = cc in absurd (omega arith)
 
-  pub holder_here : 1048576 ≤ n → n < 2097152 → Found 1048576 Into
-  unfolding number_of
-  holder_here large small = go (next_field (drop i s)) refl numbered
+  pub holder_here : (n : ℕ) → Whole (Holder n) ≡ measured (next_field rest_at) → Found n Into
+  unfolding measured
+  holder_here n e = go (next_field (drop i s)) refl (e ∙ same_rest)
     where
-      go : (p : Step) → next_field (drop i s) ≡ p → n ≡ number_of p → Found 1048576 Into
-      go Done g h = absurd (omega arith)
-      go (Fault k) g h = absurd (omega arith)
-      go (Over z) g h = let b = (over_inside (drop i s) z g).1 in let l = length-drop i s in absurd (omega arith)
-      go (Into z) g h = (z, g, h)
+      go : (p : Step) → next_field (drop i s) ≡ p → Whole (Holder n) ≡ measured p → Found n Into
+      go Done g h = let y : ◌≡◌ {A = ℕ} 0 1 = cc in absurd (omega arith)
+      go (Fault k) g h = let y : ◌≡◌ {A = ℕ} 0 1 = cc in absurd (omega arith)
+      go (Over z) g h = let y : ◌≡◌ {A = ℕ} 0 1 = cc in absurd (omega arith)
+      go (Into z) g h = (z, g, cc)
 
 module _ (inner : Inner) (at : ℕ) (s : List ℕ) where
   abbrev pub whole : Verdict

@@ -5,7 +5,7 @@ use Rattle.reading.specs.declared.Checked.{Checked}
 use Rattle.tib_field.specs.Refused.{no_real, refused_field}
 use Rattle.tib_field.specs.Fields.{placed}
 use Rattle.tib_field.specs.Kth.{field_of}
-use Rattle.tib_field.specs.declared.Field.{Field}
+use Rattle.tib_field.specs.declared.FieldAnswer.{FieldAnswer}
 use Rattle.tib_rv_field.specs.Layout.{Parts, octets, holder, Fields, end, leaf, nested, message, depth}
 use Rattle.tib_rv_field.specs.Reading.{reading}
 
@@ -27,7 +27,7 @@ outermost (nested name size inside rest) = holder name (message size inside) ∷
 
 -- A field that begins at a place. The octet before the name is its size, and the octet after it the type. No field has a hint, and the
 -- octets of a real are handed out as they stand.
-unfoldable pub shown : ℕ → Parts → Field
+unfoldable pub shown : ℕ → Parts → FieldAnswer
 shown at f =
     record {
       refusal = 0;
@@ -48,5 +48,5 @@ unfoldable pub places : Fields → List (ℕ × Parts)
 places fs = placed octets 8 (outermost fs)
 
 -- The k-th outermost field of a message.
-unfoldable pub field : List ℕ → ℕ → Field
+unfoldable pub field : List ℕ → ℕ → FieldAnswer
 field s k = field_of refused_field shown places k (reading s)

@@ -6,39 +6,36 @@ ghost use Rattle.std.proofs.Math.Option.{some};
 ghost use Rattle.tib_rv_field.specs.Reading.{following as following-of, counted, next_field, lead as lead-of, total, header_fault, message_from, reading};
 ghost use Rattle.tib_rv_field.specs.Layout.{depth};
 ghost use Rattle.reading.specs.Reading.{message_limit, depth_limit};
-ghost use Rattle.reading.specs.internal.Verdicts.{IsAccepted, verdict_of};
+ghost use Rattle.reading.specs.Checks.{checked};
+ghost use Rattle.reading.specs.Refusals.{fault_number};
+ghost use Rattle.reading.specs.internal.Verdicts.{IsAccepted, verdict, verdict_of};
+ghost use Rattle.tib_field.specs.InNumbers.{accepted_field, field_answer};
 ghost use Rattle.tib_field.specs.internal.KthOf.{kth_of};
 ghost use Rattle.tib_rv.specs.CheckAndField.{count, check as check-of, places, field as field_of};
 ghost use Rattle.tib_rv.specs.internal.Found.{any_field, HasField, found_at, shown_sizes};
 
-use reading::{Checked, Verdict};
-use tib_field::Field;
-use tib_rv_field::Sizes;
+use reading::{Counts, Fault, Refusal};
+use tib_field::{Field, Span};
+use tib_rv_field::{Extent, Sizes};
 
-// The place and the sizes of a field, or that there is none.
-#[derive(Clone, Copy)]
-enum Kth {
-    At { place: usize, sizes: Sizes },
-    Absent,
-}
-
-// Returns the refusal of a header, 0 if the header is good.
-fn header_fault(s: &[u8]) -> u64
-    ensures { result ≡ header_fault s.now }
+// Checks a header.
+fn check_header(s: &[u8]) -> Result<(), Refusal>
+    ensures { fault_number result ≡ header_fault s.now }
 {
     if s.len() < 8 {
-        return reading::CUT;
+        return Err(Refusal::Cut);
     }
     if !tib_field::begins(&s[4..], b"\x99\x55\xee\xaa") {
-        return reading::MAGIC;
+        return Err(Refusal::Magic);
     }
     if tib_field::uint(&s[0..4]) != s.len() as u64 {
-        return reading::SIZE;
+        return Err(Refusal::Size);
     }
-    0
+    Ok(())
 }
 
 // Returns the place of the data of a field of these sizes.
+#[tactic(auto, unfolding(tib_rv_field::specs::Reading::total, tib_rv_field::specs::Reading::lead))]
 fn data_at(at: usize, z: Sizes) -> usize
     requires { at + total z < 2 ^ 64 }
     ensures { result ≡ at + lead-of z }
@@ -47,6 +44,7 @@ fn data_at(at: usize, z: Sizes) -> usize
 }
 
 // Returns the place after a field of these sizes.
+#[tactic(auto, unfolding(tib_rv_field::specs::Reading::total, tib_rv_field::specs::Reading::lead))]
 fn past(at: usize, z: Sizes) -> usize
     requires { at + total z < 2 ^ 64 }
     ensures { result ≡ at + total z }
@@ -54,68 +52,59 @@ fn past(at: usize, z: Sizes) -> usize
     data_at(at, z) + z.contents
 }
 
-// Returns a refusal at a place.
-fn refused(refusal: u64, place: u64) -> Verdict
-    ensures { result ≡ Verdict.Refused refusal place }
-{
-    Verdict::Refused(refusal, place)
-}
-
 // Traverses a message, whose header starts at the place `at`, in a field at the place `field`. The message may be `levels` messages deep,
 // itself counted; a nested message may be one less.
-fn message(s: &[u8], levels: u64, field: u64, at: u64) -> Verdict
+// Kept: each step takes a field's octets; an iterator over fields would have this loop's body in `next`, and its own invariant besides.
+fn message(s: &[u8], levels: u64, field: u64, at: u64) -> Result<Counts, Fault>
     requires s_bound { at + length s.now ≤ message_limit }
     requires levels_le_depth_limit { levels ≤ depth_limit }
-    ensures { result ≡ verdict_of count depth (message_from levels field at s.now) }
+    ensures { verdict result ≡ verdict_of count depth (message_from levels field at s.now) }
 {
     if levels == 0 {
-        return refused(reading::TOO_DEEP, field);
+        return Err(Refusal::TooDeep.at(field));
     }
-    let fault = header_fault(s);
-    if fault != 0 {
-        return refused(fault, at);
+    match check_header(s) {
+        Ok(()) => {}
+        Err(refusal) => return Err(refusal.at(at)),
     }
     let mut i: usize = 8;
     let mut fields: u64 = 0;
     let mut depth: u64 = 1;
     while i < s.len() {
-        let n = tib_rv_field::field_octets(&s[i..]);
-        if n < tib_rv_field::INTO {
-            i = i + (n as usize);
-            fields = fields + 1;
-        } else if tib_rv_field::REFUSED <= n {
-            return refused(n - tib_rv_field::REFUSED, at + (i as u64));
-        } else {
-            let a = i + 3 + (numbers::wide(s[i]) as usize);
-            let e = i + ((n - tib_rv_field::INTO) as usize);
-            match message(&s[a..e], levels - 1, at + (i as u64), at + (a as u64)) {
-                Verdict::Refused(refusal, place) => return refused(refusal, place),
-                Verdict::Accepted(f, d) => {
-                    i = e;
-                    fields = fields + (1 + f);
-                    depth = numbers::larger(depth, d + 1);
-                }
+        match tib_rv_field::field_octets(&s[i..]) {
+            Ok(Extent::Plain(n)) => {
+                i += n as usize;
+                fields += 1;
             }
+            Ok(Extent::Holder(n)) => {
+                let a = i + 3 + usize::from(s[i]);
+                let e = i + n as usize;
+                let inner = message(&s[a..e], levels - 1, at + i as u64, at + a as u64)?;
+                i = e;
+                fields += 1 + inner.fields;
+                depth = depth.max(inner.depth + 1);
+            }
+            Err(refusal) => return Err(refusal.at(at + i as u64)),
         }
     }
-    Verdict::Accepted(fields, depth)
+    Ok(Counts { fields, depth })
 }
 
 // Reads a whole message and its nested ones.
-fn read(s: &[u8]) -> Verdict
-    ensures { result ≡ verdict_of count depth (reading s.now) }
+fn read(s: &[u8]) -> Result<Counts, Fault>
+    ensures { verdict result ≡ verdict_of count depth (reading s.now) }
 {
     if reading::MESSAGE_LIMIT < s.len() {
-        return refused(reading::TOO_LONG, 0);
+        return Err(Refusal::TooLong.at(0));
     }
     message(s, reading::DEPTH_LIMIT, 0, 0)
 }
 
 // Checks a whole TibrvMsg. Returns its refusal, or the count of its fields at all depths and the depth of its deepest message.
-pub fn check(message: &[u8]) -> Checked
-    ensures { result ≡ check-of message.now }
+pub fn check(message: &[u8]) -> Result<Counts, Fault>
+    ensures { checked result ≡ check-of message.now }
 {
-    reading::answer(read(message))
+    read(message)
 }
 
 // Returns the count in a size, by its first octet and the octets after that. Internal: these are all there.
@@ -135,11 +124,11 @@ fn sizes_at(s: &[u8]) -> Sizes
     requires { HasField s.now }
     ensures { any_field (next_field s.now) ≡ some result }
 {
-    let n = numbers::wide(s[0]) as usize;
+    let n = usize::from(s[0]);
     let at = 1 + n;
     let c = s[at];
     let size = at + 1;
-    let m = numbers::wide(s[size]);
+    let m = u64::from(s[size]);
     let rest = size + 1;
     let k = count_of(m, &s[rest..]) as usize;
     if c == 1 {
@@ -159,7 +148,8 @@ fn sizes_at(s: &[u8]) -> Sizes
 }
 
 // Returns the place and the sizes of the k-th outermost field. Internal: the caller has already checked the message.
-fn find(s: &[u8], k: u64) -> Kth
+// Kept: one walk for both formats would take two functions and a law that ties what they return to the format's reading, which is longer than this.
+fn find(s: &[u8], k: u64) -> Option<(usize, Sizes)>
     requires { IsAccepted (reading s.now) }
     ensures { result ≡ found_at (kth_of places k (reading s.now)) }
 {
@@ -168,43 +158,42 @@ fn find(s: &[u8], k: u64) -> Kth
     while i < s.len() {
         let z = sizes_at(&s[i..]);
         if remaining == 0 {
-            return Kth::At { place: i, sizes: z };
+            return Some((i, z));
         }
         i = past(i, z);
         remaining -= 1;
     }
-    Kth::Absent
+    None
 }
 
 // Returns the field of these sizes at a place.
+#[tactic(auto, unfolding(tib_rv_field::specs::Reading::total, tib_rv_field::specs::Reading::lead))]
 fn shown(at: usize, z: Sizes) -> Field
     requires { at + total z < 2 ^ 64 }
-    ensures { result ≡ shown_sizes at z }
+    ensures { accepted_field result ≡ shown_sizes at z }
 {
     Field {
-        refusal: 0,
-        place: 0,
-        name_place: (at + 1) as u64,
-        name_length: z.name as u64,
-        kind: numbers::wide(z.octet),
-        data_place: data_at(at, z) as u64,
-        data_length: z.contents as u64,
-        hinted: false,
-        hint_kind: 0,
-        hint: 0,
+        name: Span {
+            place: (at + 1) as u64,
+            length: z.name as u64,
+        },
+        kind: u64::from(z.octet),
+        data: Span {
+            place: data_at(at, z) as u64,
+            length: z.contents as u64,
+        },
+        hint: None,
         real: tib_field::no_real(),
     }
 }
 
-// Returns the k-th outermost field, from 0, of a TibrvMsg: the check's refusal, or ABSENT where there is no such field, or the field.
-pub fn field(message: &[u8], k: u64) -> Field
-    ensures { result ≡ field_of message.now k }
+// Returns the k-th outermost field, from 0, of a TibrvMsg: the check's refusal, or Absent where there is no such field, or the field.
+pub fn field(message: &[u8], k: u64) -> Result<Field, Fault>
+    ensures { field_answer result ≡ field_of message.now k }
 {
-    match read(message) {
-        Verdict::Refused(refusal, place) => tib_field::refused_field(refusal, place),
-        Verdict::Accepted(_, _) => match find(message, k) {
-            Kth::At { place, sizes } => shown(place, sizes),
-            Kth::Absent => tib_field::refused_field(reading::ABSENT, 0),
-        },
+    read(message)?;
+    match find(message, k) {
+        Some((place, sizes)) => Ok(shown(place, sizes)),
+        None => Err(Refusal::Absent.at(0)),
     }
 }

@@ -15,9 +15,3 @@ name_fault s = fault_of (name_step s)
 unfoldable pub ZeroIn : Bool → List ℕ → ℕ → ℕ → ℕ → Type 0
 ZeroIn true s a b n = (j : ℕ) × (a ≤ j) × (j < b) × (j < n) × (get_or s j 0 ≡ 0)
 ZeroIn false s a b n = (j : ℕ) → a ≤ j → j < b → j < n → get_or s j 0 ≡ 0 → ⊥
-
--- None stands from the place 1 to i, which is 17 or more and below n.
-pub record Far (s : List ℕ) (i n : ℕ) : Type 0 where
-  pub from : 17 ≤ i
-  pub inside : i < n
-  pub found : ZeroIn false s 1 i n

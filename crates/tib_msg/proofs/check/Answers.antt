@@ -1,8 +1,6 @@
 -- `tib_msg::check` meets its contract.
-use mathlib.Core.Path.{ap, ◌∙◌}
 use lib.ListN.{length}
-use Rattle.reading.specs.internal.Verdicts.{checked_by}
-use Rattle.reading.proofs.Checks.{answer_by_verdict}
+use Rattle.reading.proofs.Checks.{checked_of_verdict}
 use Rattle.tib_msg_field.specs.Reading.{reading}
 use Rattle.tib_field.specs.Steps.{flat_depth}
 use Rattle.tib_msg.specs.CheckAndField.{check}
@@ -10,6 +8,4 @@ use Rattle.tib_msg.proofs.check.Goals as goal
 
 pub returns : goal.returns
 unfolding check
-returns c =
-    let r = c in
-    c.answer.ensures ∙ ap checked_by r.read.ensures ∙ answer_by_verdict length flat_depth (reading r.args.message.now)
+returns c = checked_of_verdict length flat_depth (reading c.args.message.now) c.read.result c.read.ensures

@@ -6,49 +6,30 @@ use Rattle.tib_msg.proofs.find.Goals as goal
 pub loop-i-init : goal.loop-i-init
 loop-i-init c = start c.args.s.now c.args.k c.requires
 
-pub slice_bounds-sizes_at-count : goal.slice_bounds-sizes_at-count
-slice_bounds-sizes_at-count c = omega arith
-
-pub slice_bounds-sizes_at-start : goal.slice_bounds-sizes_at-start
-slice_bounds-sizes_at-start c = omega arith
-
-pub slice_bounds-sizes_at-end : goal.slice_bounds-sizes_at-end
-slice_bounds-sizes_at-end c = omega arith
-
 pub sizes_at-z-requires : goal.sizes_at-z-requires
 sizes_at-z-requires c =
-    let t = c in
-    let a = t.args in
-    let l = t.loop-i in
-    field_here a.s.now a.k l.i l.remaining l.invariant t.loop-i-test.true
+    let a = c.args in
+    let l = c.loop-i in
+    field_here a.s.now a.k l.i l.remaining l.invariant c.loop-i-test.true
 
 pub returns-then-remaining-eq0 : goal.returns-then-remaining-eq0
 returns-then-remaining-eq0 c =
-    let z = c in
-    let t = z in
-    let a = t.args in
-    let l = t.loop-i in
-    (one_more a.s.now a.k l.i l.remaining l.invariant _ z.sizes_at-z.ensures).this_one c.if-remaining-eq0.true
+    let a = c.args in
+    let l = c.loop-i in
+    (one_more a.s.now a.k l.i l.remaining l.invariant _ c.sizes_at-z.ensures).this_one c.if-remaining-eq0.true
 
 pub past-i-requires : goal.past-i-requires
 past-i-requires c =
-    let z = c in
-    let t = z in
-    let a = t.args in
-    let l = t.loop-i in
-    let r = (one_more a.s.now a.k l.i l.remaining l.invariant _ z.sizes_at-z.ensures).fits in
+    let a = c.args in
+    let l = c.loop-i in
+    let r = (one_more a.s.now a.k l.i l.remaining l.invariant _ c.sizes_at-z.ensures).fits in
     omega arith
-
-pub overflow_sub-remaining : goal.overflow_sub-remaining
-overflow_sub-remaining c = omega arith
 
 pub loop-i-smaller : goal.loop-i-smaller
 loop-i-smaller c =
-    let z = c in
-    let t = z in
-    let a = t.args in
-    let l = t.loop-i in
-    let r = one_more a.s.now a.k l.i l.remaining l.invariant _ z.sizes_at-z.ensures in
+    let a = c.args in
+    let l = c.loop-i in
+    let r = one_more a.s.now a.k l.i l.remaining l.invariant _ c.sizes_at-z.ensures in
     let p = r.takes in
     let q = r.fits in
     let n = c.past-i.ensures in
@@ -56,11 +37,9 @@ loop-i-smaller c =
 
 pub loop-i-preserved : goal.loop-i-preserved
 loop-i-preserved c =
-    let z = c in
-    let t = z in
-    let a = t.args in
-    let l = t.loop-i in
-    (one_more a.s.now a.k l.i l.remaining l.invariant _ z.sizes_at-z.ensures).later_one _ c.if-remaining-eq0.false c.past-i.ensures
+    let a = c.args in
+    let l = c.loop-i in
+    (one_more a.s.now a.k l.i l.remaining l.invariant _ c.sizes_at-z.ensures).later_one _ c.if-remaining-eq0.false c.past-i.ensures
 
 pub returns : goal.returns
 returns c =

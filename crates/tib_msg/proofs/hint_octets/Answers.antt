@@ -31,11 +31,11 @@ bounds-s-1 c =
 pub overflow_add-result : goal.overflow_add-result
 overflow_add-result c =
     let x = (c.type_inv.s 1).fits in
-    let e = c.wide.ensures in
+    let e = c.from.ensures in
     omega arith
 
 pub returns : goal.returns
 unfolding hint_octets
 returns c =
     let k = c in
-    rw (c.wide.ensures, sym k.hinted.ensures ∙ k.if-not-hinted.false, ← k.kind-k.ensures, ne_eqb _ 8 c.if-k-eq8.false, ne_eqb _ 9 c.if-k-eq9.false)
+    rw (c.from.ensures, sym k.hinted.ensures ∙ k.if-not-hinted.false, ← k.kind-k.ensures, ne_eqb _ 8 c.if-k-eq8.false, ne_eqb _ 9 c.if-k-eq9.false)

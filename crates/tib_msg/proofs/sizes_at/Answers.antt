@@ -12,7 +12,7 @@ overflow_add-at c =
     let w = c in
     let a = w in
     let s = a.args.s.now in
-    let n = w.wide-n in
+    let n = w.from-n in
     let h = type_inside s a.requires n.result n.ensures in
     omega arith
 
@@ -21,7 +21,7 @@ bounds-s-at c =
     let w = c in
     let a = w in
     let s = a.args.s.now in
-    let n = w.wide-n in
+    let n = w.from-n in
     type_inside s a.requires n.result n.ensures
 
 pub overflow_add-start : goal.overflow_add-start
@@ -29,7 +29,7 @@ overflow_add-start c =
     let w = c in
     let a = w in
     let s = a.args.s.now in
-    let n = w.wide-n in
+    let n = w.from-n in
     let h = type_inside s a.requires n.result n.ensures in
     omega arith
 
@@ -38,7 +38,7 @@ overflow_add-end c =
     let w = c in
     let a = w in
     let s = a.args.s.now in
-    let n = w.wide-n in
+    let n = w.from-n in
     let h = size_inside s a.requires n.result n.ensures _ refl c.size_width-w.result c.size_width-w.ensures in
     omega arith
 
@@ -47,7 +47,7 @@ slice_bounds-uint-end c =
     let w = c in
     let a = w in
     let s = a.args.s.now in
-    let n = w.wide-n in
+    let n = w.from-n in
     size_inside s a.requires n.result n.ensures _ refl c.size_width-w.result c.size_width-w.ensures
 
 pub overflow_add-hint : goal.overflow_add-hint
@@ -56,7 +56,7 @@ overflow_add-hint c =
     let w = v in
     let a = w in
     let s = a.args.s.now in
-    let n = w.wide-n in
+    let n = w.from-n in
     let h = data_inside s a.requires n.result n.ensures _ refl v.size_width-w.result v.size_width-w.ensures c.uint-l.result c.uint-l.ensures in
     omega arith
 
@@ -66,7 +66,7 @@ slice_bounds-hint_octets-count c =
     let w = v in
     let a = w in
     let s = a.args.s.now in
-    let n = w.wide-n in
+    let n = w.from-n in
     data_inside s a.requires n.result n.ensures _ refl v.size_width-w.result v.size_width-w.ensures c.uint-l.result c.uint-l.ensures
 
 pub slice_bounds-hint_octets-start : goal.slice_bounds-hint_octets-start
@@ -75,7 +75,7 @@ slice_bounds-hint_octets-start c =
     let w = v in
     let a = w in
     let s = a.args.s.now in
-    let n = w.wide-n in
+    let n = w.from-n in
     data_inside s a.requires n.result n.ensures _ refl v.size_width-w.result v.size_width-w.ensures c.uint-l.result c.uint-l.ensures
 
 pub hint_octets-requires : goal.hint_octets-requires
@@ -85,7 +85,7 @@ hint_octets-requires c =
     let w = v in
     let a = w in
     let s = a.args.s.now in
-    let n = w.wide-n in
+    let n = w.from-n in
     hint_there s a.requires n.result n.ensures _ refl v.size_width-w.result v.size_width-w.ensures u.uint-l.result u.uint-l.ensures
 
 pub returns : goal.returns
@@ -95,5 +95,5 @@ returns c =
     let w = v in
     let a = w in
     let s = a.args.s.now in
-    let n = w.wide-n in
+    let n = w.from-n in
     all_read s a.requires n.result n.ensures _ refl v.size_width-w.result v.size_width-w.ensures u.uint-l.result u.uint-l.ensures c.hint_octets.result c.hint_octets.ensures

@@ -1,18 +1,20 @@
 -- What the private function `find` returns, and how it reads a field that is known to be good.
-use Rattle.std.specs.Prelude.{ℕ, ◌+◌, ◌≡◌, cond, ◌||◌, List, get_or, eqb}
+use Rattle.std.specs.Prelude.{ℕ, ◌+◌, ◌≡◌, cond, ◌||◌, List, get_or, eqb, Option as Optional, Some, None}
 use Rattle.std.proofs.Math.Option.{Option}
 use Rattle.tib_field.specs.internal.KthOf.{found_of}
-use Rattle.tib_msg.specs.declared.Kth.{Kth}
-use Rattle.tib_msg.specs.declared.Kth.TheVariants.{At, Absent}
 use Rattle.tib_msg_field.specs.declared.Sizes.{Sizes}
 use Rattle.tib_msg_field.specs.Layout.{kind, hinted, Parts}
 use Rattle.tib_field.specs.Steps.{Over}
 use Rattle.tib_msg_field.specs.Reading.{next_field}
 use Rattle.tib_msg_field.specs.internal.Sizes.{sizes}
 
--- The place and the sizes of a field, or that there is none.
-abbrev pub found_at : Option (ℕ × Parts) → Kth
-found_at = found_of sizes At Absent
+-- The place and the sizes of a field,
+abbrev pub at : ℕ → Sizes → Optional (ℕ × Sizes)
+at place z = Some (place, z)
+
+-- or none.
+abbrev pub found_at : Option (ℕ × Parts) → Optional (ℕ × Sizes)
+found_at = found_of sizes at None
 
 -- A field stands at the front of octets.
 abbrev pub HasField : List ℕ → Type 0

@@ -6,4 +6,4 @@ use Rattle.tib_msg_field.proofs.kind.Goals as goal
 
 pub returns : goal.returns
 unfolding kind
-returns c = c.wide.ensures ∙ and_mask c.args.c 4
+returns c = c.from.ensures ∙ and_mask c.args.c 4

@@ -1,8 +1,9 @@
--- The one number that a function returns for a hint: its octets, or a refusal.
-use Rattle.std.specs.Prelude.{ℕ, ◌+◌}
-use Rattle.tib_field.specs.internal.Numbers.{fault_base}
+-- What a function finds where a hint may begin, by its result.
+use Rattle.std.specs.Prelude.{ℕ, Result, Ok, Err}
+use Rattle.reading.specs.declared.Refusal.{Refusal}
+use Rattle.reading.specs.Refusals.{number}
 use Rattle.tib_msg_field.specs.Reading.{HintStep, HintFault, Size}
 
-unfoldable pub hint_number : HintStep → ℕ
-hint_number (HintFault k) = fault_base + k
-hint_number (Size h) = h
+abbrev pub hint_step : Result ℕ Refusal → HintStep
+hint_step (Ok h) = Size h
+hint_step (Err r) = HintFault (number r)

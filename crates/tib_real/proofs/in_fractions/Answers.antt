@@ -4,7 +4,7 @@ use lib.Ieee.{binary64, eq, of_int}
 use lib.Ieee.Exact.{HasValue}
 use mir.ValLaws.{to_z-of_z}
 use Rattle.tib_real.specs.Parts.{eight, negative, exponent}
-use Rattle.tib_real.specs.WholeNumber.{signed, accepted}
+use Rattle.tib_real.specs.WholeNumber.{signed, accepted, refused}
 use Rattle.tib_real.specs.InFractions.{scaled}
 use Rattle.tib_real.proofs.Masks.{eight_exponent, eight_number}
 use Rattle.tib_real.proofs.Size.{too_large, not_whole, scaled_below, quotient_below, whole}
@@ -54,10 +54,11 @@ test t =
     rw (result t) (compared (product (bits k) (hint k)) (negative eight (bits k)) (size k) (value k) (quotient k))
 
 pub returns-then-h-bits : goal.returns-then-h-bits
+unfolding refused
 returns-then-h-bits c =
     let a = c in
     let e : 1076 - a.args.h ≤ exponent eight a.args.bits = omega (arith, eight_exponent a.args.bits) in
-    c.refused.ensures ∙ too_large a.args.bits a.args.h a.requires.1 e
+    too_large a.args.bits a.args.h a.requires.1 e
 
 pub float_from_bits-product : goal.float_from_bits-product
 float_from_bits-product c = let k = below (goal.at.float_from_bits-product c).Else-h-bits in eight_number (bits (goal.at.float_from_bits-product c).Else-h-bits) (λ e. omega arith)
@@ -84,7 +85,8 @@ returns-then-whole-product c =
     ap accepted (result (goal.at.returns-then-whole-product c).After-truncating_f64_to_i64-whole) ∙ whole (bits k) (hint k) k.requires.1 (below k) (eqb-true (size k % 2 ^ 1074) 0 (sym (test (goal.at.returns-then-whole-product c).After-truncating_f64_to_i64-whole) ∙ c.if-whole-product.true))
 
 pub returns : goal.returns
+unfolding refused
 returns c =
     let t = c in
     let k = place (goal.at.returns c).After-truncating_f64_to_i64-whole in
-    c.refused-2.ensures ∙ not_whole (bits k) (hint k) (eqb-false (size k % 2 ^ 1074) 0 (sym (test (goal.at.returns c).After-truncating_f64_to_i64-whole) ∙ c.if-whole-product.false))
+    not_whole (bits k) (hint k) (eqb-false (size k % 2 ^ 1074) 0 (sym (test (goal.at.returns c).After-truncating_f64_to_i64-whole) ∙ c.if-whole-product.false))

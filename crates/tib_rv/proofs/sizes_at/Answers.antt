@@ -12,7 +12,7 @@ overflow_add-at c =
     let w = c in
     let a = w in
     let s = a.args.s.now in
-    let n = w.wide-n in
+    let n = w.from-n in
     let h = size_inside s a.requires n.result n.ensures in
     omega arith
 
@@ -21,7 +21,7 @@ bounds-s-at c =
     let w = c in
     let a = w in
     let s = a.args.s.now in
-    let n = w.wide-n in
+    let n = w.from-n in
     let h = size_inside s a.requires n.result n.ensures in
     omega arith
 
@@ -30,7 +30,7 @@ overflow_add-size c =
     let w = c in
     let a = w in
     let s = a.args.s.now in
-    let n = w.wide-n in
+    let n = w.from-n in
     let h = size_inside s a.requires n.result n.ensures in
     omega arith
 
@@ -39,7 +39,7 @@ bounds-s-size c =
     let w = c in
     let a = w in
     let s = a.args.s.now in
-    let n = w.wide-n in
+    let n = w.from-n in
     size_inside s a.requires n.result n.ensures
 
 pub overflow_add-rest : goal.overflow_add-rest
@@ -47,7 +47,7 @@ overflow_add-rest c =
     let w = c in
     let a = w in
     let s = a.args.s.now in
-    let n = w.wide-n in
+    let n = w.from-n in
     let h = size_inside s a.requires n.result n.ensures in
     omega arith
 
@@ -56,7 +56,7 @@ slice_bounds-count_of-count c =
     let w = c in
     let a = w in
     let s = a.args.s.now in
-    let n = w.wide-n in
+    let n = w.from-n in
     let h = size_inside s a.requires n.result n.ensures in
     omega arith
 
@@ -65,7 +65,7 @@ slice_bounds-count_of-start c =
     let w = c in
     let a = w in
     let s = a.args.s.now in
-    let n = w.wide-n in
+    let n = w.from-n in
     let h = size_inside s a.requires n.result n.ensures in
     omega arith
 
@@ -75,8 +75,8 @@ count_of-k-requires c =
     let w = v in
     let a = w in
     let s = a.args.s.now in
-    let n = w.wide-n in
-    count_there s a.requires n.result n.ensures _ v.wide-m.result refl v.wide-m.ensures
+    let n = w.from-n in
+    count_there s a.requires n.result n.ensures _ v.from-m.result refl v.from-m.ensures
 
 pub returns-then-c-eq1 : goal.returns-then-c-eq1
 returns-then-c-eq1 c =
@@ -85,8 +85,8 @@ returns-then-c-eq1 c =
     let w = v in
     let a = w in
     let s = a.args.s.now in
-    let n = w.wide-n in
-    holder_read s a.requires n.result n.ensures _ v.wide-m.result refl v.wide-m.ensures k.count_of-k.result k.count_of-k.ensures c.if-c-eq1.true
+    let n = w.from-n in
+    holder_read s a.requires n.result n.ensures _ v.from-m.result refl v.from-m.ensures k.count_of-k.result k.count_of-k.ensures c.if-c-eq1.true
 
 pub overflow_sub-result : goal.overflow_sub-result
 overflow_sub-result c =
@@ -95,8 +95,8 @@ overflow_sub-result c =
     let w = v in
     let a = w in
     let s = a.args.s.now in
-    let n = w.wide-n in
-    let h = count_enough s a.requires n.result n.ensures _ v.wide-m.result refl v.wide-m.ensures k.count_of-k.result k.count_of-k.ensures in
+    let n = w.from-n in
+    let h = count_enough s a.requires n.result n.ensures _ v.from-m.result refl v.from-m.ensures k.count_of-k.result k.count_of-k.ensures in
     let e = c.own.ensures in
     omega arith
 
@@ -108,5 +108,5 @@ returns c =
     let w = v in
     let a = w in
     let s = a.args.s.now in
-    let n = w.wide-n in
-    leaf_read s a.requires n.result n.ensures _ v.wide-m.result refl v.wide-m.ensures k.count_of-k.result k.count_of-k.ensures f.if-c-eq1.false f.following.result c.own.result f.following.ensures.value c.own.ensures
+    let n = w.from-n in
+    leaf_read s a.requires n.result n.ensures _ v.from-m.result refl v.from-m.ensures k.count_of-k.result k.count_of-k.ensures f.if-c-eq1.false f.following.result c.own.result f.following.ensures.value c.own.ensures

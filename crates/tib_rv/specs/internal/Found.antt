@@ -1,19 +1,21 @@
 -- What the private functions `find`, `sizes_at` and `shown` return.
-use Rattle.std.specs.Prelude.{ℕ, ◌+◌, false, ◌≡◌, List}
+use Rattle.std.specs.Prelude.{ℕ, ◌+◌, false, ◌≡◌, List, Option as Optional, Some, None}
 use Rattle.std.proofs.Math.Option.{Option, none, some}
-use Rattle.tib_field.specs.declared.Field.{Field as Shown}
+use Rattle.tib_field.specs.declared.FieldAnswer.{FieldAnswer}
 use Rattle.tib_field.specs.Refused.{no_real}
 use Rattle.tib_rv_field.specs.declared.Sizes.{Sizes}
 use Rattle.tib_field.specs.internal.KthOf.{found_of}
-use Rattle.tib_rv.specs.declared.Kth.{Kth}
-use Rattle.tib_rv.specs.declared.Kth.TheVariants.{At, Absent}
 use Rattle.tib_rv_field.specs.Layout.{Parts}
 use Rattle.tib_rv_field.specs.Reading.{Step, Done, Fault, Over, Into, next_field, lead}
 use Rattle.tib_rv_field.specs.internal.Sizes.{sizes}
 
--- The place and the sizes of a field, or that there is none.
-abbrev pub found_at : Option (ℕ × Parts) → Kth
-found_at = found_of sizes At Absent
+-- The place and the sizes of a field,
+abbrev pub at : ℕ → Sizes → Optional (ℕ × Sizes)
+at place z = Some (place, z)
+
+-- or none.
+abbrev pub found_at : Option (ℕ × Parts) → Optional (ℕ × Sizes)
+found_at = found_of sizes at None
 
 -- The field that a step finds, of either kind.
 unfoldable pub any_field : Step → Option Sizes
@@ -27,7 +29,7 @@ abbrev pub HasField : List ℕ → Type 0
 HasField s = (z : Sizes) × (any_field (next_field s) ≡ some z)
 
 -- The answer for a field of these sizes that begins at a place.
-unfoldable pub shown_sizes : ℕ → Sizes → Shown
+unfoldable pub shown_sizes : ℕ → Sizes → FieldAnswer
 shown_sizes at z =
     record {
       refusal = 0;

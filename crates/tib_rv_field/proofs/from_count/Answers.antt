@@ -3,12 +3,12 @@ use borrow.Author.Tests.{lt-ltb, le-ltb}
 use mathlib.Core.Path.{sym, ◌∙◌}
 use native.Mathlib.Omega.{arith}
 use Rattle.tib_rv_field.specs.Reading.{from_count}
-use Rattle.tib_rv_field.specs.internal.Numbers.{number_of}
+use Rattle.tib_rv_field.specs.internal.Measured.{measured}
 use Rattle.tib_rv_field.proofs.Counts.{good_count}
 use Rattle.tib_rv_field.proofs.from_count.Goals as goal
 
 pub returns-then-not-count_allowed : goal.returns-then-not-count_allowed
-unfolding from_count number_of
+unfolding from_count measured
 returns-then-not-count_allowed c = rw (sym c.count_allowed.ensures ∙ c.if-not-count_allowed.true)
 
 pub overflow_sub-k : goal.overflow_sub-k
@@ -19,7 +19,7 @@ overflow_sub-k c =
     omega arith
 
 pub returns-then-remaining-k : goal.returns-then-remaining-k
-unfolding from_count number_of
+unfolding from_count measured
 returns-then-remaining-k c = rw ((sym c.count_allowed.ensures ∙ c.if-not-count_allowed.false), ← c.own.ensures, lt-ltb _ _ c.if-remaining-k.true)
 
 pub found-requires : goal.found-requires

@@ -1,13 +1,13 @@
 -- `tib_rv_field::from_long` meets its contract.
 use mathlib.Core.Path.{ap, ◌∙◌}
 use Rattle.octets.proofs.Number.{octets_of_slice}
-use Rattle.tib_rv_field.specs.internal.Numbers.{number_of}
+use Rattle.tib_rv_field.specs.internal.Measured.{measured}
 use Rattle.tib_rv_field.proofs.StepTests.{long_cut, long_whole, long_small}
 use Rattle.tib_rv_field.proofs.from_long.Goals as goal
 
 pub returns-then-s-w : goal.returns-then-s-w
-unfolding number_of
-returns-then-s-w c = let a = c.args in ap number_of (long_cut a.n a.c a.m a.w a.s.now c.if-s-w.true)
+unfolding measured
+returns-then-s-w c = let a = c.args in ap measured (long_cut a.n a.c a.m a.w a.s.now c.if-s-w.true)
 
 pub from_count-requires : goal.from_count-requires
 from_count-requires c =
@@ -22,4 +22,4 @@ returns c =
     let f = r in
     let a = f.args in
     c.from_count.ensures
-    ∙ ap number_of (long_whole a.n a.c a.m a.w a.s.now f.if-s-w.false f.requires.w_bound r.uint-k.result r.uint-k.ensures)
+    ∙ ap measured (long_whole a.n a.c a.m a.w a.s.now f.if-s-w.false f.requires.w_bound r.uint-k.result r.uint-k.ensures)

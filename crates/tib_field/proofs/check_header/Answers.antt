@@ -1,14 +1,17 @@
--- `tib_field::header_fault` meets its contract.
+-- `tib_field::check_header` meets its contract.
 use native.Mathlib.Omega.{arith}
 use mathlib.Core.Path.{refl, sym, ◌∙◌}
 use Rattle.tib_field.proofs.Headers.{header_cut_lem, other_magic_lem, other_size_lem, good_header, size_read}
-use Rattle.tib_field.proofs.header_fault.Goals as goal
+use Rattle.tib_field.proofs.check_header.Goals.{then-n-lt4-via-then-n-lt4, then-n-lt4-via-else-n-lt4+then-n-m}
+use Rattle.tib_field.proofs.check_header.Goals as goal
 
 pub returns-then-n-lt4 : goal.returns-then-n-lt4
-returns-then-n-lt4 c = let h = c.if-n-lt4.true in header_cut_lem c.args.mark.now c.args.s.now (omega arith)
-
-pub returns-then-n-m : goal.returns-then-n-m
-returns-then-n-m c = let h = c.if-n-m.true in header_cut_lem c.args.mark.now c.args.s.now (omega arith)
+returns-then-n-lt4 c =
+    let a = c.args in
+    elim c.then-n-lt4.branch [
+      | then-n-lt4-via-then-n-lt4 w ↦ header_cut_lem a.mark.now a.s.now (omega arith)
+      | then-n-lt4-via-else-n-lt4+then-n-m w ↦ header_cut_lem a.mark.now a.s.now (omega arith)
+    ]
 
 pub returns-then-not-begins : goal.returns-then-not-begins
 returns-then-not-begins c = let a = c.args in let h = c.if-n-m.false in other_magic_lem a.mark.now a.s.now (omega arith) (sym c.begins.ensures ∙ c.if-not-begins.true)

@@ -1,6 +1,6 @@
--- `tib_rv::header_fault` meets its contract.
+-- `tib_rv::check_header` meets its contract.
 use Rattle.tib_rv.proofs.Headers.{header_cut_lem, other_magic_lem, other_size_lem, no_fault}
-use Rattle.tib_rv.proofs.header_fault.Goals as goal
+use Rattle.tib_rv.proofs.check_header.Goals as goal
 
 pub returns-then-s-lt8 : goal.returns-then-s-lt8
 returns-then-s-lt8 c = header_cut_lem c.args.s.now c.if-s-lt8.true
