@@ -23,7 +23,7 @@ use Rattle.tib_qform_field.specs.Layout.{Parts, Whole}
 use Rattle.tib_qform_field.specs.Reading.{reading}
 use Rattle.tib_qform_field.proofs.Accepted.{accepted_exactly}
 use Rattle.tib_qform_field.proofs.Refusals.{refusal_positive}
-use Rattle.tib_qform.specs.declared.types.Field.{Field}
+use Rattle.tib_qform.specs.declared.types.FieldAnswer.{FieldAnswer}
 use Rattle.tib_qform.specs.CheckAndField.{check, refused_field, shown, places, field, under_dictionary, entries_of, check_octets, check_loaded, field_octets, field_loaded}
 use Rattle.tib_qform.proofs.Calls.{good, cases, alike, valid_entries, entries_cases, loaded_alike}
 
@@ -81,7 +81,7 @@ module _ (s : List ℕ) where
   )
 
   -- What the check refuses is refused with the same number and place, whichever field is asked for.
-  abbrev Alike : Checked → Field → Type 0
+  abbrev Alike : Checked → FieldAnswer → Type 0
   Alike r f = (r.refusal ≡ 0 → ⊥) → f ≡ refused_field r.refusal r.place
 
   under_alike : (k : ℕ) (es : List Entry) → Alike (check es s) (field es s k)

@@ -1,3 +1,4 @@
+pub mod Results
 pub mod TraverseLoop
 pub mod Kths
 pub mod Noted

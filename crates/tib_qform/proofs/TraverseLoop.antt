@@ -1,14 +1,12 @@
 -- The loop invariant of the traversal of a message's fields by the cells of a dictionary, and what each turn of the loop does to it.
-use Prim.Native.Nat.{ℕ, ◌+◌, ◌-◌, ◌≤◌, ◌<◌}
+use Prim.Native.Nat.{ℕ, ◌+◌, ◌≤◌, ◌<◌}
 use native.Mathlib.Omega.{arith}
-use mathlib.Core.Path.{◌≡◌, refl}
+use mathlib.Core.Path.{◌≡◌}
 use mathlib.Core.List.{List}
 use lib.ListN.{length, drop}
 use Rattle.octets.specs.Number.{Octets}
-use Rattle.reading.specs.Reading.{message_limit}
-use Rattle.reading.specs.declared.Verdict.{Verdict}
-use Rattle.reading.specs.declared.Verdict.TheVariants.{Accepted, Refused}
-use Rattle.tib_field.specs.internal.Numbers.{fault_base}
+use Rattle.reading.specs.internal.Verdicts.{Verdict, Accepted, Refused}
+use Rattle.tib_field.specs.Steps.{Fault, Over}
 use Rattle.tib_field.proofs.Traversals as traversals
 use Rattle.tib_dictionary.specs.internal.Cells.{CellsOf}
 use Rattle.tib_dictionary.specs.declared.Entry.{Entry}
@@ -17,7 +15,7 @@ use Rattle.tib_qform_field.specs.FirstFault.{WrongField}
 use Rattle.tib_qform_field.specs.Reading.{next_field, total, parts_at}
 use Rattle.tib_qform_field.specs.internal.Octets.{octets_by}
 use Rattle.tib_qform_field.proofs.Steps.{exact}
-use Rattle.tib_qform_field.proofs.Numbers.{field_inside, number_at}
+use Rattle.tib_qform_field.proofs.Octets.{field_inside, octets_at}
 
 -- The verdict of the fields under entries.
 abbrev pub whole : List Entry → List ℕ → Verdict
@@ -42,21 +40,21 @@ module _ (cells s : List ℕ) where
     at_end h es noted =
         traversals.at_end octets (Allowed es) (WrongField es) (next_field es) total parts_at (exact es) 8 s i f (now.reads es noted) h
 
-    -- The number of the field after i octets.
-    module _ (o : Octets s) (n : ℕ) (e : n ≡ octets_by cells (drop i s)) (inside : i < length s) (few : length s ≤ message_limit) where
-      pub at_fault : fault_base ≤ n → (es : List Entry) → CellsOf es cells → Refused (n - fault_base) i ≡ whole es s
-      at_fault h es noted =
-          traversals.refused_here octets (Allowed es) (WrongField es) (next_field es) total parts_at (exact es) 8 s i f (now.reads es noted) inside few n
-          (number_at es cells noted s o i n e (next_field es (drop i s)) refl) h
+    -- The step after i octets.
+    module _ (o : Octets s) where
+      pub at_fault : (k : ℕ) → Fault k ≡ octets_by cells (drop i s) → (es : List Entry) → CellsOf es cells → Refused k i ≡ whole es s
+      at_fault k e es noted =
+          traversals.refused_step octets (Allowed es) (WrongField es) (next_field es) total parts_at (exact es) 8 s i f (now.reads es noted) k
+          (octets_at es cells noted s o i (Fault k) e)
 
-      pub over_field : n < fault_base → State cells s (i + n) (f + 1)
-      over_field h =
-          let a = (field_inside cells s i n e inside h).0 in
+      pub over_field : i < length s → (n : ℕ) → Over n ≡ octets_by cells (drop i s) → State cells s (i + n) (f + 1)
+      over_field inside n e =
+          let a = (field_inside cells s i n e inside).0 in
           let b = now.few in
           record {
             few = omega arith;
             reads =
                 λ es noted.
-                traversals.over_field octets (Allowed es) (WrongField es) (next_field es) total parts_at (exact es) 8 s i f (now.reads es noted) inside few n
-                (number_at es cells noted s o i n e (next_field es (drop i s)) refl) h;
+                traversals.over_step octets (Allowed es) (WrongField es) (next_field es) total parts_at (exact es) 8 s i f (now.reads es noted) inside n
+                (octets_at es cells noted s o i (Over n) e);
           }

@@ -14,23 +14,23 @@ use Rattle.tib_dictionary.specs.declared.Entry.{Entry}
 use Rattle.tib_dictionary.specs.declared.Dictionary.{Dictionary}
 use Rattle.tib_qform_field.specs.Layout.{Parts, octets, fid_of}
 use Rattle.tib_qform_field.specs.Reading.{reading}
-use Rattle.tib_qform.specs.declared.types.Field.{Field}
+use Rattle.tib_qform.specs.declared.types.FieldAnswer.{FieldAnswer}
 
 -- The check of a message under entries: its refusal, or the count of its fields.
 unfoldable pub check : List Entry → List ℕ → Checked
 check es s = counts length flat_depth (reading es s)
 
 -- The field that a refused call returns: the refusal and its place, all else 0.
-abbrev pub refused_field : ℕ → ℕ → Field
+abbrev pub refused_field : ℕ → ℕ → FieldAnswer
 refused_field refusal at = record { refusal = refusal; place = at; fid = 0; kind = 0; data_place = 0; data_length = 0 }
 
 -- A field that begins at a place, by its fid and its entry. The data come after the two octets of the FID.
-unfoldable pub shown_by : ℕ → ℕ → Entry → Field
+unfoldable pub shown_by : ℕ → ℕ → Entry → FieldAnswer
 shown_by at fid e =
     record { refusal = 0; place = 0; fid = fid; kind = e.kind; data_place = at + 2; data_length = e.size }
 
 -- A field of a message.
-unfoldable pub shown : List Entry → ℕ → Parts → Field
+unfoldable pub shown : List Entry → ℕ → Parts → FieldAnswer
 shown es at f = shown_by at (fid_of f) (entry_with es (fid_of f))
 
 -- The fields with the places where they begin, the first after the header.
@@ -38,7 +38,7 @@ unfoldable pub places : List Parts → List (ℕ × Parts)
 places fs = placed octets 8 fs
 
 -- The k-th field of a message under entries.
-unfoldable pub field : List Entry → List ℕ → ℕ → Field
+unfoldable pub field : List Entry → List ℕ → ℕ → FieldAnswer
 field es s k = field_of refused_field (shown es) places k (reading es s)
 
 -- An answer by what loading the dictionary gave: its refusal, or what `under` gives for its entries.
@@ -62,8 +62,8 @@ check_octets dictionary s = under_dictionary refusal (λ es. check es s) (loadin
 unfoldable pub check_loaded : Dictionary → List ℕ → Checked
 check_loaded d s = under_dictionary refusal (λ es. check es s) (entries_of d) s
 
-unfoldable pub field_octets : List ℕ → List ℕ → ℕ → Field
+unfoldable pub field_octets : List ℕ → List ℕ → ℕ → FieldAnswer
 field_octets dictionary s k = under_dictionary refused_field (λ es. field es s k) (loading dictionary) s
 
-unfoldable pub field_loaded : Dictionary → List ℕ → ℕ → Field
+unfoldable pub field_loaded : Dictionary → List ℕ → ℕ → FieldAnswer
 field_loaded d s k = under_dictionary refused_field (λ es. field es s k) (entries_of d) s

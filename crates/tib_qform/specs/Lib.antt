@@ -1,4 +1,5 @@
 pub mod CheckAndField
+pub mod InNumbers
 pub mod Answers
 pub mod KthTold
 pub mod Samples

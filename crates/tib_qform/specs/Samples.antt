@@ -2,7 +2,7 @@
 -- a comment names the one that a sample is about.
 use Rattle.std.specs.Prelude.{ℕ, ◌≡◌, List, [], ◌∷◌, ◌++◌, length}
 use Rattle.reading.specs.declared.Checked.{Checked}
-use Rattle.tib_qform.specs.declared.types.Field.{Field}
+use Rattle.tib_qform.specs.declared.types.FieldAnswer.{FieldAnswer}
 use Rattle.tib_qform.specs.CheckAndField.{check_octets, refused_field, field_octets}
 
 -- A sample: the octets of a dictionary, a message, and the check's answer.
@@ -92,7 +92,7 @@ pub record FieldSample : Type 0 where
   pub dictionary : List ℕ
   pub message : List ℕ
   pub k : ℕ
-  pub expected : Field
+  pub expected : FieldAnswer
 
 unfoldable pub FieldsHold : List FieldSample → Type 0
 FieldsHold [] = Unit {0}

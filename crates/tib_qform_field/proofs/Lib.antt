@@ -1,6 +1,6 @@
 pub mod Tests
 pub mod Steps
-pub mod Numbers
+pub mod Octets
 pub mod Accepted
 pub mod FirstFault
 pub mod Refusals

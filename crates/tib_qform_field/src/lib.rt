@@ -2,13 +2,15 @@
 // reading, and the laws between them.
 #![tactic(auto)]
 
-ghost use Rattle.std.specs.Prelude.{◌≡◌, ◌<◌, ◌^◌, drop};
+ghost use Rattle.std.specs.Prelude.{◌≡◌, drop};
+ghost use Rattle.tib_field.specs.internal.Measured.{step_of};
 ghost use Rattle.tib_qform_field.specs.Layout.{flagged as flagged-of, fid as fid-of};
 ghost use Rattle.tib_qform_field.specs.internal.Octets.{octets_by};
 
-use tib_field::FAULT;
+use reading::Refusal;
 
 // Returns whether both flags of a FID are set. They are the top bits of its first octet.
+#[tactic(auto, unfolding(crate::specs::Layout::flagged))]
 fn flagged(high: u8) -> bool
     ensures { result ≡ flagged-of high }
 {
@@ -19,37 +21,30 @@ fn flagged(high: u8) -> bool
 pub fn fid(high: u8, low: u8) -> u64
     ensures { result ≡ fid-of high low }
 {
-    numbers::wide(high & 63) * 256 + numbers::wide(low)
+    u64::from(high & 63) * 256 + u64::from(low)
 }
 
-// Returns the number in a cell.
-fn wide(cell: u16) -> u64
-    ensures { (result ≡ cell) × (result < 2 ^ 16) }
-{
-    cell as u64
-}
-
-// Returns how many octets the field at an offset has, with its FID and its padding, by the cells of a dictionary. Returns FAULT plus a refusal if
-// there is no whole field, and 0 at the end of the message.
-pub fn field_octets(cells: &[u16; 16384], s: &[u8], at: usize) -> u64
-    ensures { result ≡ octets_by cells.now (drop at s.now) }
+// Returns how many octets the field at an offset has, with its FID and its padding, by the cells of a dictionary; 0 at the end of the message.
+// The refusal is why there is no whole field.
+pub fn field_octets(cells: &[u16; 16384], s: &[u8], at: usize) -> Result<usize, Refusal>
+    ensures { step_of result ≡ octets_by cells.now (drop at s.now) }
 {
     if s.len() <= at {
-        return 0;
+        return Ok(0);
     }
     let remaining = s.len() - at;
     if remaining < 2 {
-        return FAULT + reading::CUT;
+        return Err(Refusal::Cut);
     }
     if !flagged(s[at]) {
-        return FAULT + reading::TYPE_SIZE_OR_HINT;
+        return Err(Refusal::TypeSizeOrHint);
     }
-    let half = wide(cells[fid(s[at], s[at + 1]) as usize]);
+    let half = usize::from(cells[fid(s[at], s[at + 1]) as usize]);
     if half == 0 {
-        return FAULT + reading::NOT_IN_DICTIONARY;
+        return Err(Refusal::NotInDictionary);
     }
-    if (remaining as u64) < half * 2 {
-        return FAULT + reading::PAST_THE_END;
+    if remaining < half * 2 {
+        return Err(Refusal::PastTheEnd);
     }
-    half * 2
+    Ok(half * 2)
 }

@@ -52,14 +52,14 @@ bounds-cells-fid c = number_small (goal.at.bounds-cells-fid c).After-fid
 pub returns-then-half-eq0 : goal.returns-then-half-eq0
 returns-then-half-eq0 c =
     let a = c.args in
-    not_noted a.cells.now a.s.now a.at (two-left (goal.at.returns-then-half-eq0 c).After-fid) (both-flags (goal.at.returns-then-half-eq0 c).After-fid) c.fid.result c.wide-half.result c.fid.ensures c.wide-half.ensures.0 c.if-half-eq0.true
+    not_noted a.cells.now a.s.now a.at (two-left (goal.at.returns-then-half-eq0 c).After-fid) (both-flags (goal.at.returns-then-half-eq0 c).After-fid) c.fid.result c.from-half.result c.fid.ensures c.from-half.ensures c.if-half-eq0.true
 
 pub returns-then-remaining-half : goal.returns-then-remaining-half
 returns-then-remaining-half c =
     let a = c.args in
-    past_end a.cells.now a.s.now a.at (two-left (goal.at.returns-then-remaining-half c).After-fid) (both-flags (goal.at.returns-then-remaining-half c).After-fid) c.fid.result c.wide-half.result c.fid.ensures c.wide-half.ensures.0 c.if-half-eq0.false c.if-remaining-half.true
+    past_end a.cells.now a.s.now a.at (two-left (goal.at.returns-then-remaining-half c).After-fid) (both-flags (goal.at.returns-then-remaining-half c).After-fid) c.fid.result c.from-half.result c.fid.ensures c.from-half.ensures c.if-half-eq0.false c.if-remaining-half.true
 
 pub returns : goal.returns
 returns c =
     let a = c.args in
-    measured a.cells.now a.s.now a.at (two-left (goal.at.returns c).After-fid) (both-flags (goal.at.returns c).After-fid) c.fid.result c.wide-half.result c.fid.ensures c.wide-half.ensures.0 c.if-half-eq0.false c.if-remaining-half.false
+    measured a.cells.now a.s.now a.at (two-left (goal.at.returns c).After-fid) (both-flags (goal.at.returns c).After-fid) c.fid.result c.from-half.result c.fid.ensures c.from-half.ensures c.if-half-eq0.false c.if-remaining-half.false
