@@ -1,3 +1,2 @@
-pub mod Closes
 pub mod Opens
-pub mod ClosesByOctets
+pub mod Closes

@@ -3,13 +3,18 @@
 
 pub mod by_octets;
 
-ghost use Rattle.std.specs.Prelude.{◌≡◌, ◌-◌, ◌≤◌, []};
+ghost use Rattle.std.specs.Prelude.{◌≡◌, true, ◌-◌, ◌≤◌, ◌<◌, MatchResult, [], length as length-of, get_or};
+ghost use Rattle.table.specs.Entry.{inner_of};
+ghost use Rattle.writer_nesting.specs.internal.Nesting.{open_known, closed, closed_buffer};
 ghost use Rattle.writer_state.specs.Call.{open_field, close_field};
 ghost use Rattle.writer_state.specs.Answer.{answer, buffer};
-ghost use Rattle.writer_state.specs.Calls.{masked, deeper as deeper-of, close_early};
+ghost use Rattle.writer_state.specs.ByOctets.{usable};
+ghost use Rattle.writer_state.specs.Calls.{masked, deeper as deeper-of};
+ghost use Rattle.writer_state.specs.Results.{written};
 
+use reading::{Fault, Refusal};
 use table::Table;
-use writer_state::{State, Written};
+use writer_state::{State, Tagged, Wanted};
 
 // Returns the state one level deeper: a field with a tag and a message number is open, and the message around it has the mask `mask`. Nothing is
 // noted in the new message.
@@ -28,81 +33,74 @@ fn deeper(s: State, tag: u16, number: u64, mask: u64) -> State
     after
 }
 
-// Opens a message field. Its mark is the offset at which its contents end: the fields that are put until it is closed lie before the
-// mark. The field is noted in the message that it stands in, and nothing is noted in the new one. Refusals, all at place 0: STATE, TABLE,
-// TAG_OR_KIND, REPEATED, TOO_DEEP if seven fields are open.
-pub fn open_field(t: Table, s: State, tag: u64) -> Written
-    ensures { result ≡ answer t s [] (open_field tag) }
+// Opens a message field after its tag is looked up. Refusals: TooDeep if seven fields are open.
+#[tactic(auto, unfolding(crate::specs::internal::Nesting::open_known, writer_state::specs::Calls::call_result, writer_state::specs::Calls::or_refuse))]
+fn open_known(k: Tagged, s: State, tag: u64) -> Result<State, Fault>
+    requires { tag < 65536 }
+    ensures { written s result ≡ open_known s k.mask tag (inner_of k.kind) }
 {
-    let tagged = writer_state::tag_kind(t, s, s.length, tag, 5);
-    if tagged.refusal != 0 {
-        return writer_state::refused(tagged.refusal, s);
-    }
     if 6 < s.opened {
-        return writer_state::refused(reading::TOO_DEEP, s);
+        return Err(Refusal::TooDeep.at(0));
     }
-    Written {
-        refusal: 0,
-        place: 0,
-        state: deeper(s, tag as u16, tagged.inner, tagged.mask),
-    }
+    Ok(deeper(s, tag as u16, writer_state::inner(k.kind), k.mask))
 }
 
-// Returns the refusal of a close, apart from NO_ROOM, or 0.
-fn close_early(t: Table, s: State, len: usize) -> u64
-    ensures { result ≡ close_early t s len 0 }
+// Opens a message field. Its mark is the offset at which its contents end: the fields that are put until it is closed lie before the
+// mark. The field is noted in the message that it stands in, and nothing is noted in the new one. Refusals, all at place 0: State, Table,
+// TagOrKind, Repeated, TooDeep if seven fields are open.
+pub fn open_field(t: Table, s: State, tag: u64) -> Result<State, Fault>
+    ensures { written s result ≡ answer t s [] (open_field tag) }
 {
-    if len != s.length {
-        return reading::STATE;
-    }
-    if !writer_state::sound(s) {
-        return reading::STATE;
-    }
-    if !table_index::valid(t) {
-        return reading::TABLE;
-    }
-    if s.opened < 1 {
-        return reading::NOTHING_OPEN;
-    }
-    0
+    let k = writer_state::tag_kind(t, s, s.length, tag, Wanted::Message)?;
+    open_known(k, s, tag)
 }
 
-// Returns a - b, or 0 if that is below zero. In a sound state no mark is below the start.
-fn less(a: usize, b: usize) -> usize
-    ensures { result ≡ a - b }
+// Returns the level of the field that was opened last. Refusals: NothingOpen.
+fn last_open(s: State) -> Result<usize, Fault>
+    ensures { MatchResult result (λ k. (1 ≤ s.opened) × (k ≡ s.opened - 1)) (λ fault. (s.opened ≡ 0) × (fault ≡ record { refusal = Refusal.NothingOpen; place = 0 })) }
 {
-    if a < b {
-        return 0;
-    }
-    let d = a - b;
-    d
+    s.opened.checked_sub(1).ok_or(Refusal::NothingOpen.at(0))
 }
 
-// Closes the field that was opened last: stores its control part before its contents, whose length is known by now. Refusals, all at
-// place 0: STATE, TABLE, NOTHING_OPEN, NO_ROOM.
-pub fn close_field(t: Table, s: State, out: &mut [u8]) -> Written
-    ensures value { result ≡ answer t s out.old close_field }
-    ensures out_after { out.new ≡ buffer t s out.old close_field }
+// Returns how many octets the contents of the open field at a level have. In a sound state no mark is below the start.
+fn contents_length(s: State, k: usize) -> u64
+    requires { k < 7 }
+    ensures { result ≡ get_or s.marks k 0 - s.start }
 {
-    let refusal = close_early(t, s, out.len());
-    if refusal != 0 {
-        return writer_state::refused(refusal, s);
-    }
-    let k = s.opened - 1;
+    s.marks[k].saturating_sub(s.start) as u64
+}
+
+// Closes the field that was opened last, in a state that the call can use: stores its control part before its contents, whose length is known by
+// now. Refusals: NothingOpen, NoRoom.
+fn close_usable(s: State, out: &mut [u8]) -> Result<State, Fault>
+    requires { usable s (length-of out.old) ≡ true }
+    ensures value { written s result ≡ closed s }
+    ensures out_after { out.new ≡ closed_buffer s out.old }
+{
+    let k = last_open(s)?;
     let tag = s.tags[k];
-    let mark = s.marks[k];
-    let n = less(mark, s.start) as u64;
+    let n = contents_length(s, k);
     let size = octets_put::control_size(tag, n);
     if s.start < size {
-        return writer_state::refused(reading::NO_ROOM, s);
+        return Err(Refusal::NoRoom.at(0));
     }
     let mut after = s;
     after.start = s.start - size;
     after.opened = k;
     octets_put::put_control(out, after.start, tag, n);
-    Written {
-        refusal: 0,
-        place: 0,
-        state: after,
+    Ok(after)
+}
+
+// Closes the field that was opened last. Refusals, all at place 0: State, Table, NothingOpen, NoRoom.
+pub fn close_field(t: Table, s: State, out: &mut [u8]) -> Result<State, Fault>
+    ensures value { written s result ≡ answer t s out.old close_field }
+    ensures out_after { out.new ≡ buffer t s out.old close_field }
+{
+    if !writer_state::usable(s, out.len()) {
+        return Err(Refusal::State.at(0));
     }
+    if !table_index::valid(t) {
+        return Err(Refusal::Table.at(0));
+    }
+    close_usable(s, out)
 }

@@ -18,16 +18,16 @@ field_joined d at tag xs h =
     let l = length-append (least_control tag (length xs)) xs in
     stored_after d at (least_control tag (length xs)) xs (omega arith)
 
-pub field_before : (d : List ℕ) (start tag n size : ℕ) (xs after : List ℕ) → n ≡ length xs → size ≡ length (least_control tag n)
-    → length (least_control tag n) + n ≤ start → start ≤ length d
-    → after ≡ stored (stored d (start - n - size) (least_control tag n)) (start - n) xs
-    → Before d start (field tag xs) (start - n - size) after
-field_before d start tag n size xs after en es h k s =
+pub field_before : (d : List ℕ) (start tag n at contents : ℕ) (xs after : List ℕ) → n ≡ length xs → at ≡ start - n - length (least_control tag n)
+    → contents ≡ start - n → length (least_control tag n) + n ≤ start → start ≤ length d
+    → after ≡ stored (stored d at (least_control tag n)) contents xs
+    → Before d start (field tag xs) at after
+field_before d start tag n at contents xs after en ea ec h k s =
     let l = field_length tag xs in
     let same : least_control tag n ≡ least_control tag (length xs) = ap (least_control tag) en in
     let m : length (least_control tag n) ≡ length (least_control tag (length xs)) = ap length same in
-    let p : start - n - size ≡ start - length (field tag xs) = omega arith in
-    let q : start - n ≡ start - length (field tag xs) + length (least_control tag (length xs)) = omega arith in
+    let p : at ≡ start - length (field tag xs) = omega arith in
+    let q : contents ≡ start - length (field tag xs) + length (least_control tag (length xs)) = omega arith in
     record {
       place = p;
       buffer = s ∙ rw (p, same, q) (field_joined d (start - length (field tag xs)) tag xs (omega arith));

@@ -7,13 +7,15 @@ use mathlib.Core.List.{List}
 use lib.ListN.{length, take, get_or, replicate}
 use lib.Seq.{take_at}
 use lib.Dec.{eqb, leb}
-use borrow.Author.Tests.{eqb-true, eqb-false, eq-eqb, ne_eqb, le-leb, lt-leb}
+use borrow.Author.Tests.{eqb-true, eqb-false, eq-eqb, le-leb, lt-leb}
 use Rattle.reading.specs.Reading.{message_limit}
+use Rattle.reading.specs.declared.Fault.{Fault}
+use Rattle.reading.specs.declared.Refusal.TheVariants as Refusal
+use Rattle.std.specs.Prelude.{Err}
 use Rattle.octets.specs.Number.{Octets}
 use Rattle.octets.proofs.Bools.{and_left, and_right, and_both}
 use Rattle.table.specs.Load.{place_at, record_at, word_at, well_formed, words_before, table_of, accepted, refused, load}
 use Rattle.table.specs.Repeat.{distinct}
-use Rattle.table.specs.Schema.{is_revision}
 use Rattle.table.specs.Valid.{all_in_range, valid}
 use Rattle.table.specs.declared.Table.{Table}
 use Rattle.table.proofs.Load.{words_at, length_words}
@@ -21,26 +23,20 @@ use Rattle.table.proofs.LoadResults.{loaded_valid}
 use Rattle.table.proofs.Valid.{parts}
 use Rattle.table_index.specs.internal.Cells.{word_under, inserted_before, prefix_end, prefix_length, inserted_words, cell_for}
 use Rattle.table_index.proofs.IndexLaws.{octets_accepted, octets_refused, octets_few, words_used}
-use Rattle.writer_state.specs.Calls.{mask, level, begun, start_refusal, started}
+use Rattle.writer_state.specs.Calls.{or_refuse, mask, level, begun, start_refusal, started}
+use Rattle.writer_state.specs.Results.{written}
+use Rattle.writer_state.specs.internal.Starts.{begins}
 use Rattle.writer_state.specs.ByOctets.{by_octets, refused_at, started_octets, usable}
 use Rattle.writer_state.specs.Sound.{sound}
-use Rattle.writer_state.specs.internal.Found.{none_at, found_under, found_octets}
+use Rattle.writer_state.specs.internal.Found.{FoundAnswer, found_answer, none_at, found_under, found_octets, IsIndex}
 use Rattle.writer_state.specs.internal.Tags.{cell_kind}
 use Rattle.writer_state.specs.declared.State.{State}
-use Rattle.writer_state.specs.declared.Tagged.{Tagged}
 use Rattle.writer_state.specs.declared.Written.{Written}
-use Rattle.writer_state.specs.declared.by_octets.Found.{Found}
-use Rattle.writer_state.proofs.CallResults.{refused_result, accepted_result}
-use Rattle.writer_state.proofs.Refusals.{start_revision, start_number, start_not_refused}
 use Rattle.writer_state.proofs.TagKinds.{tag_known}
 
 -- ---- a state that a call can use
 
 module _ (s : State) (len : ℕ) where
-  pub other_unusable : (len ≡ s.length → ⊥) → false ≡ usable s len
-  unfolding usable
-  other_unusable ne = rw (ne_eqb len s.length ne) refl
-
   pub usable_same : len ≡ s.length → sound s ≡ usable s len
   unfolding usable
   usable_same e = rw (eq-eqb len s.length e) refl
@@ -154,27 +150,24 @@ module _ (octets : List ℕ) (revision : ℕ) where
 -- ---- the answer of `tag_kind_by_octets`
 
 module _ (octets : List ℕ) (s : State) (len tag wanted : ℕ) where
-  abbrev under_table : Table → Found
+  abbrev under_table : Table → FoundAnswer
   under_table t = found_under t s len tag wanted
 
-  pub tag_unusable : {r : Found} → usable s len ≡ false → r ≡ none_at 10 0 → r ≡ found_octets octets s len tag wanted
-  unfolding found_octets
-  tag_unusable u q = q ∙ sym (by_before (usable s len) 10 octets under_table none_at u)
+  pub tag_unusable : usable s len ≡ false
+      → ◌≡◌ {A = FoundAnswer} (record { place = 0; tagged = record { refusal = 10; kind = 0; inner = 0; mask = 0 } }) (found_octets octets s len tag wanted)
+  unfolding found_octets none_at
+  tag_unusable u = sym (by_before (usable s len) 10 octets under_table none_at u)
 
-  module _ (u : usable s len ≡ true) (end : ℕ) (ended : end ≡ place_at octets (count octets s.revision)) where
-    pub tag_faulty : {r : Found} → end < length octets → r ≡ none_at 2 end → r ≡ found_octets octets s len tag wanted
+  module _ (u : usable s len ≡ true) where
+    pub tag_faulty : (f : Fault) → f.refusal ≡ Refusal.Table → load octets ≡ refused f.place → found_answer (Err f) ≡ found_octets octets s len tag wanted
+    unfolding found_octets none_at
+    tag_faulty f e l = rw e (sym (by_refused (usable s len) 10 octets under_table none_at u f.place l))
+
+    pub tag_loaded : {cells : List ℕ} → IsIndex octets s.revision cells → {r : FoundAnswer}
+        → r ≡ record { place = 0; tagged = cell_kind (cell_for cells (level s) tag) (mask s) wanted } → r ≡ found_octets octets s len tag wanted
     unfolding found_octets
-    tag_faulty l q = q ∙ sym (by_refused (usable s len) 10 octets under_table none_at u end (index_refused octets s.revision end ended l))
-
-    pub tag_loaded : {r : Tagged} → length octets ≤ end → Octets octets → {cells : List ℕ}
-        → cells ≡ inserted_before (λ i. word_under s.revision (word_at octets i)) (replicate 128 0) (count octets s.revision)
-        → r ≡ cell_kind (cell_for cells (level s) tag) (mask s) wanted → ◌≡◌ {A = Found} (record { place = 0; tagged = r }) (found_octets octets s len tag wanted)
-    unfolding found_octets found_under
-    tag_loaded l o filled q =
-        let z = index_loads octets s.revision end ended l in
-        let known = tag_known (load octets).table s tag (valid_loaded octets o z) (index_filled octets s.revision end ended l o filled) len wanted
-        (same_length s len u) (sym (usable_sound s len u)) refl refl q in
-        rw known (sym (by_loaded (usable s len) 10 octets under_table none_at u z))
+    tag_loaded i q =
+        tag_known (load octets).table s tag i.good i.filled len wanted u q ∙ sym (by_loaded (usable s len) 10 octets under_table none_at u i.loads)
 
 -- ---- the answer of `start_by_octets`
 
@@ -182,50 +175,19 @@ module _ (octets : List ℕ) (revision number len : ℕ) where
   abbrev start_under : Table → Written
   start_under t = started t revision number len
 
-  abbrev zeros : State
-  zeros = begun 0 0 0
-
-  pub octets_long : message_limit < len → {r : Written} {s : State} → s ≡ zeros → r ≡ record { refusal = 1; place = 0; state = s }
-      → r ≡ started_octets octets revision number len
+  pub start_long : message_limit < len → ◌≡◌ {A = Written} (record { refusal = 1; place = 0; state = begun 0 0 0 }) (started_octets octets revision number len)
   unfolding started_octets refused_at
-  octets_long h p q =
-      q ∙ rw p (sym (by_before (leb len message_limit) 1 octets start_under (refused_at zeros) (lt-leb len message_limit h)))
+  start_long h = sym (by_before (leb len message_limit) 1 octets start_under (refused_at (begun 0 0 0)) (lt-leb len message_limit h))
 
-  module _ (h : len ≤ message_limit) (end : ℕ) (ended : end ≡ place_at octets (count octets 1)) where
-    pub octets_faulty : end < length octets → {r : Written} {s : State} → s ≡ zeros → r ≡ record { refusal = 2; place = end; state = s }
-        → r ≡ started_octets octets revision number len
+  module _ (h : len ≤ message_limit) where
+    pub start_faulty : (f : Fault) → f.refusal ≡ Refusal.Table → load octets ≡ refused f.place
+        → written (begun 0 0 0) (Err f) ≡ started_octets octets revision number len
     unfolding started_octets refused_at
-    octets_faulty l p q =
-        q ∙ rw p (sym (by_refused (leb len message_limit) 1 octets start_under (refused_at zeros) (le-leb len message_limit h) end (index_refused octets 1 end ended l)))
+    start_faulty f e l =
+        rw e (sym (by_refused (leb len message_limit) 1 octets start_under (refused_at (begun 0 0 0)) (le-leb len message_limit h) f.place l))
 
-    module _ (l : length octets ≤ end) (o : Octets octets) where
-      good : true ≡ valid (load octets).table
-      good = sym (valid_loaded octets o (index_loads octets 1 end ended l))
-
-      octets_loaded : started (load octets).table revision number len ≡ started_octets octets revision number len
-      unfolding started_octets
-      octets_loaded = sym (by_loaded (leb len message_limit) 1 octets start_under (refused_at zeros) (le-leb len message_limit h) (index_loads octets 1 end ended l))
-
-      -- The revision or the number is refused.
-      numbers_refused : 2 ≡ start_refusal (load octets).table revision number len → {r : Written} {s : State} → s ≡ zeros
-          → r ≡ record { refusal = 2; place = 0; state = s } → r ≡ started_octets octets revision number len
-      unfolding started
-      numbers_refused e {r} {s} p q =
-          q ∙ refused_result 2 (start_refusal (load octets).table revision number len) zeros (begun len revision number) s e (λ z. omega arith) p ∙ octets_loaded
-
-      pub octets_revision : false ≡ is_revision revision → {r : Written} {s : State} → s ≡ zeros → r ≡ record { refusal = 2; place = 0; state = s }
-          → r ≡ started_octets octets revision number len
-      octets_revision e = numbers_refused (start_revision (load octets).table revision number len h good e)
-
-      module _ (v : true ≡ is_revision revision) where
-        pub octets_number : 15 < number → {r : Written} {s : State} → s ≡ zeros → r ≡ record { refusal = 2; place = 0; state = s }
-            → r ≡ started_octets octets revision number len
-        octets_number n = numbers_refused (start_number (load octets).table revision number len h good v n)
-
-        pub octets_begun : number ≤ 15 → {s : State} → s ≡ begun len revision number
-            → ◌≡◌ {A = Written} (record { refusal = 0; place = 0; state = s }) (started_octets octets revision number len)
-        unfolding started
-        octets_begun n {s} p =
-            accepted_result (start_refusal (load octets).table revision number len) zeros (begun len revision number) s
-            (sym (start_not_refused (load octets).table revision number len h good v n)) p
-            ∙ octets_loaded
+    pub start_loaded : {cells : List ℕ} → IsIndex octets 1 cells → begins len revision number ≡ started_octets octets revision number len
+    unfolding started_octets begins started start_refusal or_refuse
+    start_loaded i =
+        let e : begins len revision number ≡ start_under (load octets).table = rw (le-leb len message_limit h, i.good) refl in
+        e ∙ sym (by_loaded (leb len message_limit) 1 octets start_under (refused_at (begun 0 0 0)) (le-leb len message_limit h) i.loads)

@@ -1,7 +1,6 @@
 pub mod Levels
 pub mod SoundStates
 pub mod Tags
-pub mod Refusals
 pub mod Conditions
 pub mod CallResults
 pub mod Added

@@ -1,110 +1,110 @@
 -- The refusals that put and open share, case by case, and the answers of `cell_kind` and `tag_kind`.
-use Prim.Native.Nat.{ℕ, ◌%◌, ◌≤◌, ◌<◌}
+use Prim.Native.Nat.{ℕ, ◌≤◌, ◌<◌}
 use native.Mathlib.Omega.{arith}
 use mathlib.Core.Path.{◌≡◌, refl, sym, ap, ◌∙◌}
-use mathlib.Core.Bool.{Bool, true, false, cond, not, false≢true}
+use mathlib.Core.Bool.{Bool, true, false, cond, not, ◌&&◌, false≢true}
 use mathlib.Core.List.{List}
 use lib.ListN.{take, replicate}
 use lib.Dec.{eqb, leb}
-use borrow.Author.Tests.{eq-eqb, ne_eqb, eqb-true, eqb-false, le-leb}
+use borrow.Author.Tests.{eq-eqb, eqb-true, eqb-false, le-leb}
 use Rattle.table.specs.Entry.{entries, kind_number, inner_of}
-use Rattle.table.specs.Mask.{order, has_bit, with_bit}
+use Rattle.table.specs.Mask.{order}
 use Rattle.table.specs.Schema.{Schema}
 use Rattle.table.specs.Valid.{valid}
 use Rattle.table.specs.declared.Meaning.{Meaning}
+use Rattle.table.specs.declared.Meaning.TheVariants.{Raw, Uint, Int, String, Text, Message}
 use Rattle.table.specs.declared.Table.{Table}
 use Rattle.table_index.specs.internal.Cells.{meaning_in, single_in, order_in, inserted_words, cell_for, indexed, noted_in, note_in}
 use Rattle.table_index.proofs.IndexLaws.{table_schema, table_order}
 use Rattle.table_index.proofs.Meanings.{single_none}
 use Rattle.writer_state.specs.Sound.{sound}
 use Rattle.writer_state.specs.Calls.{or_refuse, level, mask, meant, single, noted, mask_with, of_octets, put_refusal, open_refusal}
-use Rattle.writer_state.specs.internal.Tags.{fits, or_known, tag_kind, cell_kind}
+use Rattle.writer_state.specs.ByOctets.{usable}
+use Rattle.writer_state.specs.internal.Found.{FoundAnswer, found_under}
+use Rattle.writer_state.specs.internal.Tags.{TagAnswer, fits, or_known, tag_kind, cell_kind}
 use Rattle.writer_state.specs.declared.State.{State}
-use Rattle.writer_state.specs.declared.Tagged.{Tagged}
 use Rattle.writer_state.proofs.Conditions.{put_met}
 use Rattle.writer_state.proofs.Tags.{narrow_kind, narrow_octets}
 
 -- ---- the kind that a call wants
 
-pub octets_string : (k : ℕ) → k ≡ 3 → true ≡ of_octets k
-unfolding of_octets
-octets_string k e = rw (eq-eqb k 3 e) refl
+pub other_octets : (k : Meaning) → (k ≡ String → ⊥) → (k ≡ Text → ⊥) → false ≡ of_octets (kind_number k)
+unfolding of_octets kind_number
+other_octets Raw s t = refl
+other_octets Uint s t = refl
+other_octets Int s t = refl
+other_octets String s t = absurd (s refl)
+other_octets Text s t = absurd (t refl)
+other_octets (Message m) s t = refl
 
-pub octets_other : (k : ℕ) → (k ≡ 3 → ⊥) → eqb k 4 ≡ of_octets k
-unfolding of_octets
-octets_other k ne = rw (ne_eqb k 3 ne) refl
+pub other_uint : (k : Meaning) → (k ≡ Uint → ⊥) → false ≡ fits 1 (kind_number k)
+unfolding fits kind_number
+other_uint Uint n = absurd (n refl)
+other_uint Raw n = refl
+other_uint Int n = refl
+other_uint String n = refl
+other_uint Text n = refl
+other_uint (Message m) n = refl
 
-pub fits_octets : (wanted kind : ℕ) → wanted ≡ 3 → of_octets kind ≡ fits wanted kind
-unfolding fits
-fits_octets wanted kind e = rw (eq-eqb wanted 3 e) refl
+pub other_int : (k : Meaning) → (k ≡ Int → ⊥) → false ≡ fits 2 (kind_number k)
+unfolding fits kind_number
+other_int Int n = absurd (n refl)
+other_int Raw n = refl
+other_int Uint n = refl
+other_int String n = refl
+other_int Text n = refl
+other_int (Message m) n = refl
 
-pub fits_kind : (wanted kind : ℕ) → (wanted ≡ 3 → ⊥) → eqb kind wanted ≡ fits wanted kind
-unfolding fits
-fits_kind wanted kind ne = rw (ne_eqb wanted 3 ne) refl
+pub other_message : (k : Meaning) → ((m : ℕ) → k ≡ Message m → ⊥) → false ≡ fits 5 (kind_number k)
+unfolding fits kind_number
+other_message (Message m) n = absurd (n m refl)
+other_message Raw n = refl
+other_message Uint n = refl
+other_message Int n = refl
+other_message String n = refl
+other_message Text n = refl
 
--- ---- the note of a tag
-
-module _ (mask c : ℕ) where
-  twice : c % 64 % 64 ≡ c % 64
-  twice = omega arith
-
-  pub noted_many : single_in c ≡ false → false ≡ noted_in mask c
-  unfolding noted_in
-  noted_many e = rw e refl
-
-  pub noted_single : single_in c ≡ true → has_bit mask (order_in c % 64) ≡ noted_in mask c
-  unfolding noted_in order_in
-  noted_single e = rw (e, twice) refl
-
-  pub note_many : single_in c ≡ false → mask ≡ note_in mask c
-  unfolding note_in
-  note_many e = rw e refl
-
-  pub note_single : single_in c ≡ true → with_bit mask (order_in c % 64) ≡ note_in mask c
-  unfolding note_in order_in
-  note_single e = rw (e, twice) refl
-
--- ---- what a cell tells
-
-module _ (c mask wanted : ℕ) where
-  abbrev agrees_in : Bool
-  agrees_in = fits wanted (kind_number (meaning_in c))
-
-  pub cell_other : {r : Tagged} → agrees_in ≡ false → r ≡ record { refusal = 8; kind = 0; inner = 0; mask = 0 } → r ≡ cell_kind c mask wanted
-  unfolding cell_kind or_known or_refuse
-  cell_other e q = q ∙ rw e refl
-
-  module _ (a : agrees_in ≡ true) where
-    pub cell_repeated : {r : Tagged} → noted_in mask c ≡ true → r ≡ record { refusal = 20; kind = 0; inner = 0; mask = 0 } → r ≡ cell_kind c mask wanted
-    unfolding cell_kind or_known or_refuse
-    cell_repeated e q = q ∙ rw (a, e) refl
-
-    pub cell_known : {k i m : ℕ} → noted_in mask c ≡ false → k ≡ kind_number (meaning_in c) → i ≡ inner_of (meaning_in c) → m ≡ note_in mask c
-        → record { refusal = 0; kind = k; inner = i; mask = m } ≡ cell_kind c mask wanted
-    unfolding cell_kind or_known or_refuse
-    cell_known e f g h = rw (a, e, f, g, h) refl
+pub inner_none : (k : Meaning) → ((m : ℕ) → k ≡ Message m → ⊥) → 0 ≡ inner_of k
+unfolding inner_of
+inner_none (Message m) n = absurd (n m refl)
+inner_none Raw n = refl
+inner_none Uint n = refl
+inner_none Int n = refl
+inner_none String n = refl
+inner_none Text n = refl
 
 -- ---- a put of no octets
 
-module _ (t : Table) (s : State) (tag len : ℕ) (agrees : Bool) where
-  pub early_other : (len ≡ s.length → ⊥) → 10 ≡ put_refusal t s tag len agrees true 0
-  unfolding put_refusal or_refuse
-  early_other ne = rw (ne_eqb len s.length ne) refl
+pub unusable : (a b : Bool) (next : ℕ) → a && b ≡ false → or_refuse a 10 (or_refuse b 10 next) ≡ 10
+unfolding or_refuse
+unusable true b next e = rw e refl
+unusable false b next e = refl
 
-  module _ (a : len ≡ s.length) where
-    pub early_unsound : false ≡ sound s → 10 ≡ put_refusal t s tag len agrees true 0
-    unfolding put_refusal or_refuse
-    early_unsound e = rw (eq-eqb len s.length a, ← e) refl
+pub usable_passed : (a b : Bool) (next : ℕ) → a && b ≡ true → or_refuse a 10 (or_refuse b 10 next) ≡ next
+unfolding or_refuse
+usable_passed true b next e = rw e refl
+usable_passed false b next e = absurd (false≢true e)
 
-    module _ (b : true ≡ sound s) where
-      pub early_table : false ≡ valid t → 2 ≡ put_refusal t s tag len agrees true 0
-      unfolding put_refusal or_refuse
-      early_table e = rw (eq-eqb len s.length a, ← b, ← e) refl
+module _ (t : Table) (s : State) (len tag wanted : ℕ) where
+  abbrev suits : Bool
+  suits = fits wanted (kind_number (meant t s tag))
 
-      -- The tag decides.
-      early_tag : true ≡ valid t → or_refuse agrees 8 (or_refuse (not (noted t s tag)) 20 0) ≡ put_refusal t s tag len agrees true 0
-      unfolding put_refusal or_refuse
-      early_tag d = rw (eq-eqb len s.length a, ← b, ← d, le-leb 0 s.start (omega arith)) refl
+  abbrev late : ℕ
+  late = or_refuse suits 8 (or_refuse (not (noted t s tag)) 20 (or_refuse true 7 (or_refuse (leb 0 s.start) 9 0)))
+
+  pub under_unusable : false ≡ usable s len → ◌≡◌ {A = FoundAnswer} (record { place = 0; tagged = record { refusal = 10; kind = 0; inner = 0; mask = 0 } }) (found_under t s len tag wanted)
+  unfolding found_under tag_kind or_known put_refusal usable
+  under_unusable u = rw (unusable (eqb len s.length) (sound s) (or_refuse (valid t) 2 late) (sym u)) refl
+
+  module _ (u : usable s len ≡ true) where
+    pub under_faulty : valid t ≡ false → ◌≡◌ {A = FoundAnswer} (record { place = 0; tagged = record { refusal = 2; kind = 0; inner = 0; mask = 0 } }) (found_under t s len tag wanted)
+    unfolding found_under tag_kind or_known put_refusal usable
+    under_faulty v = rw (usable_passed (eqb len s.length) (sound s) (or_refuse (valid t) 2 late) u, v) (unfold or_refuse in refl)
+
+    -- The tag decides.
+    early_tag : valid t ≡ true → or_refuse suits 8 (or_refuse (not (noted t s tag)) 20 0) ≡ put_refusal t s tag len suits true 0
+    unfolding put_refusal usable
+    early_tag v = sym (usable_passed (eqb len s.length) (sound s) (or_refuse (valid t) 2 late) u ∙ unfold or_refuse in rw (v, le-leb 0 s.start (omega arith)) refl)
 
 -- ---- after it
 
@@ -204,57 +204,48 @@ module _ (t : Table) (s : State) (tag : ℕ) {cells : List ℕ} (v : valid t ≡
       go true e = rw (← cell_single, e, cell_order e) refl
       go false e = rw (← cell_single, e) refl
 
-  pub tag_known : {r : Tagged} {c m : ℕ} (len wanted : ℕ) → len ≡ s.length → true ≡ sound s → c ≡ cell → m ≡ mask s → r ≡ cell_kind c m wanted
-      → r ≡ tag_kind t s len tag wanted
-  unfolding cell_kind tag_kind
-  tag_known len wanted a b p q e =
-      e ∙ rw (p, q, cell_means, cell_noted, cell_note, early_tag t s tag len (fits wanted (kind_number (meant t s tag))) a b (sym v)) refl
+  pub tag_known : (len wanted : ℕ) → usable s len ≡ true → {r : FoundAnswer} → r ≡ record { place = 0; tagged = cell_kind cell (mask s) wanted }
+      → r ≡ found_under t s len tag wanted
+  unfolding cell_kind tag_kind found_under
+  tag_known len wanted u e = e ∙ rw (cell_means, cell_noted, cell_note, early_tag t s len tag wanted u v) refl
 
 module _ (t : Table) (s : State) (len tag wanted : ℕ) where
   abbrev means : Meaning
   means = meant t s tag
 
-  abbrev suits : Bool
-  suits = fits wanted (kind_number means)
-
-  pub tag_refused : {r : Tagged} {k : ℕ} → (k ≡ 0 → ⊥) → k ≡ put_refusal t s tag len suits true 0
-      → r ≡ record { refusal = k; kind = 0; inner = 0; mask = 0 } → r ≡ tag_kind t s len tag wanted
-  unfolding tag_kind or_known
-  tag_refused {r} {k} ne e q = q ∙ rw (← e, ne_eqb k 0 ne) refl
-
   -- What the answer of `tag_kind` tells.
-  pub record TagRead (r : Tagged) : Type 0 where
-    pub refused : r.refusal ≡ put_refusal t s tag len suits true 0
+  pub record TagRead (r : TagAnswer) : Type 0 where
+    pub refused : r.refusal ≡ put_refusal t s tag len (suits t s len tag wanted) true 0
     pub kind : r.refusal ≡ 0 → r.kind ≡ kind_number means
     pub inner : r.refusal ≡ 0 → r.inner ≡ inner_of means
     pub mask : r.refusal ≡ 0 → r.mask ≡ mask_with t s tag
 
-  pub tag_read : {r : Tagged} → r ≡ tag_kind t s len tag wanted → TagRead r
+  pub tag_read : {r : TagAnswer} → r ≡ tag_kind t s len tag wanted → TagRead r
   unfolding tag_kind or_known
-  tag_read {r} e = go (put_refusal t s tag len suits true 0) refl (eqb (put_refusal t s tag len suits true 0) 0) refl e
+  tag_read {r} e = go (put_refusal t s tag len (suits t s len tag wanted) true 0) refl (eqb (put_refusal t s tag len (suits t s len tag wanted) true 0) 0) refl e
     where
-      go : (k : ℕ) → put_refusal t s tag len suits true 0 ≡ k → (b : Bool) → eqb k 0 ≡ b
+      go : (k : ℕ) → put_refusal t s tag len (suits t s len tag wanted) true 0 ≡ k → (b : Bool) → eqb k 0 ≡ b
           → r ≡ cond b (record { refusal = 0; kind = kind_number means; inner = inner_of means; mask = mask_with t s tag }) (record { refusal = k; kind = 0; inner = 0; mask = 0 })
           → TagRead r
       go k p true q f =
           record {
-            refused = ap (λ (x : Tagged). x.refusal) f ∙ sym (p ∙ eqb-true k 0 q);
-            kind = λ z. ap (λ (x : Tagged). x.kind) f;
-            inner = λ z. ap (λ (x : Tagged). x.inner) f;
-            mask = λ z. ap (λ (x : Tagged). x.mask) f;
+            refused = ap (λ (x : TagAnswer). x.refusal) f ∙ sym (p ∙ eqb-true k 0 q);
+            kind = λ z. ap (λ (x : TagAnswer). x.kind) f;
+            inner = λ z. ap (λ (x : TagAnswer). x.inner) f;
+            mask = λ z. ap (λ (x : TagAnswer). x.mask) f;
           }
       go k p false q f =
-          let n : r.refusal ≡ k = ap (λ (x : Tagged). x.refusal) f in
+          let n : r.refusal ≡ k = ap (λ (x : TagAnswer). x.refusal) f in
           let bad : r.refusal ≡ 0 → ⊥ = λ z. eqb-false k 0 q (sym n ∙ z) in
           record { refused = n ∙ sym p; kind = λ z. absurd (bad z); inner = λ z. absurd (bad z); mask = λ z. absurd (bad z) }
 
   -- A tag of the kind that a call wants is in range.
-  pub tag_narrow : {r : Tagged} → 1 ≤ wanted → r ≡ tag_kind t s len tag wanted → r.refusal ≡ 0 → tag < 65536
+  pub tag_narrow : {r : TagAnswer} → 1 ≤ wanted → r ≡ tag_kind t s len tag wanted → r.refusal ≡ 0 → tag < 65536
   unfolding fits
   tag_narrow {r} low e z = go (eqb wanted 3) refl agreed
     where
-      agreed : suits ≡ true
-      agreed = (put_met t s tag len suits true 0 (sym (tag_read e).refused ∙ z)).agreed
+      agreed : suits t s len tag wanted ≡ true
+      agreed = (put_met t s tag len (suits t s len tag wanted) true 0 (sym (tag_read e).refused ∙ z)).agreed
 
       go : (b : Bool) → eqb wanted 3 ≡ b → cond b (of_octets (kind_number means)) (eqb (kind_number means) wanted) ≡ true → tag < 65536
       go true q h = narrow_octets t s tag (kind_number means) refl h

@@ -3,7 +3,7 @@ use Rattle.std.specs.Prelude.{ℕ, List, ℤ}
 use Rattle.table.specs.declared.Table.{Table}
 use Rattle.writer_state.specs.declared.State.{State}
 use Rattle.writer_state.specs.declared.Written.{Written}
-use Rattle.writer_state.specs.declared.Finished.{Finished}
+use Rattle.writer_state.specs.Finished.{Finished}
 
 -- A call between start and finish, with what the caller gives beside the table, the state and the buffer: a tag, and a value.
 pub data Call : Type 0 where

@@ -15,7 +15,7 @@ use Rattle.octets_store.specs.Store.{stored}
 use Rattle.writer_state.specs.Sound.{sound}
 use Rattle.writer_state.specs.declared.State.{State}
 use Rattle.writer_state.specs.declared.Written.{Written}
-use Rattle.writer_state.specs.declared.Finished.{Finished}
+use Rattle.writer_state.specs.Finished.{Finished}
 
 -- A test, the refusal if it fails, and the next test if it holds. A chain of these ends with 0, no refusal.
 unfoldable pub or_refuse : Bool → ℕ → ℕ → ℕ

@@ -1,2 +1,3 @@
 pub mod Tags
 pub mod Found
+pub mod Starts

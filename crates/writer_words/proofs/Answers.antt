@@ -9,8 +9,8 @@ use Rattle.writer_state.specs.Calls.{finished}
 use Rattle.writer_state.specs.ByOctets.{started_octets, answer_octets, buffer_octets}
 use Rattle.writer_state.specs.declared.State.{State}
 use Rattle.writer_state.specs.declared.Written.{Written}
-use Rattle.writer_state.specs.declared.Finished.{Finished}
-use Rattle.writer_words.specs.Words.{state_of, words_after, used_after, array_after, start_words, call_words, call_buffer, finish_words}
+use Rattle.writer_state.specs.Finished.{Finished}
+use Rattle.writer_words.specs.Words.{state_of, words_after, array_after, start_words, call_words, call_buffer, finish_words}
 
 module _ (octets : List ℕ) (revision number len : ℕ) (ws : List ℕ) where
   pub start_other : (length ws ≡ 34 → ⊥) → {after : List ℕ} → after ≡ replicate (length ws) 0
@@ -23,21 +23,11 @@ module _ (octets : List ℕ) (revision number len : ℕ) (ws : List ℕ) where
   unfolding start_words words_after
   start_stored e p q = rw (q, p, eq-eqb (length ws) 34 e) refl
 
--- The array after a call.
-module _ (ws : List ℕ) (w : Written) where
-  pub refused_array : (w.refusal ≡ 0 → ⊥) → ws ≡ array_after ws w
-  unfolding array_after
-  refused_array ne = rw (ne_eqb w.refusal 0 ne) refl
-
-  pub accepted_array : w.refusal ≡ 0 → used_after ws w.state ≡ array_after ws w
-  unfolding array_after
-  accepted_array z = rw (eq-eqb w.refusal 0 z) refl
-
 module _ (octets ws d : List ℕ) (c : Call) {s : State} (e : s ≡ state_of ws) where
-  pub called : {w : Written} {after : List ℕ} → w ≡ answer_octets octets s d c → after ≡ array_after ws w
-      → call_words octets ws d c ≡ record { refusal = w.refusal; place = w.place; array = after }
+  pub called : {w : Written} {r p : ℕ} {after : List ℕ} → w ≡ answer_octets octets s d c → r ≡ w.refusal → p ≡ w.place → after ≡ array_after ws w
+      → call_words octets ws d c ≡ record { refusal = r; place = p; array = after }
   unfolding call_words
-  called p q = rw (q, p, e) refl
+  called q x y z = rw (x, y, z, q, e) refl
 
   pub called_buffer : {after : List ℕ} → after ≡ buffer_octets octets s d c → after ≡ call_buffer octets ws d c
   unfolding call_buffer

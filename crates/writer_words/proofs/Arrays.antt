@@ -1,20 +1,21 @@
 -- A state and its array.
-use Prim.Native.Nat.{ℕ, zero, suc, ◌+◌, ◌%◌, ◌≤◌, ◌<◌}
+use Prim.Native.Nat.{ℕ, min, zero, suc, ◌+◌, ◌-◌, ◌%◌, ◌≤◌}
 use native.Mathlib.Omega.{arith}
 use native.Mathlib.Nat.{zero-add}
-use native.Mathlib.Numerals.{add-one}
 use mathlib.Core.Path.{◌≡◌, refl, sym, ap, ◌∙◌}
 use mathlib.Core.Bool.{Bool, true, false, ◌&&◌}
 use mathlib.Core.List.{List, [], ◌∷◌, ◌++◌, append-nil, append_assoc, map}
-use lib.ListN.{length, get_or, set, take, drop, replicate, length-set, length-append, length-drop, length-replicate, replicate-append-replicate, drop_of_length-le, take-append-drop}
-use lib.Seq.{length-take-le, take-add, take_all, take_at, drop_at, drop-drop, drop-cons, drop-length, set_at, append_snoc, get_or-drop}
+use lib.ListN.{length, get_or, take, drop, length-append, length-drop, drop_of_length-le, take-append-drop}
+use lib.Seq.{length-take-le, take-add, take_all, take_at, drop_at, drop-drop, get_or-drop}
 use lib.Dec.{eqb, leb}
-use borrow.Author.Tests.{eqb-true, eq-eqb, ne_eqb, le-leb, lt-leb, leb-true}
+use borrow.Author.Tests.{eqb-true, eq-eqb, ne_eqb, le-leb, leb-true, leb-false}
 use Rattle.octets.proofs.Bools.{and_left, and_right, and_both}
 use Rattle.octets_store.specs.Store.{stored}
 use Rattle.octets_store.proofs.Stores.{stored_parts, stored_after}
 use Rattle.writer_state.specs.Calls.{begun}
 use Rattle.writer_state.specs.declared.State.{State}
+use Rattle.std.specs.List.{list_all}
+use Rattle.writer_words.specs.internal.Tags.{tagged_after}
 use Rattle.writer_words.specs.Words.{at_most, untagged, words_of, holds, low, state_of, words_after, used_after}
 
 -- Numbers stored over a whole array are the array.
@@ -35,20 +36,12 @@ joined d xs ys n e h =
     let z : n ≡ 0 + length xs = omega arith in
     rw z (stored_after d 0 xs ys (omega arith))
 
--- ---- `at_most`
+-- ---- `holds`
 
-module _ (limit : ℕ) (ns : List ℕ) (i : ℕ) where
-  pub most_ends : length ns ≤ i → true ≡ at_most limit (drop i ns)
-  unfolding at_most
-  most_ends h = rw (drop_of_length-le ns {i = i} h) refl
-
-  pub most_over : i < length ns → limit < get_or ns i 0 → false ≡ at_most limit (drop i ns)
-  unfolding at_most
-  most_over h o = rw (drop-cons ns i 0 h, lt-leb (get_or ns i 0) limit o) refl
-
-  pub most_moves : i < length ns → get_or ns i 0 ≤ limit → at_most limit (drop i ns) ≡ at_most limit (drop (i + 1) ns)
-  unfolding at_most
-  most_moves h l = rw (drop-cons ns i 0 h, le-leb (get_or ns i 0) limit l, add-one i) refl
+pub all_most : (limit : ℕ) (ns : List ℕ) → list_all (λ n. leb n limit) ns ≡ at_most limit ns
+unfolding at_most
+all_most limit [] = refl
+all_most limit (n ∷ ns) = ap (λ b. leb n limit && b) (all_most limit ns)
 
 -- ---- `state_of`
 
@@ -58,13 +51,16 @@ module _ (ws : List ℕ) where
   other_unheld ne = rw (ne_eqb (length ws) 34 ne) refl
 
   module _ (e : length ws ≡ 34) where
-    pub open_unheld : 7 < get_or ws 2 0 → holds ws ≡ false
+    pub tags_hold : get_or ws 2 0 ≤ 7 → list_all (λ n. leb n 65535) (take (27 + get_or ws 2 0 - 27) (drop 27 ws)) ≡ holds ws
     unfolding holds
-    open_unheld h = rw (eq-eqb (length ws) 34 e, lt-leb (get_or ws 2 0) 7 h) refl
+    tags_hold h =
+        let n = get_or ws 2 0 in
+        let k : 27 + n - 27 ≡ n = omega arith in
+        rw (k, eq-eqb (length ws) 34 e, le-leb n 7 h) (all_most 65535 (take n (drop 27 ws)))
 
-    pub tags_hold : get_or ws 2 0 ≤ 7 → {r : Bool} {n : ℕ} → n ≡ get_or ws 2 0 → r ≡ at_most 65535 (take n (drop 27 ws)) → holds ws ≡ r
+    held_by : get_or ws 2 0 ≤ 7 → at_most 65535 (take (get_or ws 2 0) (drop 27 ws)) ≡ true → holds ws ≡ true
     unfolding holds
-    tags_hold h k q = rw (q, k, eq-eqb (length ws) 34 e, le-leb (get_or ws 2 0) 7 h) refl
+    held_by h q = rw (q, eq-eqb (length ws) 34 e, le-leb (get_or ws 2 0) 7 h) refl
 
   pub unheld : holds ws ≡ false → {s : State} → s ≡ begun 0 0 0 → s ≡ state_of ws
   unfolding state_of
@@ -122,57 +118,37 @@ pub low_tags : (ws : List ℕ) → length ws ≡ 34 → (a b c d e f g : ℕ) �
     → a ∷ b ∷ c ∷ d ∷ e ∷ f ∷ g ∷ [] ≡ map low (take 7 (drop 27 ws))
 low_tags ws l a b c d e f g p q r s t u v = rw (p, q, r, s, t, u, v) (ap (map low) (seven_tags ws l))
 
--- ---- `clear`
-
--- The first i numbers of an array are 0, and the others as they were.
-pub record Cleared (d out : List ℕ) (i : ℕ) : Type 0 where
-  pub inside : i ≤ length d
-  pub long : length out ≡ length d
-  pub is : out ≡ replicate i 0 ++ drop i d
-
-pub clear_begun : (d : List ℕ) → Cleared d d 0
-clear_begun d = record { inside = omega arith; long = refl; is = refl }
-
-pub clear_step : (d out : List ℕ) (i : ℕ) → i < length out → Cleared d out i → Cleared d (set out i 0) (i + 1)
-clear_step d out i h c =
-    let l = c.long in
-    let k = c.inside in
-    let more : ◌++◌ {A = ℕ} (replicate i 0) (0 ∷ []) ≡ replicate (i + 1) 0 = replicate-append-replicate {A = ℕ} i 1 0 in
-    let next : suc i ≡ i + 1 = sym (add-one i) in
-    record {
-      inside = omega arith;
-      long = length-set out i 0 ∙ l;
-      is =
-          ap (λ (x : List ℕ). set x i 0) (c.is ∙ ap (λ (x : List ℕ). replicate i 0 ++ x) (drop-cons d i 0 (omega arith)))
-          ∙ set_at (replicate i 0) (get_or d i 0) (drop (suc i) d) 0 i (length-replicate i 0)
-          ∙ sym (append_snoc (replicate i 0) 0 (drop (suc i) d)) ∙ rw next (ap (λ (x : List ℕ). x ++ drop (i + 1) d) more);
-    }
-
-pub clear_ended : (d out : List ℕ) (i : ℕ) → length out ≤ i → Cleared d out i → out ≡ replicate (length d) 0
-clear_ended d out i h c =
-    let l = c.long in
-    let e : i ≡ length d = omega (arith, c.inside) in
-    c.is ∙ rw e (ap (λ (x : List ℕ). replicate (length d) 0 ++ x) (drop-length d) ∙ append-nil (replicate (length d) 0))
-
 -- ---- `store`
 
--- How many tags are stored: those in use, or all seven.
-pub record Stored (n : ℕ) (ws : List ℕ) (s : State) : Type 0 where
-  pub most : n ≤ 7
-  pub same : take n s.tags ≡ take s.opened s.tags
-  pub rest : drop (27 + n) ws ≡ drop (27 + s.opened) ws
+pub all_tags : (ws : List ℕ) (s : State) → length s.tags ≡ 7 → tagged_after ws s 7 ≡ words_after ws s
+unfolding tagged_after words_after words_of
+all_tags ws s d = go (eqb (length ws) 34) refl
+  where
+    go : (b : Bool) → eqb (length ws) 34 ≡ b → tagged_after ws s 7 ≡ words_after ws s
+    go true e =
+        let l = eqb-true (length ws) 34 e in
+        rw (e, take_all 7 s.tags (omega arith), drop_of_length-le ws {i = 34} (omega arith)) (append-nil (untagged s ++ s.tags))
+    go false e = rw e refl
 
-module _ (n : ℕ) (ws : List ℕ) (s : State) where
-  pub some_stored : n ≡ s.opened → s.opened < 7 → Stored n ws s
-  some_stored e h = record { most = omega arith; same = ap (λ (k : ℕ). take k s.tags) e; rest = ap (λ (k : ℕ). drop (27 + k) ws) e }
-
-  pub all_stored : length ws ≡ 34 → length s.tags ≡ 7 → n ≡ 7 → 7 ≤ s.opened → Stored n ws s
-  all_stored l k e h =
-      record {
-        most = omega arith;
-        same = take_all n s.tags (omega arith) ∙ sym (take_all s.opened s.tags (omega arith));
-        rest = drop_of_length-le ws {i = 27 + n} (omega arith) ∙ sym (drop_of_length-le ws {i = 27 + s.opened} (omega arith));
-      }
+pub used_tags : (ws : List ℕ) (s : State) → length s.tags ≡ 7 → tagged_after ws s (min s.opened 7) ≡ used_after ws s
+unfolding tagged_after used_after
+used_tags ws s d = go (eqb (length ws) 34) refl (leb s.opened 7) refl
+  where
+    go : (b : Bool) → eqb (length ws) 34 ≡ b → (f : Bool) → leb s.opened 7 ≡ f → tagged_after ws s (min s.opened 7) ≡ used_after ws s
+    go false e f g = rw e refl
+    go true e true g = let m : min s.opened 7 ≡ s.opened = omega (arith, leb-true s.opened 7 g) in rw (e, m) refl
+    go true e false g =
+        let l = eqb-true (length ws) 34 e in
+        let k = leb-false s.opened 7 g in
+        let m : min s.opened 7 ≡ 7 = omega arith in
+        rw (
+          e,
+          m,
+          take_all 7 s.tags (omega arith),
+          take_all s.opened s.tags (omega arith),
+          drop_of_length-le ws {i = 34} (omega arith),
+          drop_of_length-le ws {i = 27 + s.opened} (omega arith),
+        ) refl
 
 module _ (s : State) (a : length s.numbers ≡ 8) (b : length s.masks ≡ 8) (c : length s.marks ≡ 7) where
   abbrev first : List ℕ
@@ -203,24 +179,16 @@ module _ (s : State) (a : length s.numbers ≡ 8) (b : length s.masks ≡ 8) (c 
         let j2 : stored (stored ws 0 with_numbers) 12 s.masks ≡ stored ws 0 with_masks = joined ws with_numbers s.masks 12 (sym numbers_length) (omega arith) in
         rw (j1, j2) (joined ws with_masks s.marks 20 (sym masks_length) (omega arith))
 
-    pub words_stored : length s.tags ≡ 7 → {after : List ℕ} → after ≡ stored ws 0 (untagged s) → stored after 27 s.tags ≡ words_after ws s
-    unfolding words_after words_of
-    words_stored d q =
-        let l : length (untagged s ++ s.tags) ≡ 34 = length-append (untagged s) s.tags ∙ rw (untagged_length, d) refl in
-        rw (q, eq-eqb (length ws) 34 e, joined ws (untagged s) s.tags 27 (sym untagged_length) (omega arith))
-        (stored_whole ws (untagged s ++ s.tags) (l ∙ sym e))
-
-    -- The tags that are stored.
-    pub used_stored : length s.tags ≡ 7 → {after : List ℕ} → after ≡ stored ws 0 (untagged s) → {n k : ℕ} → k ≡ n → Stored n ws s
-        → stored after 27 (take k s.tags) ≡ used_after ws s
-    unfolding used_after
-    used_stored d q {n} z f =
+    -- Then n of the tags.
+    pub tags_stored : {after : List ℕ} → after ≡ stored ws 0 (untagged s) → (n : ℕ) → n ≤ length s.tags → length s.tags ≡ 7
+        → stored after 27 (take n s.tags) ≡ tagged_after ws s n
+    unfolding tagged_after
+    tags_stored q n h d =
         let xs : List ℕ = take n s.tags in
-        let h = f.most in
-        let k : length xs ≡ n = length-take-le n s.tags (omega arith) in
+        let k : length xs ≡ n = length-take-le n s.tags h in
         let l : 0 + length (untagged s ++ xs) ≡ 27 + n =
         zero-add (length (untagged s ++ xs)) ∙ length-append (untagged s) xs ∙ rw (untagged_length, k) refl in
-        rw (q, z, eq-eqb (length ws) 34 e, ← f.same, ← f.rest, joined ws (untagged s) xs 27 (sym untagged_length) (omega arith))
+        rw (q, eq-eqb (length ws) 34 e, joined ws (untagged s) xs 27 (sym untagged_length) (omega arith))
         (stored_parts ws 0 (untagged s ++ xs) (omega arith) ∙ rw l refl)
 
 -- An array of a state is then that of another state, if the two have the same tags but for those in use.
@@ -233,14 +201,6 @@ used_words s s' f e same =
     sym (drop-drop n 27 (untagged s ++ s.tags)) ∙ ap (drop n) (drop_at (untagged s) s.tags 27 f) ∙ sym same in
     rw (eq-eqb (length (untagged s ++ s.tags)) 34 e, rest)
     (append_assoc (untagged s') (take n s'.tags) (drop n s'.tags) ∙ ap (λ (x : List ℕ). untagged s' ++ x) (take-append-drop n s'.tags))
-
-pub used_other : (ws : List ℕ) (s : State) → (length ws ≡ 34 → ⊥) → ws ≡ used_after ws s
-unfolding used_after
-used_other ws s ne = rw (ne_eqb (length ws) 34 ne) refl
-
-pub words_other : (ws : List ℕ) (s : State) → (length ws ≡ 34 → ⊥) → ws ≡ words_after ws s
-unfolding words_after
-words_other ws s ne = rw (ne_eqb (length ws) 34 ne) refl
 
 -- ---- a state and its array tell the same
 
@@ -281,7 +241,7 @@ most_take limit (suc n) (x ∷ xs) e =
 pub words_state : (ws : List ℕ) → length ws ≡ 34 → get_or ws 2 0 ≤ 7 → at_most 65535 (drop 27 ws) ≡ true → words_of (state_of ws) ≡ ws
 unfolding words_of untagged
 words_state ws e few small =
-    let h = tags_hold ws e few refl refl ∙ most_take 65535 (get_or ws 2 0) (drop 27 ws) small in
+    let h = held_by ws e few (most_take 65535 (get_or ws 2 0) (drop 27 ws) small) in
     let whole : take 7 (drop 27 ws) ≡ drop 27 ws = take_all 7 (drop 27 ws) (let l = length-drop 27 ws in omega arith) in
     let tags : take 7 (drop 27 ws) ≡ map low (take 7 (drop 27 ws)) = sym (low_small (take 7 (drop 27 ws)) (ap (at_most 65535) whole ∙ small)) in
     ap words_of (sym (state_parts ws (take 8 (drop 4 ws)) (take 8 (drop 12 ws)) (take 7 (drop 20 ws)) (take 7 (drop 27 ws)) h refl refl refl tags))
@@ -311,7 +271,7 @@ module _ (a b c d : ℕ) (N M K T : List ℕ) (n : length N ≡ 8) (m : length M
   from_tags = sym (drop-drop 7 16 rest) ∙ ap (drop 7) from_marks ∙ drop_at K T 7 k
 
   held : holds array ≡ true
-  held = tags_hold array array_length few refl refl ∙ most_take 65535 c (drop 23 rest) (ap (at_most 65535) from_tags ∙ small)
+  held = held_by array array_length few (most_take 65535 c (drop 23 rest) (ap (at_most 65535) from_tags ∙ small))
 
   state_array : state_of array ≡ record { length = a; start = b; opened = c; revision = d; numbers = N; masks = M; marks = K; tags = T }
   state_array =

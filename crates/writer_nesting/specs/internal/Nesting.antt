@@ -4,14 +4,16 @@ use Rattle.reading.specs.Refusals as refusals
 use Rattle.octets_store.specs.Store.{stored}
 use Rattle.writer_state.specs.ByOctets.{refused_at}
 use Rattle.writer_state.specs.Calls.{or_refuse, call_result, buffer_after, back, masked, deeper, closing_part, outer}
+use Rattle.writer_state.specs.internal.Found.{FoundAnswer}
 use Rattle.writer_state.specs.declared.State.{State}
 use Rattle.writer_state.specs.declared.Written.{Written}
-use Rattle.writer_state.specs.declared.by_octets.Found.{Found}
 
-unfoldable pub open_found : Found → State → ℕ → Written
-open_found k s tag =
-    cond (eqb k.tagged.refusal 0) (call_result (or_refuse (leb s.opened 6) refusals.too_deep 0) s (deeper (masked s k.tagged.mask) tag k.tagged.inner))
-    (refused_at s k.tagged.refusal k.place)
+-- An open whose tag is not refused, with the mask that notes it and the message number of the contents.
+unfoldable pub open_known : State → ℕ → ℕ → ℕ → Written
+open_known s mask tag inner = call_result (or_refuse (leb s.opened 6) refusals.too_deep 0) s (deeper (masked s mask) tag inner)
+
+unfoldable pub open_found : FoundAnswer → State → ℕ → Written
+open_found k s tag = cond (eqb k.tagged.refusal 0) (open_known s k.tagged.mask tag k.tagged.inner) (refused_at s k.tagged.refusal k.place)
 
 -- The refusals of a close that come after those of the state and of the table.
 unfoldable pub close_rest : State → ℕ

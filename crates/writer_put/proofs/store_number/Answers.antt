@@ -7,10 +7,9 @@ use Rattle.writer_put.proofs.store_number.Goals as goal
 
 pub returns : goal.returns
 returns c =
-    let k = c in
-    let a = k.args in
+    let a = c.args in
     let w = a.least.width in
-    let z = c.control_size-size in
-    field_before a.out.now a.start a.tag w z.result (octets_of w a.least.bits) c.put_number.new.out
-    (sym (length_octets_of w a.least.bits)) z.ensures k.requires.width_bound k.requires.start_in_bounds
-    (c.put_number.ensures ∙ rw c.put_control.ensures refl)
+    let s = c.store_control-at in
+    field_before a.out.now a.start a.tag w s.result.0 s.result.1 (octets_of w a.least.bits) c.put_number.new.out
+    (sym (length_octets_of w a.least.bits)) s.ensures.place s.ensures.contents c.requires.width_bound c.requires.start_in_bounds
+    (c.put_number.ensures ∙ rw s.ensures.out_after refl)

@@ -6,9 +6,7 @@ use Rattle.writer_put.proofs.store_plain.Goals as goal
 
 pub returns : goal.returns
 returns c =
-    let k = c in
-    let a = k.args in
-    let z = c.control_size-size in
-    field_before a.out.now a.start a.tag (length a.xs.now) z.result a.xs.now c.put_octets.new.out
-    refl z.ensures k.requires.xs_bound k.requires.start_in_bounds
-    (c.put_octets.ensures ∙ rw c.put_control.ensures refl)
+    let a = c.args in
+    let s = c.store_control-at in
+    field_before a.out.now a.start a.tag (length a.xs.now) s.result.0 s.result.1 a.xs.now c.put_octets.new.out refl s.ensures.place s.ensures.contents
+    c.requires.xs_bound c.requires.start_in_bounds (c.put_octets.ensures ∙ rw s.ensures.out_after refl)

@@ -8,5 +8,5 @@ pub returns : goal.returns
 returns c =
     let a = c.args in
     c.copy-4.ensures
-    ∙ rw (c.copy-3.ensures, c.copy-2.ensures, c.copy.ensures, c.wide_marks-marks.ensures)
+    ∙ rw (c.copy-3.ensures, c.copy-2.ensures, c.copy.ensures, c.wide_marks.ensures)
     (untagged_stored a.s (search rules) (search rules) (search rules) a.words.now c.requires)

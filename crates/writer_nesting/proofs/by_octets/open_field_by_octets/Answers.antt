@@ -1,10 +1,17 @@
--- `open_field_by_octets` meets its contract: an open from the result of looking up its tag.
-use mathlib.Core.Path.{◌∙◌}
-use Rattle.writer_nesting.proofs.Opens.{octets_open, octets_narrow}
+-- `open_field_by_octets` meets its contract: an open after the tag is looked up.
+use mathlib.Core.Path.{refl}
+use Rattle.std.proofs.lemmas.Result.{err_from_is_err_and}
+use Rattle.writer_nesting.proofs.Opens.{known_open, refused_open, octets_open, octets_narrow}
 use Rattle.writer_nesting.proofs.by_octets.open_field_by_octets.Goals as goal
 
-pub open_found-requires : goal.open_found-requires
-open_found-requires c = let a = c.args in octets_narrow a.s a.tag a.table.now c.tag_kind_by_octets-k.ensures
+pub returns-in_err-k : goal.returns-in_err-k
+returns-in_err-k c =
+    let a = c.args in
+    let p = err_from_is_err_and c.from_residual.result c.from_residual.ensures.1 in
+    rw (p.1, p.2) (refused_open a.s a.tag c.in_err-k.field-0.0 (octets_open a.s a.tag a.table.now c.in_err-k.ensures))
+
+pub open_known-requires : goal.open_known-requires
+open_known-requires c = let a = c.args in octets_narrow a.s a.tag a.table.now c.in_ok-k.ensures refl
 
 pub returns : goal.returns
-returns c = let a = c.args in c.open_found.ensures ∙ octets_open a.s a.tag a.table.now c.tag_kind_by_octets-k.ensures
+returns c = let a = c.args in known_open a.s a.tag c.in_ok-k.k c.open_known.ensures (octets_open a.s a.tag a.table.now c.in_ok-k.ensures)
