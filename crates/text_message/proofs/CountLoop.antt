@@ -14,10 +14,7 @@ use Rattle.table.specs.declared.Meaning.TheVariants.{Raw, Uint, Int, String, Tex
 use Rattle.message.specs.Cut.{Cut, Good}
 use Rattle.message.specs.Tree.{Tree, tree}
 use Rattle.message.specs.Reading.{message_from}
-use Rattle.message_field.specs.internal.Heads.{head_at}
-use Rattle.message_field.specs.declared.Head.{Head}
-use Rattle.message_field.specs.declared.Head.TheVariants.{Field}
-use Rattle.message_field.proofs.Heads.{Fieldless}
+use Rattle.message_field.specs.internal.Heads.{Field, Fieldless, head_at}
 use Rattle.text_message.specs.Text.{direct}
 use Rattle.text_message.specs.internal.OfTree.{of_tree, direct_of}
 use Rattle.message_field.proofs.FieldsByHead.{Remaining, all_remaining, none_remaining, Ends, ends, leaf_next, nested_next}
@@ -44,10 +41,10 @@ module _ (sc : Schema) (n : ℕ) (s : List ℕ) where
       let g = accepts_good sc 8 n s a in
       record { remaining = all_remaining sc 7 n s g.0 g.1; few = omega arith; whole = direct_is sc n s g.0 g.1 ∙ omega arith }
 
-  pub all_counted : (i k : ℕ) → Counted i k → (h : Head) → head_at i (drop i s) ≡ h → Fieldless h → k ≡ direct_of sc n s
+  pub all_counted : (i k : ℕ) → Counted i k → Fieldless (head_at i (drop i s)) → k ≡ direct_of sc n s
   unfolding tree direct items
-  all_counted i k p h e q =
-      sym (p.whole ∙ ap (λ (c : Cut). k + direct (tree sc n c)) (none_remaining sc 7 n s i p.remaining h e q) ∙ omega arith)
+  all_counted i k p q =
+      sym (p.whole ∙ ap (λ (c : Cut). k + direct (tree sc n c)) (none_remaining sc 7 n s i p.remaining _ refl q) ∙ omega arith)
 
   module _ (i k : ℕ) (p : Counted i k) (tag start stop : ℕ) (found : head_at i (drop i s) ≡ Field tag start stop) where
     pub count_ends : Ends sc 7 n s i p.remaining tag start stop found

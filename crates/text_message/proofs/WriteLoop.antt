@@ -12,16 +12,14 @@ use Rattle.table.specs.declared.Meaning.TheVariants.{Raw, Uint, Int, String, Tex
 use Rattle.message.specs.Cut.{Cut, Contents, Good}
 use Rattle.message.specs.Tree.{Tree, value, tree}
 use Rattle.message.proofs.Next.{Plain}
-use Rattle.message_field.specs.internal.Heads.{head_at}
-use Rattle.message_field.specs.declared.Head.{Head}
-use Rattle.message_field.specs.declared.Head.TheVariants.{Field}
-use Rattle.message_field.proofs.Heads.{Fieldless}
+use Rattle.message_field.specs.internal.Heads.{Field, Fieldless, head_at}
 use Rattle.text_window.specs.Ascii.{ascii}
 use Rattle.text_window.specs.Digits.{decimal}
-use Rattle.text_window.specs.Window.{Printed}
+use Rattle.text_window.specs.Window.{Prints}
+use Rattle.text_window.specs.declared.Window.{Window}
 use Rattle.text_message.specs.Text.{kind_name, value_text, line, lines}
 use Rattle.text_message.specs.internal.OfTree.{lines_of, direct_of}
-use Rattle.text_window.proofs.Windows.{then, printed_nothing, same_place}
+use Rattle.text_window.proofs.Prints.{nothing, and_then, same}
 use Rattle.message_field.proofs.FieldsByHead.{Remaining, all_remaining, none_remaining, field_contents, Ends, ends, leaf_next, nested_next, good_deeper}
 use Rattle.text_message.proofs.CountLoop.{tree_is, direct_is}
 
@@ -39,7 +37,7 @@ pub lines_is : (sc : Schema) (levels n : ℕ) (s : List ℕ) (cut : Cut) → Goo
 unfolding lines_of
 lines_is sc levels n s cut g = tree_is (lines (9 - levels)) [] sc levels n s cut g
 
-module _ (sc : Schema) (levels n : ℕ) (s before : List ℕ) (from at : ℕ) where
+module _ (sc : Schema) (levels n : ℕ) (s : List ℕ) (before : Window) where
   abbrev pub whole : List ℕ
   whole = lines_of sc levels n s
 
@@ -47,38 +45,38 @@ module _ (sc : Schema) (levels n : ℕ) (s before : List ℕ) (from at : ℕ) wh
   depth = 9 - levels
 
   -- The loop invariant: after i octets the lines of the fields before are printed.
-  pub record Progress (i end : ℕ) (out : List ℕ) : Type 0 where
+  pub record Progress (i : ℕ) (now : Window) : Type 0 where
     pub remaining : Remaining sc (levels - 1) n s i
     pub written : List ℕ
-    pub printed : Printed before from at written end out
+    pub printed : Prints before written now
     pub whole_is : whole ≡ written ++ lines depth (tree sc n remaining.rest)
 
-  pub begun : Accepts sc levels n s → Progress 0 at before
+  pub begun : Accepts sc levels n s → Progress 0 before
   begun a =
       let g = accepts_good sc levels n s a in
       let r = accepts_levels sc levels n s a in
       record {
         remaining = all_remaining sc (levels - 1) n s g.0 (subst (λ (r : ℕ). Good sc r n s g.0) (sym r) g.1);
         written = [];
-        printed = printed_nothing before from at;
+        printed = nothing before;
         whole_is = lines_is sc levels n s g.0 g.1;
       }
 
-  pub ended : (i end : ℕ) (out : List ℕ) → Progress i end out → (h : Head) → head_at i (drop i s) ≡ h → Fieldless h → Printed before from at whole end out
+  pub ended : (i : ℕ) (now : Window) → Progress i now → Fieldless (head_at i (drop i s)) → Prints before whole now
   unfolding tree lines
-  ended i end out p h e q =
-      same_place whole
-      (sym (p.whole_is ∙ ap (λ (c : Cut). p.written ++ lines depth (tree sc n c)) (none_remaining sc (levels - 1) n s i p.remaining h e q) ∙ append-nil p.written))
+  ended i now p q =
+      same whole
+      (sym (p.whole_is ∙ ap (λ (c : Cut). p.written ++ lines depth (tree sc n c)) (none_remaining sc (levels - 1) n s i p.remaining _ refl q) ∙ append-nil p.written))
       p.printed
 
-  module _ (i end : ℕ) (out : List ℕ) (p : Progress i end out) (tag start stop : ℕ) (found : head_at i (drop i s) ≡ Field tag start stop) (k : Meaning) (means : k ≡ sc.means n tag) where
+  module _ (i : ℕ) (now : Window) (p : Progress i now) (tag start stop : ℕ) (found : head_at i (drop i s) ≡ Field tag start stop) where
     abbrev pub contents : List ℕ
     contents = field_contents sc (levels - 1) n s i p.remaining tag start stop found
 
     pub next_ends : Ends sc (levels - 1) n s i p.remaining tag start stop found
     next_ends = ends sc (levels - 1) n s i p.remaining tag start stop found
 
-    module _ (q : Plain k) where
+    module _ (k : Meaning) (means : k ≡ sc.means n tag) (q : Plain k) where
       abbrev leaf_text : List ℕ
       leaf_text = line depth tag (kind_name (value k contents)) (value_text (value k contents))
 
@@ -92,16 +90,16 @@ module _ (sc : Schema) (levels n : ℕ) (s before : List ℕ) (from at : ℕ) wh
       pub leaf_contents : Contents k contents
       leaf_contents = (leaf_next sc (levels - 1) n s i p.remaining tag start stop found k means q).contents
 
-      pub leaf_written : (r : ℕ) (after : List ℕ) → Printed out from end leaf_text r after → Progress stop r after
-      leaf_written r after put =
+      pub leaf_written : (after : Window) → Prints now leaf_text after → Progress stop after
+      leaf_written after put =
           record {
             remaining = (leaf_next sc (levels - 1) n s i p.remaining tag start stop found k means q).remaining;
             written = p.written ++ leaf_text;
-            printed = then p.printed put;
+            printed = and_then p.printed put;
             whole_is = leaf_whole;
           }
 
-    module _ (few : levels ≤ 8) (m : ℕ) (q : k ≡ Message m) where
+    module _ (k : Meaning) (means : k ≡ sc.means n tag) (few : levels ≤ 8) (m : ℕ) (q : k ≡ Message m) where
       abbrev message_text : List ℕ
       message_text = line depth tag (ascii "message") (decimal (direct_of sc m contents))
 
@@ -127,12 +125,11 @@ module _ (sc : Schema) (levels n : ℕ) (s before : List ℕ) (from at : ℕ) wh
           p.whole_is ∙ ap (λ (t : Tree). p.written ++ lines depth t) x.tree_is
           ∙ rw (← a, ← b) (sym (ap (λ (l : List ℕ). l ++ rest) (append_assoc p.written message_text inner_text) ∙ append_assoc p.written (message_text ++ inner_text) rest))
 
-      pub nested_written : (b : ℕ) (between : List ℕ) → Printed out from end message_text b between
-          → (r : ℕ) (after : List ℕ) → Printed between from b inner_text r after → Progress stop r after
-      nested_written b between put r after more-put =
+      pub nested_written : (between after : Window) → Prints now message_text between → Prints between inner_text after → Progress stop after
+      nested_written between after put more-put =
           record {
             remaining = (nested_next sc (levels - 1) n s i p.remaining tag start stop found k means m q).remaining;
             written = p.written ++ message_text ++ inner_text;
-            printed = then (then p.printed put) more-put;
+            printed = and_then (and_then p.printed put) more-put;
             whole_is = nested_whole;
           }

@@ -10,9 +10,8 @@ use borrow.Author.Tests.{ltb-false, lt-ltb, le-ltb, eq-eqb, ne_eqb}
 use Rattle.reading.specs.Reading.{message_limit}
 use Rattle.reading.specs.Refusals as refusals
 use Rattle.octets.specs.Control.{following, coded}
-use Rattle.table.specs.Load.{load}
+use Rattle.table.specs.Load.{Loaded, load}
 use Rattle.table.specs.declared.Table.{Table}
-use Rattle.table.specs.declared.Loaded.{Loaded}
 use Rattle.message_frame.specs.Frame.{frame_code, read_refused, read_accepted, announced, prefixed, front_read, frame_read, message_part}
 use Rattle.message_frame.specs.declared.FrameRead.{FrameRead}
 use Rattle.text_message.specs.Text.{refusal_text, message_text}

@@ -2,9 +2,8 @@
 use Rattle.std.specs.Prelude.{ℕ, cond, List, length, drop, eqb, ltb}
 use Rattle.reading.specs.Reading.{message_limit}
 use Rattle.reading.specs.Refusals as refusals
-use Rattle.table.specs.Load.{load}
+use Rattle.table.specs.Load.{Loaded, load}
 use Rattle.table.specs.declared.Table.{Table}
-use Rattle.table.specs.declared.Loaded.{Loaded}
 use Rattle.message_frame.specs.Frame.{frame_read, message_part}
 use Rattle.message_frame.specs.declared.FrameRead.{FrameRead}
 use Rattle.text_message.specs.Text.{refusal_text, message_text}

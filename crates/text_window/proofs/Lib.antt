@@ -1,4 +1,5 @@
 pub mod Windows
+pub mod Prints
 pub mod Pieces
 pub mod Numbers
 pub mod Decimals

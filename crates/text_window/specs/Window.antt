@@ -1,6 +1,7 @@
 -- Windows: a buffer receives the octets of a longer text from an offset on.
 use Rattle.std.specs.Prelude.{ℕ, ◌+◌, ◌-◌, ◌^◌, ◌≡◌, List, ◌++◌, length, take, drop}
 use Rattle.std.proofs.lemmas.List.Edits.{sets}
+use Rattle.text_window.specs.declared.Window.{Window}
 
 -- The buffer d after receiving the text from the offset `from` on, as much of it as d can store. If the text ends before d does, the rest of
 -- d stays as it was.
@@ -21,3 +22,9 @@ placed at piece = take (2 ^ 64 - 1 - at) piece
 pub record Printed (before : List ℕ) (from at : ℕ) (piece : List ℕ) (end : ℕ) (after : List ℕ) : Type 0 where
   pub place : end ≡ at + length (placed at piece)
   pub buffer : after ≡ overlay before from at (placed at piece)
+
+-- A window before a piece is printed and afterwards: the piece begins at the offset that the text has reached.
+pub record Prints (before : Window) (piece : List ℕ) (after : Window) : Type 0 where
+  pub same_buffer : after.out.ghost_name ≡ before.out.ghost_name
+  pub same_from : after.from ≡ before.from
+  pub printed : Printed before.out.now before.from before.at piece after.at after.out.now

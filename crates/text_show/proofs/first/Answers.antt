@@ -1,60 +1,40 @@
 -- `text_show::first` meets its contract.
-use Prim.Native.Nat.{◌-◌}
-use native.Mathlib.Omega.{arith}
-use lib.ListN.{length, drop, length-drop}
+use Rattle.std.proofs.Common.{arith, refl, length, drop, ◌-◌}
+use lib.ListN.{length-drop}
 use lib.Seq.{take_all}
-use Rattle.text_window.proofs.Windows.{same_window}
+use Rattle.std.proofs.lemmas.Result.{err_from_is_err_and}
+use Rattle.reading.proofs.Numbers.{some_refusal}
 use Rattle.text_show.proofs.Order.{frame_inside, first_refused, table_refused, table_loaded}
 use Rattle.text_show.proofs.first.Goals as goal
 
-pub returns-then-f-ne0 : goal.returns-then-f-ne0
-returns-then-f-ne0 c =
-    let a = c.args in
-    let k = c.frame_read-f in
-    let r = c.refusal.ensures in
-    let all = same_window a.out.now a.from (first_refused a.s.now k.result k.ensures c.if-f-ne0.true) (r.value, r.out_after) in
-    record { value = all.0; out_after = all.1 }
+pub returns-in_err-part : goal.returns-in_err-part
+returns-in_err-part c =
+    let p = err_from_is_err_and c.from_residual.result c.from_residual.ensures.1 in
+    rw (p.1, p.2) (first_refused c.args.s.now _ c.in_err-part.ensures (some_refusal _))
 
 pub slice_bounds-load-count : goal.slice_bounds-load-count
-slice_bounds-load-count c =
-    let k = c.frame_read-f in
-    (frame_inside c.args.s.now k.result k.ensures c.if-f-ne0.false).0
+slice_bounds-load-count c = (frame_inside c.args.s.now _ c.in_ok-part.ensures refl).0
 
 pub slice_bounds-load-start : goal.slice_bounds-load-start
-slice_bounds-load-start c =
-    let k = c.frame_read-f in
-    (frame_inside c.args.s.now k.result k.ensures c.if-f-ne0.false).0
+slice_bounds-load-start c = let h = frame_inside c.args.s.now _ c.in_ok-part.ensures refl in omega arith
 
 pub slice_bounds-load-end : goal.slice_bounds-load-end
-slice_bounds-load-end c =
-    let k = c.frame_read-f in
-    (frame_inside c.args.s.now k.result k.ensures c.if-f-ne0.false).1
+slice_bounds-load-end c = let h = frame_inside c.args.s.now _ c.in_ok-part.ensures refl in omega arith
 
-pub returns-then-l-ne0 : goal.returns-then-l-ne0
-returns-then-l-ne0 c =
-    let a = c.args in
-    let k = c.frame_read-f in
-    let l = c.load-l in
-    let r = c.refusal-then-l-ne0.ensures in
-    let all = same_window a.out.now a.from (table_refused a.s.now k.result k.ensures c.if-f-ne0.false l.result l.ensures c.if-l-ne0.true) (r.value, r.out_after) in
-    record { value = all.0; out_after = all.1 }
+pub returns-in_err-table : goal.returns-in_err-table
+returns-in_err-table c =
+    let p = err_from_is_err_and c.from_residual-in_err-table.result c.from_residual-in_err-table.ensures.1 in
+    rw (p.1, p.2) (table_refused c.args.s.now _ c.in_ok-part.ensures refl _ c.in_err-table.ensures (some_refusal _))
 
-pub slice_bounds-second-count : goal.slice_bounds-second-count
-slice_bounds-second-count c =
-    let k = c.frame_read-f in
-    (frame_inside c.args.s.now k.result k.ensures c.if-f-ne0.false).1
+pub slice_bounds-result-count : goal.slice_bounds-result-count
+slice_bounds-result-count c = (frame_inside c.args.s.now _ c.in_ok-part.ensures refl).1
 
-pub slice_bounds-second-start : goal.slice_bounds-second-start
-slice_bounds-second-start c =
-    let k = c.frame_read-f in
-    (frame_inside c.args.s.now k.result k.ensures c.if-f-ne0.false).1
+pub slice_bounds-result-start : goal.slice_bounds-result-start
+slice_bounds-result-start c = let h = frame_inside c.args.s.now _ c.in_ok-part.ensures refl in omega arith
 
 pub returns : goal.returns
 returns c =
-    let a = c.args in
-    let k = c.frame_read-f in
-    let l = c.load-l in
-    let o = take_all (length a.s.now - k.result.end) (drop k.result.end a.s.now) (simp length-drop (omega arith)) in
-    let r = c.second.ensures in
-    let all = same_window a.out.now a.from (rw (← o) at (table_loaded a.s.now k.result k.ensures c.if-f-ne0.false l.result l.ensures c.if-l-ne0.false)) (r.value, r.out_after) in
-    record { value = all.0; out_after = all.1 }
+    let s = c.args.s.now in
+    let end = c.in_ok-part.part.end in
+    let o = take_all (length s - end) (drop end s) (simp length-drop (omega arith)) in
+    rw (← o) at (table_loaded s _ c.in_ok-part.ensures refl _ c.in_ok-table.ensures refl)

@@ -1,38 +1,23 @@
 -- `text_show::second` meets its contract.
-use Rattle.text_window.proofs.Windows.{same_window}
+use Rattle.std.proofs.Common.{arith, refl}
+use Rattle.std.proofs.lemmas.Result.{err_from_is_err_and}
+use Rattle.reading.proofs.Numbers.{some_refusal}
 use Rattle.text_show.proofs.Order.{frame_inside, second_refused, second_followed, second_message}
 use Rattle.text_show.proofs.second.Goals as goal
 
-pub returns-then-f-ne0 : goal.returns-then-f-ne0
-returns-then-f-ne0 c =
-    let a = c.args in
-    let k = c.frame_read-f in
-    let r = c.refusal.ensures in
-    let all = same_window a.out.now a.from (second_refused a.t a.s.now k.result k.ensures c.if-f-ne0.true) (r.value, r.out_after) in
-    record { value = all.0; out_after = all.1 }
+pub returns-in_err-part : goal.returns-in_err-part
+returns-in_err-part c t =
+    let p = err_from_is_err_and c.from_residual.result c.from_residual.ensures.1 in
+    rw (p.1, p.2) (second_refused t c.args.s.now _ c.in_err-part.ensures (some_refusal _))
 
-pub returns-then-end-s : goal.returns-then-end-s
-returns-then-end-s c =
-    let a = c.args in
-    let k = c.frame_read-f in
-    let r = c.refusal-then-end-s.ensures in
-    let all = same_window a.out.now a.from (second_followed a.t a.s.now k.result k.ensures c.if-f-ne0.false c.if-end-s.true) (r.value, r.out_after) in
-    record { value = all.0; out_after = all.1 }
+pub returns-then-part-s : goal.returns-then-part-s
+returns-then-part-s c t = rw c.at.ensures (second_followed t c.args.s.now _ c.in_ok-part.ensures refl c.if-part-s.true)
 
-pub slice_bounds-message-count : goal.slice_bounds-message-count
-slice_bounds-message-count c =
-    let k = c.frame_read-f in
-    (frame_inside c.args.s.now k.result k.ensures c.if-f-ne0.false).0
+pub slice_bounds-result-count : goal.slice_bounds-result-count
+slice_bounds-result-count c = (frame_inside c.args.s.now _ c.in_ok-part.ensures refl).0
 
-pub slice_bounds-message-start : goal.slice_bounds-message-start
-slice_bounds-message-start c =
-    let k = c.frame_read-f in
-    (frame_inside c.args.s.now k.result k.ensures c.if-f-ne0.false).0
+pub slice_bounds-result-start : goal.slice_bounds-result-start
+slice_bounds-result-start c = let h = frame_inside c.args.s.now _ c.in_ok-part.ensures refl in omega arith
 
 pub returns : goal.returns
-returns c =
-    let a = c.args in
-    let k = c.frame_read-f in
-    let r = c.message.ensures in
-    let all = same_window a.out.now a.from (second_message a.t a.s.now k.result k.ensures c.if-f-ne0.false c.if-end-s.false) (r.value, r.out_after) in
-    record { value = all.0; out_after = all.1 }
+returns c t = second_message t c.args.s.now _ c.in_ok-part.ensures refl c.if-part-s.false

@@ -1,6 +1,5 @@
--- `text_message::lines::direct` meets its contract: the fields before i are counted.
-use Prim.Native.Nat.{◌-◌}
-use lib.ListN.{length}
+-- The fields before i are counted.
+use Rattle.std.proofs.Common.{◌-◌, length}
 use Rattle.table_index.specs.internal.Cells.{indexed}
 use Rattle.text_message.proofs.CountLoop.{Counted}
 use Rattle.text_message.proofs.lines.direct.Given as goal

@@ -3,10 +3,10 @@ use mathlib.Core.Path.{ap, ◌∙◌}
 use Rattle.octets.specs.Number.{big_endian}
 use Rattle.octets.proofs.Number.{unsigned_is}
 use Rattle.text_window.specs.Digits.{decimal}
-use Rattle.text_window.proofs.Windows.{same_place}
+use Rattle.text_window.proofs.Prints.{same}
 use Rattle.text_message.proofs.lines.uint.Goals as goal
 
 pub returns : goal.returns
 returns c =
     let e = c.uint-v.ensures.value_value ∙ unsigned_is c.args.s.now c.requires in
-    same_place (decimal (big_endian c.args.s.now)) (ap decimal e) c.decimal.ensures
+    same (decimal (big_endian c.args.s.now)) (ap decimal e) c.decimal.ensures

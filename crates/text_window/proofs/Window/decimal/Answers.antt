@@ -1,6 +1,6 @@
--- `text_window::decimal` meets its contract.
+-- `Window::decimal` meets its contract.
 use Rattle.text_window.specs.Digits.{decimal}
-use Rattle.text_window.proofs.decimal.Goals as goal
+use Rattle.text_window.proofs.Window.decimal.Goals as goal
 
 pub returns : goal.returns
 unfolding decimal
