@@ -9,6 +9,10 @@ mod input;
 mod line;
 mod print;
 
-pub use input::{front, number_in, octets_in, read_full, room_in};
-pub use line::{find, word};
-pub use print::{counts, label, number, octets, part, refusal, signed, text};
+pub use input::{number_in, read_full, samples};
+pub use line::Line;
+pub use print::{Counted, Octets, Refused, part_of};
+
+// The octets of a buffer.
+// Kept: buffers of this size in place of a Vec, since a sample writes into one that is longer than any function under test fills.
+pub const ROOM: usize = 65546;

@@ -1,41 +1,29 @@
 // Reads and writes frames.
 use crate::print;
+use program_lines::{Line, ROOM, Refused};
 use std::io;
 
 fn place(rt: &impl Print, buffer: &[u8]) -> io::Result<()> {
-    let r = message_frame::frame_read(buffer);
-    if r.refusal != 0 {
-        program_lines::refusal(rt, r.refusal, r.place)
-    } else {
-        program_lines::number(rt, r.start)?;
-        program_lines::text(rt, b" to ")?;
-        program_lines::number(rt, r.end)
+    match message_frame::frame_read(buffer) {
+        Ok(message) => print!(rt; "{} to {}", message.start, message.end),
+        Err(fault) => rt.print(Refused(fault)),
     }
 }
 
-fn shown(rt: &impl Print, buffer: &[u8]) -> io::Result<()> {
+pub fn read(rt: &impl Print, line: Line) -> io::Result<()> {
+    let mut space = [0u8; ROOM];
+    let buffer = line.octets(1, &mut space);
     print::given(rt, buffer)?;
     place(rt, buffer)
 }
 
-pub fn read(rt: &impl Print, line: &[u8]) -> io::Result<()> {
-    let mut space = [0u8; 65546];
-    let n = program_lines::octets_in(program_lines::word(line, 1), &mut space);
-    shown(rt, program_lines::front(&space, n))
-}
-
-fn into(rt: &impl Print, m: &[u8], out: &mut [u8]) -> io::Result<()> {
+pub fn write(rt: &impl Print, line: Line) -> io::Result<()> {
+    let mut space = [0u8; ROOM];
+    let m = line.octets(2, &mut space);
+    let mut room = [0xaau8; ROOM];
+    let out = &mut room[..line.room(1)];
     print::given(rt, m)?;
-    let w = message_frame::frame_write(m, out);
-    print::written(rt, w.refusal, w.place, w.length, out)?;
-    program_lines::text(rt, b", read ")?;
+    print::written(rt, message_frame::frame_write(m, out), out)?;
+    print!(rt; ", read ")?;
     place(rt, out)
-}
-
-pub fn write(rt: &impl Print, line: &[u8]) -> io::Result<()> {
-    let room = program_lines::room_in(program_lines::word(line, 1));
-    let mut space = [0u8; 65546];
-    let n = program_lines::octets_in(program_lines::word(line, 2), &mut space);
-    let mut out = [0xaau8; 65546];
-    into(rt, program_lines::front(&space, n), &mut out[0..room])
 }

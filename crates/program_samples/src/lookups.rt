@@ -1,64 +1,45 @@
 // Looks up tags.
-use crate::{print, tables};
-use message_calls::Found;
+use crate::print::{self, Shown};
+use crate::tables;
+use message_calls::{Field, Found};
+use program_lines::{Line, ROOM, Refused, part_of};
+use reading::Fault;
 use std::io;
-use table::Table;
 
 // Prints every part of a lookup's result, and the octets of the contents.
-fn found(rt: &impl Print, m: &[u8], f: Found) -> io::Result<()> {
-    if f.refusal != 0 {
-        return program_lines::refusal(rt, f.refusal, f.place);
-    }
-    program_lines::text(rt, b"kind ")?;
-    program_lines::number(rt, f.kind)?;
-    program_lines::text(rt, b" number ")?;
-    program_lines::number(rt, f.value)?;
-    program_lines::text(rt, b" signed ")?;
-    program_lines::signed(rt, f.signed)?;
-    program_lines::text(rt, b" start ")?;
-    program_lines::number(rt, f.start)?;
-    program_lines::text(rt, b" length ")?;
-    program_lines::number(rt, f.length)?;
-    program_lines::text(rt, b" contents ")?;
-    print::octets(rt, program_lines::part(m, f.start, f.length))
+fn found(rt: &impl Print, m: &[u8], looked: Result<Field, Fault>) -> io::Result<()> {
+    let field = match looked {
+        Ok(field) => field,
+        Err(fault) => return rt.print(Refused(fault)),
+    };
+    let Found {
+        kind,
+        value,
+        signed,
+        start,
+        length,
+        ..
+    } = Found::from(looked);
+    print!(rt; "kind {kind} number {value} signed {signed} start {start} length {length}")?;
+    let contents = part_of(m, field.start, field.length);
+    print!(rt; " contents {}", Shown(contents))
 }
 
-fn look(t: Table, revision: u64, number: u64, m: &[u8], tag: u64, which: &[u8]) -> Found {
-    if which.len() == 4 && which[0] == b'l' {
+// Returns whether a line asks for the last field: its word has four letters, of which only the first counts.
+fn is_last(which: &[u8]) -> bool {
+    which.len() == 4 && which.starts_with(b"l")
+}
+
+pub fn find(rt: &impl Print, line: Line) -> io::Result<()> {
+    let (tag, revision, number) = (line.number(1), line.number(3), line.number(4));
+    let t = tables::loaded(rt, line, 5)?;
+    let mut space = [0u8; ROOM];
+    let m = line.octets(6, &mut space);
+    print::given(rt, m)?;
+    let looked = if is_last(line.word(2).unwrap_or(b"")) {
         message_calls::lookup_last_loaded(t, revision, number, m, tag)
     } else {
-        message_calls::lookup_loaded(t, revision, number, m, tag, program_lines::number_in(which))
-    }
-}
-
-fn shown(
-    rt: &impl Print,
-    t: Table,
-    revision: u64,
-    number: u64,
-    m: &[u8],
-    tag: u64,
-    which: &[u8],
-) -> io::Result<()> {
-    print::given(rt, m)?;
-    found(rt, m, look(t, revision, number, m, tag, which))
-}
-
-pub fn find(rt: &impl Print, line: &[u8]) -> io::Result<()> {
-    let tag = program_lines::number_in(program_lines::word(line, 1));
-    let which = program_lines::word(line, 2);
-    let revision = program_lines::number_in(program_lines::word(line, 3));
-    let number = program_lines::number_in(program_lines::word(line, 4));
-    let t = tables::loaded(rt, program_lines::word(line, 5))?;
-    let mut space = [0u8; 65546];
-    let n = program_lines::octets_in(program_lines::word(line, 6), &mut space);
-    shown(
-        rt,
-        t,
-        revision,
-        number,
-        program_lines::front(&space, n),
-        tag,
-        which,
-    )
+        message_calls::lookup_loaded(t, revision, number, m, tag, line.number(2))
+    };
+    found(rt, m, looked)
 }

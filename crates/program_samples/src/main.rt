@@ -17,42 +17,24 @@ mod messages;
 mod print;
 mod tables;
 
+use program_lines::Line;
 use std::io;
 
-fn run(rt: &impl Print, line: &[u8], what: u8) -> io::Result<()> {
-    match what {
-        b'm' => messages::message(rt, line),
-        b's' => messages::shorten(rt, line),
-        b'f' => lookups::find(rt, line),
-        b't' => tables::table(rt, line),
-        b'r' => frames::read(rt, line),
-        b'w' => frames::write(rt, line),
-        _ => program_lines::text(rt, b"not a line"),
+fn run(rt: &impl Print, line: Line) -> io::Result<()> {
+    match line.letter() {
+        Some(b'm') => messages::message(rt, line),
+        Some(b's') => messages::shorten(rt, line),
+        Some(b'f') => lookups::find(rt, line),
+        Some(b't') => tables::table(rt, line),
+        Some(b'r') => frames::read(rt, line),
+        Some(b'w') => frames::write(rt, line),
+        _ => print!(rt; "not a line"),
     }
-}
-
-fn sample(rt: &impl Print, line: &[u8]) -> io::Result<()> {
-    if line.len() == 0 || line[0] == b'#' {
-        return Ok(());
-    }
-    program_lines::label(rt, line)?;
-    run(rt, line, line[0])?;
-    program_lines::text(rt, b"\n")
-}
-
-fn samples(rt: &impl Print, s: &[u8]) -> io::Result<()> {
-    let mut at: usize = 0;
-    while at < s.len() {
-        let end = program_lines::find(s, at, b'\n');
-        sample(rt, &s[at..end])?;
-        at = end + 1;
-    }
-    Ok(())
 }
 
 fn main(rt: HostRuntime) -> io::Result<()> {
     let mut input = [0u8; 65536];
     let n = program_lines::read_full(&mut rt.stdin(), &mut input)?;
-    samples(&rt, &input[..n])?;
+    program_lines::samples(&rt, &input[..n], |rt, line| run(rt, line))?;
     tables::values(&rt)
 }

@@ -1,60 +1,60 @@
 // Loads field tables, and tries table values that the loader does not return.
 use crate::messages;
+use program_lines::{Line, ROOM, Refused};
+use reading::Fault;
 use std::io;
-use table::{Loaded, Table};
+use table::Table;
 
-fn load(word: &[u8]) -> Loaded {
-    let mut space = [0u8; 65546];
-    let n = program_lines::octets_in(word, &mut space);
-    table_index::load(program_lines::front(&space, n))
+// Loads the table of the k-th word.
+fn load(line: Line, k: usize) -> Result<Table, Fault> {
+    let mut space = [0u8; ROOM];
+    table_index::load(line.octets(k, &mut space))
 }
 
-// Loads the table of a word. The word is meant to be a good table; a refusal is printed.
-pub fn loaded(rt: &impl Print, word: &[u8]) -> io::Result<Table> {
-    let l = load(word);
-    if l.refusal != 0 {
-        program_lines::text(rt, b"table ")?;
-        program_lines::refusal(rt, l.refusal, l.place)?;
-        program_lines::text(rt, b" ")?;
+// Loads the table of the k-th word. The word is meant to be a good table; a refusal is printed, and an empty table returned.
+pub fn loaded(rt: &impl Print, line: Line, k: usize) -> io::Result<Table> {
+    match load(line, k) {
+        Ok(t) => Ok(t),
+        Err(fault) => {
+            print!(rt; "table {} ", Refused(fault))?;
+            Ok(Table {
+                count: 0,
+                words: [0; 64],
+            })
+        }
     }
-    Ok(l.table)
 }
 
-pub fn table(rt: &impl Print, line: &[u8]) -> io::Result<()> {
-    let l = load(program_lines::word(line, 1));
-    let t = l.table;
-    if l.refusal != 0 {
-        program_lines::refusal(rt, l.refusal, l.place)
-    } else {
-        program_lines::text(rt, b"entries ")?;
-        program_lines::number(rt, t.count as u64)
+pub fn table(rt: &impl Print, line: Line) -> io::Result<()> {
+    match load(line, 1) {
+        Ok(t) => print!(rt; "entries {}", t.count),
+        Err(fault) => rt.print(Refused(fault)),
     }
 }
 
 // Checks an empty message with a table value, under revision 2.
-fn value(rt: &impl Print, label: &[u8], count: usize, words: [u64; 64]) -> io::Result<()> {
-    program_lines::text(rt, label)?;
-    program_lines::text(rt, b": ")?;
+fn value(rt: &impl Print, label: &str, count: usize, words: [u64; 64]) -> io::Result<()> {
+    print!(rt; "{label}: ")?;
     messages::checked(
         rt,
         message_calls::check_loaded(Table { count, words }, 2, 0, b""),
     )?;
-    program_lines::text(rt, b"\n")
+    println!(rt)
 }
 
 // Tries table values that did not come from the loader. The loader could have returned the last two of them.
 pub fn values(rt: &impl Print) -> io::Result<()> {
     let mut words = [0u64; 64];
-    value(rt, b"slot of kind 0", 1, words)?;
-    value(rt, b"count 65", 65, words)?;
+    value(rt, "slot of kind 0", 1, words)?;
+    value(rt, "count 65", 65, words)?;
     words[63] = 1;
-    value(rt, b"unused slot not 0", 0, words)?;
+    value(rt, "unused slot not 0", 0, words)?;
     let mut other = [0u64; 64];
     other[0] = 0xc010002;
-    value(rt, b"slot with the mark 2", 1, other)?;
+    value(rt, "slot with the mark 2", 1, other)?;
     let mut good = [0u64; 64];
     good[0] = 0xc010000;
-    value(rt, b"value as the loader gives it", 1, good)?;
+    value(rt, "value as the loader gives it", 1, good)?;
     good[0] = 0xc010001;
-    value(rt, b"the same with the mark 1", 1, good)
+    value(rt, "the same with the mark 1", 1, good)
 }

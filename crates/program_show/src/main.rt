@@ -14,6 +14,7 @@ fn main(rt: HostRuntime) -> io::Result<()> {
     let mut out = [0u8; SIZE];
     let total = text_show::show(&input[..n], 0, &mut out);
     let mut from: u64 = 0;
+    // Kept: a step is a whole buffer, and the first is filled before the loop, since that call returns the length; step_by would fill it twice.
     loop {
         let remaining = total - from;
         if remaining <= SIZE as u64 {

@@ -8,107 +8,99 @@
 mod print;
 mod qform;
 
+use program_lines::{Counted, Line, ROOM, Refused};
+use reading::{Counts, Fault};
 use std::io;
+
+// Prints the answer of a check: the counts, or the refusal.
+fn checked(rt: &impl Print, answer: Result<Counts, Fault>) -> io::Result<()> {
+    match answer {
+        Ok(counts) => rt.print(Counted(counts)),
+        Err(fault) => rt.print(Refused(fault)),
+    }
+}
+
+// The count of fields of an accepted message, 0 of one that is refused.
+fn count(answer: Result<Counts, Fault>) -> u64 {
+    answer.map_or(0, |counts| counts.fields)
+}
+
+// Prints the answer of a check, and what `show` prints of each field until one is refused: the count of a TibrvMsg message includes nested
+// fields, and only the outermost ones can be asked for.
+fn fields<R: Print, T, G: Fn(u64) -> Result<T, Fault>, S: Fn(&R, u64, T) -> io::Result<()>>(
+    rt: &R,
+    answer: Result<Counts, Fault>,
+    field: G,
+    show: S,
+) -> io::Result<()>
+    requires field { G.IsAlwaysCallable field }
+    requires show { S.IsAlwaysCallable show }
+{
+    checked(rt, answer)?;
+    for k in 0..count(answer) {
+        let Ok(f) = field(k) else {
+            return Ok(());
+        };
+        show(rt, k, f)?;
+    }
+    Ok(())
+}
+
+// Asks for the field whose number is the count of fields, which no message has.
+fn none<T: Drop, G: Fn(u64) -> Result<T, Fault>>(
+    rt: &impl Print,
+    answer: Result<Counts, Fault>,
+    field: G,
+) -> io::Result<()>
+    requires { G.IsAlwaysCallable field }
+{
+    match field(count(answer)) {
+        Ok(_) => print!(rt; "not refused"),
+        Err(fault) => rt.print(Refused(fault)),
+    }
+}
 
 // Checks a TibMsg message and shows its fields, the reals read in fractions and in decimals too.
 fn msg(rt: &impl Print, s: &[u8]) -> io::Result<()> {
-    let c = tib_msg::check(s);
-    if c.refusal != 0 {
-        return program_lines::refusal(rt, c.refusal, c.place);
-    }
-    let n = c.fields;
-    program_lines::counts(rt, n, c.depth)?;
-    let mut k: u64 = 0;
-    while k < n {
-        let f = tib_msg::field(s, k);
+    let field = |k| tib_msg::field(s, k);
+    fields(rt, tib_msg::check(s), field, |rt, k, f| {
         print::field(rt, s, k, f)?;
         if f.kind == 7 {
-            let r = f.real;
-            print::real(rt, r)?;
+            print::real(rt, f.real)?;
         }
-        k += 1;
-    }
-    Ok(())
+        Ok(())
+    })
 }
 
-// The same for a TibrvMsg message. Its count includes nested fields; only the outermost ones can be asked for.
+// The same for a TibrvMsg message.
 fn rv(rt: &impl Print, s: &[u8]) -> io::Result<()> {
-    let c = tib_rv::check(s);
-    if c.refusal != 0 {
-        return program_lines::refusal(rt, c.refusal, c.place);
-    }
-    let n = c.fields;
-    program_lines::counts(rt, n, c.depth)?;
-    let mut k: u64 = 0;
-    while k < n {
-        let f = tib_rv::field(s, k);
-        if f.refusal != 0 {
-            return Ok(());
-        }
-        print::field(rt, s, k, f)?;
-        k += 1;
-    }
-    Ok(())
-}
-
-// Asks for a field that the message does not have.
-fn msg_none(rt: &impl Print, s: &[u8]) -> io::Result<()> {
-    let c = tib_msg::check(s);
-    let f = tib_msg::field(s, c.fields);
-    program_lines::refusal(rt, f.refusal, f.place)
-}
-
-fn rv_none(rt: &impl Print, s: &[u8]) -> io::Result<()> {
-    let c = tib_rv::check(s);
-    let f = tib_rv::field(s, c.fields);
-    program_lines::refusal(rt, f.refusal, f.place)
+    let field = |k| tib_rv::field(s, k);
+    fields(rt, tib_rv::check(s), field, |rt, k, f| {
+        print::field(rt, s, k, f)
+    })
 }
 
 // Runs a line with two words of octets; only the calls for QForm look at the second.
-fn run(rt: &impl Print, what: u8, first: &[u8], second: &[u8]) -> io::Result<()> {
-    match what {
-        b'm' => msg(rt, first),
-        b'M' => msg_none(rt, first),
-        b'r' => rv(rt, first),
-        b'R' => rv_none(rt, first),
-        b'q' => qform::fields(rt, first, second),
-        b'Q' => qform::none(rt, first, second),
-        b'l' => qform::loaded(rt, first, second),
-        _ => program_lines::text(rt, b"not a line"),
+fn run(rt: &impl Print, line: Line) -> io::Result<()> {
+    let mut space = [0u8; ROOM];
+    let mut other = [0u8; ROOM];
+    let first = line.octets(1, &mut space);
+    let second = line.octets(2, &mut other);
+    match line.letter() {
+        Some(b'm') => msg(rt, first),
+        Some(b'M') => none(rt, tib_msg::check(first), |k| tib_msg::field(first, k)),
+        Some(b'r') => rv(rt, first),
+        Some(b'R') => none(rt, tib_rv::check(first), |k| tib_rv::field(first, k)),
+        Some(b'q') => qform::message(rt, first, second),
+        Some(b'Q') => qform::absent(rt, first, second),
+        Some(b'l') => qform::loaded(rt, first, second),
+        _ => print!(rt; "not a line"),
     }
-}
-
-fn sample(rt: &impl Print, line: &[u8]) -> io::Result<()> {
-    if line.len() == 0 || line[0] == b'#' {
-        return Ok(());
-    }
-    let mut first = [0u8; 65546];
-    let mut second = [0u8; 65546];
-    let m = program_lines::octets_in(program_lines::word(line, 1), &mut first);
-    let n = program_lines::octets_in(program_lines::word(line, 2), &mut second);
-    program_lines::label(rt, line)?;
-    run(
-        rt,
-        line[0],
-        program_lines::front(&first, m),
-        program_lines::front(&second, n),
-    )?;
-    program_lines::text(rt, b"\n")
-}
-
-fn samples(rt: &impl Print, s: &[u8]) -> io::Result<()> {
-    let mut at: usize = 0;
-    while at < s.len() {
-        let end = program_lines::find(s, at, b'\n');
-        sample(rt, &s[at..end])?;
-        at = end + 1;
-    }
-    Ok(())
 }
 
 fn main(rt: HostRuntime) -> io::Result<()> {
     let mut input = [0u8; 65536];
     let n = program_lines::read_full(&mut rt.stdin(), &mut input)?;
-    samples(&rt, &input[..n])?;
+    program_lines::samples(&rt, &input[..n], |rt, line| run(rt, line))?;
     qform::values(&rt)
 }

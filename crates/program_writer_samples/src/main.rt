@@ -14,32 +14,22 @@
 #![tactic(auto)]
 
 mod back;
-mod compare;
-mod input;
 mod print;
 mod run;
 mod state;
 
+use program_lines::{Line, ROOM};
 use std::io;
-
-fn script(rt: &impl Print, s: &[u8]) -> io::Result<()> {
-    let mut buffer = [0xaau8; 65546];
-    let mut r = run::fresh();
-    let mut at: usize = 0;
-    while at < s.len() {
-        let end = program_lines::find(s, at, b'\n');
-        if s.len() <= end {
-            return Ok(());
-        }
-        let before = buffer;
-        r = run::line(rt, &s[at..end], r, &before, &mut buffer)?;
-        at = end + 1;
-    }
-    Ok(())
-}
 
 fn main(rt: HostRuntime) -> io::Result<()> {
     let mut input = [0u8; 16384];
     let n = program_lines::read_full(&mut rt.stdin(), &mut input)?;
-    script(&rt, &input[..n])
+    let mut buffer = [0xaau8; ROOM];
+    let mut r = run::fresh();
+    for text in input[..n].split(|x| *x == b'\n') {
+        if !text.is_empty() {
+            r = run::line(&rt, Line { text }, r, &mut buffer)?;
+        }
+    }
+    Ok(())
 }

@@ -1,35 +1,24 @@
-// Prints what program_lines does not print.
-use std::io;
+// Prints octets, and a part of a buffer.
+use std::fmt;
 
-fn wide(x: u8) -> u64 {
-    x as u64
+// Prints all octets in hexadecimal, `-` for none.
+#[derive(Clone, Copy)]
+pub struct Hex<'a>(pub &'a [u8]);
+
+impl<'a> fmt::Display for Hex<'a> {
+    fn fmt<W: fmt::Write>(&self, f: &mut fmt::Formatter<W>) -> fmt::Result {
+        let Hex(s) = *self;
+        if s.is_empty() {
+            return write!(f, "-");
+        }
+        for x in s {
+            write!(f, "{x:02x}")?;
+        }
+        Ok(())
+    }
 }
 
-// Prints a word and a number.
-pub fn named(rt: &impl Print, what: &[u8], n: u64) -> io::Result<()> {
-    program_lines::text(rt, what)?;
-    program_lines::number(rt, n)
-}
-
-// Prints all octets in hexadecimal.
-pub fn octets(rt: &impl Print, s: &[u8]) -> io::Result<()> {
-    if s.len() == 0 {
-        return program_lines::text(rt, b"-");
-    }
-    let mut i = 0;
-    while i < s.len() {
-        let x = wide(s[i]);
-        print!(rt; "{x:02x}")?;
-        i += 1;
-    }
-    Ok(())
-}
-
-// Prints one of two words.
-pub fn either(rt: &impl Print, is: bool, yes: &[u8], no: &[u8]) -> io::Result<()> {
-    if is {
-        program_lines::text(rt, yes)
-    } else {
-        program_lines::text(rt, no)
-    }
+// Returns a part of octets; no octets where it does not lie within them.
+pub fn part(s: &[u8], from: usize, to: usize) -> &[u8] {
+    s.get(from..to).unwrap_or(b"")
 }

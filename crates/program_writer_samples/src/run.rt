@@ -1,8 +1,17 @@
 // Runs one line of the script and prints its result.
-use crate::{back, compare, input, print, state};
+use crate::print::{Hex, part};
+use crate::{back, state};
+use program_lines::{Line, ROOM, Refused};
+use reading::Fault;
 use std::io;
 use table::Table;
 use writer_state::{State, Written};
+
+// A table with no entries.
+const EMPTY: Table = Table {
+    count: 0,
+    words: [0; 64],
+};
 
 // What the lines so far have set: the table, the state, how much of the buffer is lent, and the message to read, with its revision, its number
 // and its span in the buffer.
@@ -19,11 +28,8 @@ pub struct Run {
 
 pub fn fresh() -> Run {
     Run {
-        table: Table {
-            count: 0,
-            words: [0u64; 64],
-        },
-        state: state::nothing(),
+        table: EMPTY,
+        state: writer_state::zeros(),
         lent: 0,
         revision: 0,
         number: 0,
@@ -32,28 +38,40 @@ pub fn fresh() -> Run {
     }
 }
 
-fn octets(t: Table, s: State, tag: u64, word: &[u8], out: &mut [u8]) -> Written {
-    let mut xs = [0u8; 65546];
-    let n = program_lines::octets_in(word, &mut xs);
-    writer_put::put_octets(t, s, tag, program_lines::front(&xs, n), out)
+// Returns the signed number nearest to a size.
+fn nearest(n: u64) -> i64 {
+    i64::try_from(n).unwrap_or(i64::MAX)
 }
 
-fn call(what: u8, line: &[u8], t: Table, s: State, out: &mut [u8]) -> Written {
-    let tag = input::number(line, 1);
-    let value = program_lines::word(line, 2);
-    if what == b'u' {
-        return writer_put::put_uint(t, s, tag, program_lines::number_in(value), out);
+// Returns the signed number nearest to a word. The complement of n - 1 is minus n.
+fn signed(word: &[u8]) -> i64 {
+    match word.strip_prefix(b"-") {
+        Some(size) => match program_lines::number_in(size).checked_sub(1) {
+            Some(n) => !nearest(n),
+            None => 0,
+        },
+        None => nearest(program_lines::number_in(word)),
     }
-    if what == b'i' {
-        return writer_put::put_int(t, s, tag, input::signed(value), out);
+}
+
+fn octets(line: Line, t: Table, s: State, tag: u64, out: &mut [u8]) -> Result<State, Fault> {
+    let mut space = [0u8; ROOM];
+    writer_put::put_octets(t, s, tag, line.octets(2, &mut space), out)
+}
+
+fn call(what: u8, line: Line, t: Table, s: State, out: &mut [u8]) -> Result<State, Fault> {
+    let tag = line.number(1);
+    match what {
+        b'u' => writer_put::put_uint(t, s, tag, line.number(2), out),
+        b'i' => writer_put::put_int(t, s, tag, signed(line.word(2).unwrap_or(b"")), out),
+        b'o' => octets(line, t, s, tag, out),
+        b'p' => writer_nesting::open_field(t, s, tag),
+        _ => writer_nesting::close_field(t, s, out),
     }
-    if what == b'o' {
-        return octets(t, s, tag, value, out);
-    }
-    if what == b'p' {
-        return writer_nesting::open_field(t, s, tag);
-    }
-    writer_nesting::close_field(t, s, out)
+}
+
+fn kept(same: bool) -> &'static str {
+    if same { "kept" } else { "changed" }
 }
 
 // Prints the octets that a call stored, the place of the first, and whether the other octets are unchanged.
@@ -64,206 +82,162 @@ fn stored(
     before: &[u8],
     now: &[u8],
 ) -> io::Result<()> {
-    print::octets(rt, compare::part(now, after.start, given.start))?;
-    print::named(rt, b" at ", after.start as u64)?;
-    let rest = compare::equal_around(before, now, after.start, given.start);
-    print::either(rt, rest, b", rest kept", b", rest changed")
-}
-
-fn as_given(rt: &impl Print, given: State, after: State) -> io::Result<()> {
-    let same = state::same(given, after);
-    print::either(rt, same, b", state kept", b", state changed")
-}
-
-fn answered(
-    rt: &impl Print,
-    w: Written,
-    given: State,
-    before: &[u8],
-    now: &[u8],
-) -> io::Result<()> {
-    let after = w.state;
-    if w.refusal == 0 {
-        return stored(rt, given, after, before, now);
-    }
-    program_lines::refusal(rt, w.refusal, w.place)?;
-    as_given(rt, given, after)?;
-    let same = compare::equal(before, now);
-    print::either(rt, same, b", buffer kept", b", buffer changed")
+    let (from, to) = (after.start, given.start);
+    let octets = Hex(part(now, from, to));
+    let around = part(before, 0, from) == part(now, 0, from)
+        && part(before, to, before.len()) == part(now, to, now.len());
+    print!(rt; "{octets} at {from}, rest {}", kept(around))
 }
 
 // Runs a put, an open or a close on the lent part of the buffer.
 fn calls(
     rt: &impl Print,
     what: u8,
-    line: &[u8],
+    line: Line,
     r: Run,
-    before: &[u8],
-    buffer: &mut [u8],
+    buffer: &mut [u8; ROOM],
 ) -> io::Result<Run> {
-    let n = r.lent;
-    if buffer.len() < n {
+    let whole = *buffer;
+    let before = part(&whole, 0, r.lent);
+    let Some(out) = buffer.get_mut(..r.lent) else {
         return Ok(r);
+    };
+    let answer = call(what, line, r.table, r.state, out);
+    let after = Written::of(r.state, answer).state;
+    match answer {
+        Ok(_) => stored(rt, r.state, after, before, out)?,
+        Err(fault) => {
+            let state = kept(after == r.state);
+            let octets = kept(before == &*out);
+            print!(rt; "{}, state {state}, buffer {octets}", Refused(fault))?;
+        }
     }
-    let given = r.state;
-    let w = call(what, line, r.table, given, &mut buffer[0..n]);
-    let was = compare::part(before, 0, n);
-    answered(rt, w, given, was, compare::part(buffer, 0, n))?;
-    let after = w.state;
-    let mut next = r;
-    next.state = after;
-    Ok(next)
+    Ok(Run { state: after, ..r })
 }
 
-// Runs a start. A refused start returns a state of zeros.
-fn starts(rt: &impl Print, line: &[u8], r: Run, buffer: &[u8]) -> io::Result<Run> {
-    let out = compare::part(buffer, 0, r.lent);
-    let w = writer_state::start(r.table, input::number(line, 1), input::number(line, 2), out);
-    let after = w.state;
-    if w.refusal != 0 {
-        program_lines::refusal(rt, w.refusal, w.place)?;
-        let zeros = state::same(state::nothing(), after);
-        print::either(rt, zeros, b", state of zeros", b", another state")?;
-    } else {
-        print::named(rt, b"at ", after.start as u64)?;
+// Runs a start. A refused start leaves the state of zeros.
+fn starts(rt: &impl Print, line: Line, r: Run, buffer: &[u8]) -> io::Result<Run> {
+    let zeros = writer_state::zeros();
+    let answer = writer_state::start(
+        r.table,
+        line.number(1),
+        line.number(2),
+        part(buffer, 0, r.lent),
+    );
+    let after = Written::of(zeros, answer).state;
+    match answer {
+        Ok(_) => print!(rt; "at {}", after.start)?,
+        Err(fault) => {
+            let left = if after == zeros {
+                "state of zeros"
+            } else {
+                "another state"
+            };
+            print!(rt; "{}, {left}", Refused(fault))?;
+        }
     }
-    let mut next = r;
-    next.state = after;
-    Ok(next)
+    Ok(Run { state: after, ..r })
 }
 
 // Runs a finish. The lines after it read the message that it returns.
 fn finishes(rt: &impl Print, r: Run) -> io::Result<Run> {
-    let given = r.state;
-    let f = writer_state::finish(given);
-    let after = f.state;
-    if f.refusal != 0 {
-        program_lines::refusal(rt, f.refusal, f.place)?;
-        program_lines::text(rt, b", ")?;
-    }
-    print::named(rt, b"start ", f.start as u64)?;
-    as_given(rt, given, after)?;
-    let mut next = r;
-    next.state = after;
-    next.revision = after.revision;
-    next.number = after.numbers[0];
-    next.from = f.start;
-    next.to = r.lent;
-    Ok(next)
+    let from = match writer_state::finish(r.state) {
+        Ok(start) => start,
+        Err(fault) => {
+            print!(rt; "{}, ", Refused(fault))?;
+            0
+        }
+    };
+    print!(rt; "start {from}, state kept")?;
+    Ok(Run {
+        revision: r.state.revision,
+        number: r.state.numbers[0],
+        from,
+        to: r.lent,
+        ..r
+    })
 }
 
-fn loaded(rt: &impl Print, word: &[u8]) -> io::Result<Table> {
-    let mut xs = [0u8; 65546];
-    let n = program_lines::octets_in(word, &mut xs);
-    let l = table_index::load(program_lines::front(&xs, n));
-    let t = l.table;
-    print::named(rt, b"entries ", t.count as u64)?;
+fn loaded(rt: &impl Print, line: Line) -> io::Result<Table> {
+    let mut space = [0u8; ROOM];
+    let t = table_index::load(line.octets(1, &mut space)).unwrap_or(EMPTY);
+    print!(rt; "entries {}", t.count)?;
     Ok(t)
 }
 
 // Runs a line that sets something: a table, how much of the buffer is lent, or a part of the state.
-fn sets(rt: &impl Print, what: u8, line: &[u8], r: Run) -> io::Result<Run> {
-    let mut next = r;
+fn sets(rt: &impl Print, what: u8, line: Line, r: Run) -> io::Result<Run> {
     if what == b'T' {
-        let t = loaded(rt, program_lines::word(line, 1))?;
-        next.table = t;
-        return Ok(next);
+        let table = loaded(rt, line)?;
+        return Ok(Run { table, ..r });
     }
-    program_lines::text(rt, b"set")?;
-    if what == b'C' {
-        let mut t = r.table;
-        t.count = input::number(line, 1) as usize;
-        next.table = t;
-        return Ok(next);
+    print!(rt; "set")?;
+    let count = line.number(1) as usize;
+    match what {
+        b'C' => Ok(Run {
+            table: Table { count, ..r.table },
+            ..r
+        }),
+        b'B' => Ok(Run { lent: count, ..r }),
+        _ => Ok(Run {
+            state: state::changed(what, line, r.state),
+            ..r
+        }),
     }
-    if what == b'B' {
-        next.lent = input::number(line, 1) as usize;
-        return Ok(next);
-    }
-    let s = state::changed(what, line, r.state);
-    next.state = s;
-    Ok(next)
-}
-
-// Returns the sum of two places, or the length of the buffer where one of them exceeds it.
-fn sum(a: usize, b: usize) -> usize {
-    if 65546 < a {
-        return 65546;
-    }
-    if 65546 < b {
-        return 65546;
-    }
-    a + b
 }
 
 // Runs a line that reads what is written.
-fn reads(rt: &impl Print, what: u8, line: &[u8], r: Run, buffer: &[u8]) -> io::Result<Run> {
-    let m = compare::part(buffer, r.from, r.to);
-    let tag = input::number(line, 1);
+fn reads(rt: &impl Print, what: u8, line: Line, r: Run, buffer: &[u8]) -> io::Result<Run> {
+    let m = part(buffer, r.from, r.to);
     if what == b'w' {
         back::message(rt, r.table, r.revision, r.number, m)?;
         return Ok(r);
     }
-    if what == b'y' {
-        back::field(
-            rt,
-            message_calls::lookup_last_loaded(r.table, r.revision, r.number, m, tag),
-            m,
-        )?;
+    let (tag, k) = (line.number(1), line.number(2));
+    let found = match what {
+        b'y' => message_calls::lookup_last_loaded(r.table, r.revision, r.number, m, tag),
+        _ => message_calls::lookup_loaded(r.table, r.revision, r.number, m, tag, k),
+    };
+    back::field(rt, found, m)?;
+    if what != b'z' {
         return Ok(r);
     }
-    let k = input::number(line, 2);
-    let f = message_calls::lookup_loaded(r.table, r.revision, r.number, m, tag, k);
-    back::field(rt, f, m)?;
-    if what == b'x' {
-        return Ok(r);
-    }
-    let mut next = r;
-    next.number = input::number(line, 3);
-    next.from = sum(r.from, f.start as usize);
-    next.to = sum(next.from, f.length as usize);
-    Ok(next)
+    let (start, length) = found.map_or((0, 0), |f| (f.start, f.length));
+    let from = r.from.saturating_add(start);
+    Ok(Run {
+        number: line.number(3),
+        from,
+        to: from.saturating_add(length),
+        ..r
+    })
 }
 
 fn answer(
     rt: &impl Print,
     what: u8,
-    line: &[u8],
+    line: Line,
     r: Run,
-    before: &[u8],
-    buffer: &mut [u8],
+    buffer: &mut [u8; ROOM],
 ) -> io::Result<Run> {
-    if what < b'a' {
-        return sets(rt, what, line, r);
+    match what {
+        b's' => starts(rt, line, r, buffer),
+        b'f' => finishes(rt, r),
+        _ if what < b'a' => sets(rt, what, line, r),
+        _ if b'v' < what => reads(rt, what, line, r, buffer),
+        _ => calls(rt, what, line, r, buffer),
     }
-    if b'v' < what {
-        return reads(rt, what, line, r, buffer);
-    }
-    if what == b's' {
-        return starts(rt, line, r, buffer);
-    }
-    if what == b'f' {
-        return finishes(rt, r);
-    }
-    calls(rt, what, line, r, before, buffer)
 }
 
-// Prints a line, runs it and prints its result. `before` has the same octets as the buffer.
-pub fn line(
-    rt: &impl Print,
-    s: &[u8],
-    r: Run,
-    before: &[u8; 65546],
-    buffer: &mut [u8; 65546],
-) -> io::Result<Run> {
-    program_lines::text(rt, s)?;
-    let what = input::letter(s);
+// Prints a line, runs it and prints its result.
+pub fn line(rt: &impl Print, line: Line, r: Run, buffer: &mut [u8; ROOM]) -> io::Result<Run> {
+    rt.write_all(line.text)?;
+    let what = line.letter().unwrap_or(b' ');
     if what == b'#' {
-        program_lines::text(rt, b"\n")?;
+        println!(rt)?;
         return Ok(r);
     }
-    program_lines::text(rt, b": ")?;
-    let next = answer(rt, what, s, r, before, buffer)?;
-    program_lines::text(rt, b"\n")?;
+    print!(rt; ": ")?;
+    let next = answer(rt, what, line, r, buffer)?;
+    println!(rt)?;
     Ok(next)
 }

@@ -1,9 +1,0 @@
--- Each turn takes a line, so the octets that remain of the script decrease.
-use Rattle.std.proofs.Common.{length, ◌-◌, ◌≤◌}
-use Rattle.program_writer_samples.proofs.script.Given as goal
-
-abbrev pub invariant-loop-at : goal.invariant-loop-at
-invariant-loop-at g l = l.at ≤ length l.s
-
-abbrev pub decreases-loop-at : goal.decreases-loop-at
-decreases-loop-at g l = length l.s - l.at
