@@ -1,6 +1,6 @@
 -- The fields of Tib messages as the numbers that the C functions store.
 use Rattle.std.specs.Prelude.{ℕ, Bool, true, false, not, eqb}
-use Rattle.tib_field.specs.declared.Field.{Field}
+use Rattle.tib_field.specs.declared.FieldAnswer.{FieldAnswer}
 
 -- A truth value is stored as 1 or 0; every number but 0 counts as true.
 unfoldable pub flag : Bool → ℕ
@@ -20,7 +20,7 @@ pub record Parts : Type 0 where
   pub data_start : ℕ
   pub data_length : ℕ
 
-unfoldable pub parts : Field → Parts
+unfoldable pub parts : FieldAnswer → Parts
 parts f =
     record {
       refusal = f.refusal;
@@ -39,5 +39,5 @@ pub record Hint : Type 0 where
   pub value : ℕ
   pub bits : ℕ
 
-unfoldable pub hint : Field → Hint
+unfoldable pub hint : FieldAnswer → Hint
 hint f = record { hinted = flag f.hinted; kind = f.hint_kind; value = f.hint; bits = f.real.bits }

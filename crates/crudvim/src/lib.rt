@@ -15,6 +15,12 @@ ghost use Rattle.tib_real.specs.InFractions.{fractions_of};
 ghost use Rattle.tib_decimals.specs.InDecimals.{decimals_of};
 ghost use Rattle.crudvim.specs.Fields.{flag as flag-of, flagged, parts, hint as hint_of};
 
+use message_calls::{CheckedMessage, Found, Shortened};
+use message_frame::{FrameRead, FrameWritten};
+use reading::Checked;
+use tib_qform::types::FieldAnswer;
+use tib_real::types::WholeNumber;
+
 // Checks a message.
 #[unsafe(no_mangle)]
 pub extern "C" fn crudvim_check(
@@ -30,12 +36,12 @@ pub extern "C" fn crudvim_check(
     ensures message_value { check_octets table.now revision number message.now ≡ record { refusal = result; place = place.new; fields = fields.new; depth = depth.new } }
     ensures shortest_after { shortest.new ≡ flag-of (short_octets table.now revision number message.now) }
 {
-    let c = message_calls::check(table, revision, number, message);
+    let c = CheckedMessage::from(message_calls::check(table, revision, number, message));
     let checked = c.checked;
     *place = checked.place;
     *fields = checked.fields;
     *depth = checked.depth;
-    *shortest = flag(c.shortest);
+    *shortest = u64::from(c.shortest);
     checked.refusal
 }
 
@@ -53,7 +59,7 @@ pub extern "C" fn crudvim_shorten(
     ensures out_value { shorten_octets table.now revision number message.now out.old ≡ record { refusal = result; place = place.new; length = len.new } }
     ensures out_after { out.new ≡ shorten_buffer table.now revision number message.now out.old }
 {
-    let shortened = message_calls::shorten(table, revision, number, message, out);
+    let shortened = Shortened::from(message_calls::shorten(table, revision, number, message, out));
     *place = shortened.place;
     *len = shortened.length;
     shortened.refusal
@@ -69,7 +75,7 @@ pub extern "C" fn crudvim_frame_read(
 ) -> u64
     ensures { frame_read buffer.now ≡ record { refusal = result; place = place.new; start = start.new; end = end.new } }
 {
-    let read = message_frame::frame_read(buffer);
+    let read = FrameRead::from(message_frame::frame_read(buffer));
     *place = read.place;
     *start = read.start;
     *end = read.end;
@@ -87,7 +93,7 @@ pub extern "C" fn crudvim_frame_write(
     ensures out_value { frame_written message.now (length out.old) ≡ record { refusal = result; place = place.new; length = len.new } }
     ensures out_after { out.new ≡ frame_stored message.now out.old }
 {
-    let written = message_frame::frame_write(message, out);
+    let written = FrameWritten::from(message_frame::frame_write(message, out));
     *place = written.place;
     *len = written.length;
     written.refusal
@@ -111,7 +117,7 @@ pub extern "C" fn crudvim_lookup(
 ) -> u64
     ensures { lookup_octets table.now revision number message.now tag k ≡ record { refusal = result; place = place.new; kind = kind.new; value = value.new; signed = signed_value.new; start = start.new; length = len.new } }
 {
-    let found = message_calls::lookup(table, revision, number, message, tag, k);
+    let found = Found::from(message_calls::lookup(table, revision, number, message, tag, k));
     *place = found.place;
     *kind = found.kind;
     *value = found.value;
@@ -139,7 +145,7 @@ pub extern "C" fn crudvim_lookup_last(
 ) -> u64
     ensures { lookup_last_octets table.now revision number message.now tag ≡ record { refusal = result; place = place.new; kind = kind.new; value = value.new; signed = signed_value.new; start = start.new; length = len.new } }
 {
-    let last = message_calls::lookup_last(table, revision, number, message, tag);
+    let last = Found::from(message_calls::lookup_last(table, revision, number, message, tag));
     *place = last.place;
     *kind = last.kind;
     *value = last.value;
@@ -160,18 +166,11 @@ pub extern "C" fn crudvim_tibmsg_check(
 ) -> u64
     ensures { tibmsg-check message.now ≡ record { refusal = result; place = place.new; fields = fields.new; depth = depth.new } }
 {
-    let msg = tib_msg::check(message);
+    let msg = Checked::from(tib_msg::check(message));
     *place = msg.place;
     *fields = msg.fields;
     *depth = msg.depth;
     msg.refusal
-}
-
-// Returns 1 for true and 0 for false.
-fn flag(x: bool) -> u64
-    ensures { result ≡ flag-of x }
-{
-    if x { 1 } else { 0 }
 }
 
 // Returns the k-th field, from 0, of a TibMsg message.
@@ -193,14 +192,14 @@ pub extern "C" fn crudvim_tibmsg_field(
     ensures k_value { parts (tibmsg-field message.now k) ≡ record { refusal = result; place = place.new; name_start = name_start.new; name_length = name_length.new; kind = kind.new; data_start = data_start.new; data_length = data_length.new } }
     ensures k_value_2 { hint_of (tibmsg-field message.now k) ≡ record { hinted = hinted.exit.now; kind = hint_kind.new; value = hint.new; bits = real_bits.new } }
 {
-    let field = tib_msg::field(message, k);
+    let field = tib_field::FieldAnswer::from(tib_msg::field(message, k));
     *place = field.place;
     *name_start = field.name_place;
     *name_length = field.name_length;
     *kind = field.kind;
     *data_start = field.data_place;
     *data_length = field.data_length;
-    *hinted = flag(field.hinted);
+    *hinted = u64::from(field.hinted);
     *hint_kind = field.hint_kind;
     *hint = field.hint;
     *real_bits = field.real.bits;
@@ -217,7 +216,7 @@ pub extern "C" fn crudvim_tibrv_check(
 ) -> u64
     ensures { tibrv-check message.now ≡ record { refusal = result; place = place.new; fields = fields.new; depth = depth.new } }
 {
-    let rv = tib_rv::check(message);
+    let rv = Checked::from(tib_rv::check(message));
     *place = rv.place;
     *fields = rv.fields;
     *depth = rv.depth;
@@ -238,7 +237,7 @@ pub extern "C" fn crudvim_tibrv_field(
 ) -> u64
     ensures { parts (tibrv-field message.now k) ≡ record { refusal = result; place = place.new; name_start = name_start.new; name_length = name_length.new; kind = kind.new; data_start = data_start.new; data_length = data_length.new } }
 {
-    let outer = tib_rv::field(message, k);
+    let outer = tib_field::FieldAnswer::from(tib_rv::field(message, k));
     *place = outer.place;
     *name_start = outer.name_place;
     *name_length = outer.name_length;
@@ -259,7 +258,7 @@ pub extern "C" fn crudvim_qform_check(
 ) -> u64
     ensures { qform-check dictionary.now message.now ≡ record { refusal = result; place = place.new; fields = fields.new; depth = depth.new } }
 {
-    let qform = tib_qform::check(dictionary, message);
+    let qform = Checked::from(tib_qform::check(dictionary, message));
     *place = qform.place;
     *fields = qform.fields;
     *depth = qform.depth;
@@ -280,7 +279,7 @@ pub extern "C" fn crudvim_qform_field(
 ) -> u64
     ensures { qform-field dictionary.now message.now k ≡ record { refusal = result; place = place.new; fid = fid.new; kind = kind.new; data_place = data_start.new; data_length = data_length.new } }
 {
-    let kth = tib_qform::field(dictionary, message, k);
+    let kth = FieldAnswer::from(tib_qform::field(dictionary, message, k));
     *place = kth.place;
     *fid = kth.fid;
     *kind = kth.kind;
@@ -300,7 +299,8 @@ pub extern "C" fn crudvim_fractions(
 ) -> u64
     ensures { fractions_of (with_bits real_bits hint (flagged hinted)) ≡ record { refusal = result; place = place.new; value = whole.new } }
 {
-    let fractions = tib_real::fractions(tib_real::with_bits(real_bits, hint, hinted != 0));
+    let real = tib_real::with_bits(real_bits, hint, hinted != 0);
+    let fractions = WholeNumber::from(tib_real::fractions(real));
     *place = fractions.place;
     let value = fractions.value;
     *whole = value;
@@ -318,7 +318,8 @@ pub extern "C" fn crudvim_decimals(
 ) -> u64
     ensures { decimals_of (with_bits real_bits hint (flagged hinted)) ≡ record { refusal = result; place = place.new; value = whole.new } }
 {
-    let decimals = tib_decimals::decimals(tib_real::with_bits(real_bits, hint, hinted != 0));
+    let number = tib_real::with_bits(real_bits, hint, hinted != 0);
+    let decimals = WholeNumber::from(tib_decimals::decimals(number));
     *place = decimals.place;
     let nearest = decimals.value;
     *whole = nearest;

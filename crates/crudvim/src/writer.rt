@@ -1,7 +1,23 @@
 // The writer. The caller keeps the state between calls, in an array of numbers.
 ghost use Rattle.std.specs.Prelude.{◌≡◌, [], length as length-of};
 ghost use Rattle.writer_state.specs.Call.{put_uint, put_int, put_octets, open_field, close_field};
-ghost use Rattle.writer_words.specs.Words.{start_words, call_words, call_buffer, finish_words};
+ghost use Rattle.writer_state.specs.Results.{written};
+ghost use Rattle.writer_words.specs.Words.{array_after, start_words, call_words, call_buffer, finish_words};
+
+use reading::{Fault, Refusal};
+use writer_state::{State, Written};
+
+// Stores the state after an accepted call between start and finish. Says the place and returns the refusal.
+fn answered(given: State, answer: Result<State, Fault>, state: &mut [u64], place: &mut u64) -> u64
+    ensures refusal { result ≡ (written given answer).refusal }
+    ensures place_after { place.new ≡ (written given answer).place }
+    ensures state_after { state.new ≡ array_after state.old (written given answer) }
+{
+    let w = Written::of(given, answer);
+    writer_words::store_accepted(state, w);
+    *place = w.place;
+    w.refusal
+}
 
 // Starts a message at the end of a buffer. An array of another length is cleared and refused.
 #[unsafe(no_mangle)]
@@ -18,12 +34,13 @@ pub extern "C" fn crudvim_start(
     if state.len() != writer_words::STATE_WORDS {
         writer_words::clear(state);
         *place = 0;
-        return reading::STATE;
+        return Refusal::State.number();
     }
     let started = writer_state::by_octets::start_by_octets(table, revision, number, buffer);
-    writer_words::store(state, started.state);
-    *place = started.place;
-    started.refusal
+    let w = Written::of(writer_state::zeros(), started);
+    writer_words::store(state, w.state);
+    *place = w.place;
+    w.refusal
 }
 
 // Puts a uint field before the fields that were put earlier.
@@ -41,9 +58,7 @@ pub extern "C" fn crudvim_put_uint(
 {
     let given = writer_words::state_of(state);
     let put_uint = writer_put::by_octets::put_uint_by_octets(table, given, tag, value, buffer);
-    writer_words::store_accepted(state, put_uint);
-    *place = put_uint.place;
-    put_uint.refusal
+    answered(given, put_uint, state, place)
 }
 
 // Puts an int field.
@@ -61,9 +76,7 @@ pub extern "C" fn crudvim_put_int(
 {
     let given = writer_words::state_of(state);
     let put_int = writer_put::by_octets::put_int_by_octets(table, given, tag, value, buffer);
-    writer_words::store_accepted(state, put_int);
-    *place = put_int.place;
-    put_int.refusal
+    answered(given, put_int, state, place)
 }
 
 // Puts a string or a text field.
@@ -81,9 +94,7 @@ pub extern "C" fn crudvim_put_octets(
 {
     let given = writer_words::state_of(state);
     let put_octets = writer_put::by_octets::put_octets_by_octets(table, given, tag, octets, buffer);
-    writer_words::store_accepted(state, put_octets);
-    *place = put_octets.place;
-    put_octets.refusal
+    answered(given, put_octets, state, place)
 }
 
 // Opens a message field.
@@ -93,9 +104,7 @@ pub extern "C" fn crudvim_open(table: &[u8], state: &mut [u64], tag: u64, place:
 {
     let given = writer_words::state_of(state);
     let opened = writer_nesting::by_octets::open_field_by_octets(table, given, tag);
-    writer_words::store_accepted(state, opened);
-    *place = opened.place;
-    opened.refusal
+    answered(given, opened, state, place)
 }
 
 // Closes the field that was opened last.
@@ -111,9 +120,7 @@ pub extern "C" fn crudvim_close(
 {
     let given = writer_words::state_of(state);
     let closed = writer_nesting::by_octets::close_field_by_octets(table, given, buffer);
-    writer_words::store_accepted(state, closed);
-    *place = closed.place;
-    closed.refusal
+    answered(given, closed, state, place)
 }
 
 // Finishes a message: says where it starts.
@@ -121,8 +128,16 @@ pub extern "C" fn crudvim_close(
 pub extern "C" fn crudvim_finish(state: &[u64], place: &mut u64, start: &mut u64) -> u64
     ensures { finish_words state.now ≡ record { refusal = result; place = place.new; start = start.new } }
 {
-    let finished = writer_state::finish(writer_words::state_of(state));
-    *place = finished.place;
-    *start = finished.start as u64;
-    finished.refusal
+    match writer_state::finish(writer_words::state_of(state)) {
+        Ok(from) => {
+            *place = 0;
+            *start = from as u64;
+            0
+        }
+        Err(fault) => {
+            *place = fault.place;
+            *start = 0;
+            fault.refusal.number()
+        }
+    }
 }

@@ -6,7 +6,7 @@ use lib.ListN.{length, take, get_or}
 use lib.Dec.{T, ltb}
 use borrow.Author.Tests.{eqb-false}
 use Rattle.table.specs.Load as loads
-use Rattle.table.specs.declared.Loaded.{Loaded}
+use Rattle.table.specs.Load.{Loaded}
 use Rattle.wrong_programs.specs.Kinds.{RuledOut, Rejects, Accepts, Invents, SeesOnly, always, due}
 use Rattle.wrong_programs.specs.Load.{LoadCall, load}
 use Rattle.wrong_programs.proofs.RulingOut.{Sample, given, rejects, accepts, invents, sees_only}

@@ -5,7 +5,7 @@ use mathlib.Core.List.{List, [], ◌∷◌, ◌++◌}
 use lib.Dec.{T, ltb}
 use borrow.Author.Tests.{eqb-false}
 use Rattle.tib_qform.specs.CheckAndField.{refused_field}
-use Rattle.tib_qform.specs.declared.types.Field.{Field}
+use Rattle.tib_qform.specs.declared.types.FieldAnswer.{FieldAnswer}
 use Rattle.wrong_programs.specs.Kinds.{RuledOut, Rejects, Accepts, SeesOnly, Invents, always, due}
 use Rattle.wrong_programs.specs.Qform as calls
 use Rattle.wrong_programs.specs.Qform.{CheckInput, FieldInput, FieldCall}
@@ -17,7 +17,7 @@ abbrev asked : List ℕ → List ℕ → ℕ → FieldInput
 asked dictionary message k = record { of = record { dictionary = dictionary; message = message }; k = k }
 
 -- The answer for a field: its fid, type, offset of the data, and their length.
-abbrev found : ℕ → ℕ → ℕ → ℕ → Field
+abbrev found : ℕ → ℕ → ℕ → ℕ → FieldAnswer
 found fid type at n = record { refusal = 0; place = 0; fid = fid; kind = type; data_place = at; data_length = n }
 
 -- A message with a field of odd size and one of even size.
@@ -46,13 +46,13 @@ as_two : Sample calls.field
 unfolding qform empty_data two_fids
 as_two = given (asked empty_data two_fids 0) (found 1 2 10 0) tt refl
 
-abbrev refusal : Field → ℕ
+abbrev refusal : FieldAnswer → ℕ
 refusal a = a.refusal
 
-abbrev fid : Field → ℕ
+abbrev fid : FieldAnswer → ℕ
 fid a = a.fid
 
-abbrev data_length : Field → ℕ
+abbrev data_length : FieldAnswer → ℕ
 data_length a = a.data_length
 
 abbrev of_call : FieldCall → CheckInput

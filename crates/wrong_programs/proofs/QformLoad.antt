@@ -6,7 +6,7 @@ use borrow.Author.Tests.{eqb-false}
 use lib.ListN.{length, get_or}
 use Rattle.tib_dictionary.specs.Load as loads
 use Rattle.tib_dictionary.specs.declared.Entry.{Entry}
-use Rattle.tib_dictionary.specs.declared.Loaded.{Loaded}
+use Rattle.tib_dictionary.specs.Load.{Loaded}
 use Rattle.wrong_programs.specs.Kinds.{RuledOut, Rejects, Accepts, Invents, SeesOnly, always, due}
 use Rattle.wrong_programs.specs.Qform.{LoadCall, load}
 use Rattle.wrong_programs.proofs.RulingOut.{Sample, given, rejects, accepts, invents, sees_only}

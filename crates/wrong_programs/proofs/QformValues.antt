@@ -9,7 +9,7 @@ use Rattle.reading.specs.declared.Checked.{Checked}
 use Rattle.tib_dictionary.specs.Load.{Loadable}
 use Rattle.tib_dictionary.proofs.Valid.{valid_exactly}
 use Rattle.tib_qform.specs.CheckAndField as calls
-use Rattle.tib_qform.specs.declared.types.Field.{Field}
+use Rattle.tib_qform.specs.declared.types.FieldAnswer.{FieldAnswer}
 use Rattle.tib_qform.proofs.Checks.{loaded_accepts_exactly, loaded_refused_as_checked}
 use Rattle.wrong_programs.specs.Kinds as kinds
 use Rattle.wrong_programs.specs.Kinds.{RuledOut, AcceptsSome}
@@ -42,10 +42,10 @@ checked k x e = go (eqb (calls.check_loaded x.value.dictionary x.value.message).
     go true f = eqb-true (calls.check_loaded x.value.dictionary x.value.message).refusal 0 f
     go false f =
         let n = eqb-false (calls.check_loaded x.value.dictionary x.value.message).refusal 0 f in
-        sym (ap (λ (r : Field). r.refusal) (loaded_refused_as_checked x.value.message x.value.dictionary k n)) ∙ e
+        sym (ap (λ (r : FieldAnswer). r.refusal) (loaded_refused_as_checked x.value.message x.value.dictionary k n)) ∙ e
 
 pub check_accepts_bad_value : RuledOut (AcceptsSome (λ (r : Checked). r.refusal) bad_value) check_loaded
 check_accepts_bad_value = accepts_some (λ (r : Checked). r.refusal) bad_value (λ x w e. w (tested x e))
 
-pub field_accepts_bad_value : (k : ℕ) → RuledOut (AcceptsSome (λ (r : Field). r.refusal) bad_value) (field_loaded k)
-field_accepts_bad_value k = accepts_some (λ (r : Field). r.refusal) bad_value (λ x w e. w (tested x (checked k x e)))
+pub field_accepts_bad_value : (k : ℕ) → RuledOut (AcceptsSome (λ (r : FieldAnswer). r.refusal) bad_value) (field_loaded k)
+field_accepts_bad_value k = accepts_some (λ (r : FieldAnswer). r.refusal) bad_value (λ x w e. w (tested x (checked k x e)))

@@ -10,7 +10,7 @@ use Rattle.table.specs.declared.Table.{Table}
 use Rattle.writer_state.specs.Calls.{begun}
 use Rattle.writer_state.specs.declared.State.{State}
 use Rattle.writer_state.specs.declared.Written.{Written}
-use Rattle.writer_state.specs.declared.Finished.{Finished}
+use Rattle.writer_state.specs.Finished.{Finished}
 use Rattle.wrong_programs.specs.Kinds.{RuledOut, Rejects, Accepts, SeesOnly, always, due, refusal_of}
 use Rattle.wrong_programs.specs.Writer.{StartInput, StartCall, StateCall, start, finish, sound_state}
 use Rattle.wrong_programs.proofs.RulingOut.{Sample, given, rejects, accepts, sees_only}

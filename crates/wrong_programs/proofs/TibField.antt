@@ -9,7 +9,7 @@ use borrow.Author.Tests.{eqb-false}
 use Rattle.tib_real.specs.FromOctets.{with_bits}
 use Rattle.tib_real.specs.declared.types.Real.{Real}
 use Rattle.tib_field.specs.Refused.{no_real, refused_field}
-use Rattle.tib_field.specs.declared.Field.{Field}
+use Rattle.tib_field.specs.declared.FieldAnswer.{FieldAnswer}
 use Rattle.wrong_programs.specs.Kinds.{RuledOut, Rejects, Accepts, Invents, SeesOnly, always, due}
 use Rattle.wrong_programs.specs.Tib.{Format, tibmsg, FieldInput, FieldCall, field}
 use Rattle.wrong_programs.proofs.RulingOut.{Sample, given, fixes, rejects, accepts, invents, sees_only}
@@ -17,7 +17,7 @@ use Rattle.wrong_programs.proofs.Computing.{tib}
 use Rattle.wrong_programs.proofs.TibMessages.{both, message, string_type, one_field, two_fields, first}
 
 -- The answer for a field with no name that begins at a place: its type, the length of its data, the type of its hint and its real.
-abbrev found : ℕ → ℕ → ℕ → ℕ → Real → Field
+abbrev found : ℕ → ℕ → ℕ → ℕ → Real → FieldAnswer
 found at type n hint-type real =
     record {
       refusal = 0;
@@ -59,13 +59,13 @@ unfolding tib message
 hinted_real =
     given (asked (message tibmsg (0 ∷ 0x47 ∷ 4 ∷ 0x3f ∷ 0x80 ∷ 0 ∷ 0 ∷ 6 ∷ 1 ∷ 2 ∷ [])) 0) (found 9 7 4 6 (with_bits 0x3ff0000000000000 2 true)) tt refl
 
-abbrev refusal : Field → ℕ
+abbrev refusal : FieldAnswer → ℕ
 refusal a = a.refusal
 
-abbrev data_place : Field → ℕ
+abbrev data_place : FieldAnswer → ℕ
 data_place a = a.data_place
 
-abbrev data_length : Field → ℕ
+abbrev data_length : FieldAnswer → ℕ
 data_length a = a.data_length
 
 abbrev message_of : FieldCall → List ℕ
@@ -112,11 +112,11 @@ module _ (f : Format) where
       (eqb-false 3 0 refl)
 
 -- No field of a TibMsg has a hint.
-pub hint_dropped : RuledOut (Invents (λ (a : Field). a.hinted) (λ (x : FieldCall). false) always) (field tibmsg)
+pub hint_dropped : RuledOut (Invents (λ (a : FieldAnswer). a.hinted) (λ (x : FieldCall). false) always) (field tibmsg)
 unfolding hinted_real
-hint_dropped = invents (λ (a : Field). a.hinted) (λ (x : FieldCall). false) always hinted_real tt true≢false
+hint_dropped = invents (λ (a : FieldAnswer). a.hinted) (λ (x : FieldCall). false) always hinted_real tt true≢false
 
 -- Every real of a TibMsg is 0.
-pub real_dropped : RuledOut (Invents (λ (a : Field). a.real.bits) (λ (x : FieldCall). 0) always) (field tibmsg)
+pub real_dropped : RuledOut (Invents (λ (a : FieldAnswer). a.real.bits) (λ (x : FieldCall). 0) always) (field tibmsg)
 unfolding hinted_real
-real_dropped = invents (λ (a : Field). a.real.bits) (λ (x : FieldCall). 0) always hinted_real tt (eqb-false 0x3ff0000000000000 0 refl)
+real_dropped = invents (λ (a : FieldAnswer). a.real.bits) (λ (x : FieldCall). 0) always hinted_real tt (eqb-false 0x3ff0000000000000 0 refl)

@@ -15,7 +15,7 @@ use Rattle.writer_state.specs.Calls as calls
 use Rattle.writer_state.specs.Calls.{or_refuse}
 use Rattle.writer_state.specs.declared.State.{State}
 use Rattle.writer_state.specs.declared.Written.{Written}
-use Rattle.writer_state.specs.declared.Finished.{Finished}
+use Rattle.writer_state.specs.Finished.{Finished}
 use Rattle.writer_state.proofs.Conditions.{passed as met, StartMet, start_met}
 use Rattle.wrong_programs.specs.Kinds as kinds
 use Rattle.wrong_programs.specs.Kinds.{RuledOut, AcceptsSome, refusal_of}

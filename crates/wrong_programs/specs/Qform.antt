@@ -3,9 +3,9 @@ use Rattle.std.specs.Prelude.{ℕ, Bool, ◌&&◌, List}
 use Rattle.reading.specs.declared.Checked.{Checked}
 use Rattle.tib_dictionary.specs.Load as loads
 use Rattle.tib_dictionary.specs.declared.Dictionary.{Dictionary}
-use Rattle.tib_dictionary.specs.declared.Loaded.{Loaded}
+use Rattle.tib_dictionary.specs.Load.{Loaded}
 use Rattle.tib_qform.specs.CheckAndField as qform
-use Rattle.tib_qform.specs.declared.types.Field.{Field}
+use Rattle.tib_qform.specs.declared.types.FieldAnswer.{FieldAnswer}
 use Rattle.wrong_programs.specs.Kinds.{Given, array, octets, word}
 
 abbrev pub LoadCall : Type 0
@@ -40,7 +40,7 @@ abbrev pub FieldCall : Type 0
 FieldCall = Given field_fits
 
 -- The contract of tib_qform::field, whose answer crudvim_qform_field spreads over numbers.
-unfoldable pub field : FieldCall → Field
+unfoldable pub field : FieldCall → FieldAnswer
 field x = qform.field_octets x.value.of.dictionary x.value.of.message x.value.k
 
 -- The same under a dictionary value: 512 words of 64 bits.
@@ -58,5 +58,5 @@ ValueCall = Given value_fits
 unfoldable pub check_loaded : ValueCall → Checked
 check_loaded x = qform.check_loaded x.value.dictionary x.value.message
 
-unfoldable pub field_loaded : ℕ → ValueCall → Field
+unfoldable pub field_loaded : ℕ → ValueCall → FieldAnswer
 field_loaded k x = qform.field_loaded x.value.dictionary x.value.message k

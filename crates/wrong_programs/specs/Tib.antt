@@ -1,7 +1,7 @@
 -- The arguments of the calls of the readers of TibMsg and TibrvMsg, and the answers that their contracts fix.
 use Rattle.std.specs.Prelude.{ℕ, Bool, ◌&&◌, List}
 use Rattle.reading.specs.declared.Checked.{Checked}
-use Rattle.tib_field.specs.declared.Field.{Field}
+use Rattle.tib_field.specs.declared.FieldAnswer.{FieldAnswer}
 use Rattle.tib_msg.specs.CheckAndField as msg
 use Rattle.tib_rv.specs.CheckAndField as rv
 use Rattle.wrong_programs.specs.Kinds.{Given, octets, word}
@@ -30,6 +30,6 @@ abbrev pub FieldCall : Type 0
 FieldCall = Given field_fits
 
 -- The contracts of tib_msg::field and tib_rv::field, whose answers crudvim_tibmsg_field and crudvim_tibrv_field spread over numbers.
-unfoldable pub field : Format → FieldCall → Field
+unfoldable pub field : Format → FieldCall → FieldAnswer
 field tibmsg x = msg.field x.value.message x.value.k
 field tibrv x = rv.field x.value.message x.value.k

@@ -8,7 +8,7 @@ use Rattle.writer_state.specs.Answer as writes
 use Rattle.writer_state.specs.Calls.{started, finished}
 use Rattle.writer_state.specs.declared.State.{State}
 use Rattle.writer_state.specs.declared.Written.{Written}
-use Rattle.writer_state.specs.declared.Finished.{Finished}
+use Rattle.writer_state.specs.Finished.{Finished}
 use Rattle.wrong_programs.specs.Kinds as kinds
 use Rattle.wrong_programs.specs.Kinds.{Given, word, array}
 

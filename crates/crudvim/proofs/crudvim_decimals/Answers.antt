@@ -8,6 +8,6 @@ use Rattle.crudvim.proofs.crudvim_decimals.Goals as goal
 pub returns : goal.returns
 unfolding flagged
 returns c =
-    let f = c.decimals-decimals in
+    let f = c.from-decimals in
     let z = to_z-of_z w64 f.result.value (record { sfits = c.struct_told-1.given.1.1.0.1 }) in
-    sym (rw z (f.ensures ∙ ap decimals_of c.with_bits.ensures))
+    sym (rw z (f.ensures ∙ c.decimals.ensures ∙ ap decimals_of c.with_bits-number.ensures))

@@ -7,4 +7,5 @@ use Rattle.crudvim.proofs.writer.crudvim_open.Goals as goal
 pub returns : goal.returns
 returns c =
     let a = c.args in
-    called a.table.now a.state.now [] (open_field a.tag) c.state_of-given.ensures c.open_field_by_octets-opened.ensures c.store_accepted.ensures
+    let w = c.answered.ensures in
+    called a.table.now a.state.now [] (open_field a.tag) c.state_of-given.ensures c.open_field_by_octets-opened.ensures w.refusal w.place_after w.state_after

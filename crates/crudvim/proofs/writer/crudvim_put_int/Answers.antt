@@ -14,10 +14,11 @@ returns c =
     let e = c.state_of-given.ensures in
     let s = c.state_of-given.result in
     let p = c.put_int_by_octets-put_int.ensures in
+    let w = c.answered.ensures in
     let v = to_z-of_z w64 a.value c.ranges.value in
-    let answered = p.value ∙ ap (λ (z : ℤ). answer_octets a.table.now s a.buffer.now (put_int a.tag z)) v in
+    let answer = p.value ∙ ap (λ (z : ℤ). answer_octets a.table.now s a.buffer.now (put_int a.tag z)) v in
     let stored = p.out_after ∙ ap (λ (z : ℤ). buffer_octets a.table.now s a.buffer.now (put_int a.tag z)) v in
     record {
-      value_value = called a.table.now a.state.now a.buffer.now (put_int a.tag a.value) e answered c.store_accepted.ensures;
+      value_value = called a.table.now a.state.now a.buffer.now (put_int a.tag a.value) e answer w.refusal w.place_after w.state_after;
       buffer_after = called_buffer a.table.now a.state.now a.buffer.now (put_int a.tag a.value) e stored;
     }

@@ -8,7 +8,8 @@ returns c =
     let a = c.args in
     let e = c.state_of-given.ensures in
     let p = c.put_uint_by_octets-put_uint.ensures in
+    let w = c.answered.ensures in
     record {
-      value_value = called a.table.now a.state.now a.buffer.now (put_uint a.tag a.value) e p.value c.store_accepted.ensures;
+      value_value = called a.table.now a.state.now a.buffer.now (put_uint a.tag a.value) e p.value w.refusal w.place_after w.state_after;
       buffer_after = called_buffer a.table.now a.state.now a.buffer.now (put_uint a.tag a.value) e p.out_after;
     }
