@@ -2,7 +2,7 @@
 ghost use Rattle.std.specs.Prelude.{◌<◌, ◌≤◌, length, take, IfOk, IfSome};
 ghost use Rattle.std.specs.Io.KnownBytes.{Consumes, IsAtEnd};
 
-use crate::{Line, ROOM};
+use crate::{Line, ROOM, find};
 use std::io::{self, Read};
 
 // Reads until the buffer is full or the input ends, and returns how many octets it stored at the front of the buffer.
@@ -23,14 +23,13 @@ pub fn read_full<R: Read>(reader: &mut R, buffer: &mut [u8]) -> io::Result<usize
     Ok(done)
 }
 
+// What a program does with the line of a sample.
+pub trait Program {
+    fn run<R: Print>(&self, rt: &R, line: Line) -> io::Result<()>;
+}
+
 // Runs each line of the input that is not empty and does not start with #, between its label and the end of a line.
-pub fn samples<R: Print, F: Fn(&R, Line) -> io::Result<()>>(
-    rt: &R,
-    input: &[u8],
-    run: F,
-) -> io::Result<()>
-    requires { F.IsAlwaysCallable run }
-{
+pub fn samples<R: Print, P: Program>(rt: &R, input: &[u8], program: &P) -> io::Result<()> {
     for text in input.split(|x| *x == b'\n') {
         if text.is_empty() || text.starts_with(b"#") {
             continue;
@@ -38,7 +37,7 @@ pub fn samples<R: Print, F: Fn(&R, Line) -> io::Result<()>>(
         let line = Line { text };
         rt.write_all(line.label())?;
         print!(rt; ": ")?;
-        run(rt, line)?;
+        program.run(rt, line)?;
         println!(rt)?;
     }
     Ok(())
@@ -81,9 +80,9 @@ fn spell(s: &[u8], out: &mut [u8; ROOM]) -> usize {
 
 // Stores the octets of a word at the front of a buffer of zeros. Returns how many octets the word has, the zeros that it leaves out included.
 pub(crate) fn store(s: &[u8], out: &mut [u8; ROOM]) -> usize {
-    match s.iter().position(|x| *x == b':') {
-        Some(colon) => {
-            spell(&s[colon + 1..], out);
+    match s.get(find(s, 0, b':') + 1..) {
+        Some(digits) => {
+            spell(digits, out);
             number_in(s) as usize
         }
         None => spell(s, out),

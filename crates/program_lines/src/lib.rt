@@ -9,8 +9,8 @@ mod input;
 mod line;
 mod print;
 
-pub use input::{number_in, read_full, samples};
-pub use line::Line;
+pub use input::{Program, number_in, read_full, samples};
+pub use line::{Line, find};
 pub use print::{Counted, Octets, Refused, part_of};
 
 // The octets of a buffer.

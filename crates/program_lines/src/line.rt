@@ -1,7 +1,21 @@
 // Splits a line of standard input into its words and its label.
-ghost use Rattle.std.specs.Prelude.{◌≤◌};
+ghost use Rattle.std.specs.Prelude.{◌≤◌, max, length};
 
 use crate::{ROOM, input};
+
+// Returns the first place from `from` on that holds the octet x. Where there is none, it returns the end, or `from` if that lies beyond.
+pub fn find(s: &[u8], from: usize, x: u8) -> usize
+    ensures lower_bound { from ≤ result }
+    ensures upper_bound { result ≤ max from (length s.now) }
+{
+    match s
+        .get(from..)
+        .and_then(|rest| rest.iter().position(|c| *c == x))
+    {
+        Some(k) => from + k,
+        None => from.max(s.len()),
+    }
+}
 
 // A line, without the newline that ends it.
 #[derive(Clone, Copy)]
@@ -40,9 +54,7 @@ impl<'a> Line<'a> {
 
     // Returns the label, which follows the mark # and a space.
     pub fn label(self) -> &'a [u8] {
-        match self.text.iter().position(|x| *x == b'#') {
-            Some(mark) => self.text.get(mark + 2..).unwrap_or(b""),
-            None => b"",
-        }
+        let mark = find(self.text, 0, b'#');
+        self.text.get(mark + 2..).unwrap_or(b"")
     }
 }

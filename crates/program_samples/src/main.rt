@@ -17,24 +17,29 @@ mod messages;
 mod print;
 mod tables;
 
-use program_lines::Line;
+use program_lines::{Line, Program};
 use std::io;
 
-fn run(rt: &impl Print, line: Line) -> io::Result<()> {
-    match line.letter() {
-        Some(b'm') => messages::message(rt, line),
-        Some(b's') => messages::shorten(rt, line),
-        Some(b'f') => lookups::find(rt, line),
-        Some(b't') => tables::table(rt, line),
-        Some(b'r') => frames::read(rt, line),
-        Some(b'w') => frames::write(rt, line),
-        _ => print!(rt; "not a line"),
+// The samples of this program.
+struct Documents;
+
+impl Program for Documents {
+    fn run<R: Print>(&self, rt: &R, line: Line) -> io::Result<()> {
+        match line.letter() {
+            Some(b'm') => messages::message(rt, line),
+            Some(b's') => messages::shorten(rt, line),
+            Some(b'f') => lookups::find(rt, line),
+            Some(b't') => tables::table(rt, line),
+            Some(b'r') => frames::read(rt, line),
+            Some(b'w') => frames::write(rt, line),
+            _ => print!(rt; "not a line"),
+        }
     }
 }
 
 fn main(rt: HostRuntime) -> io::Result<()> {
     let mut input = [0u8; 65536];
     let n = program_lines::read_full(&mut rt.stdin(), &mut input)?;
-    program_lines::samples(&rt, &input[..n], |rt, line| run(rt, line))?;
+    program_lines::samples(&rt, &input[..n], &Documents)?;
     tables::values(&rt)
 }

@@ -8,7 +8,7 @@
 mod print;
 mod qform;
 
-use program_lines::{Counted, Line, ROOM, Refused};
+use program_lines::{Counted, Line, Program, ROOM, Refused};
 use reading::{Counts, Fault};
 use std::io;
 
@@ -80,27 +80,32 @@ fn rv(rt: &impl Print, s: &[u8]) -> io::Result<()> {
     })
 }
 
-// Runs a line with two words of octets; only the calls for QForm look at the second.
-fn run(rt: &impl Print, line: Line) -> io::Result<()> {
-    let mut space = [0u8; ROOM];
-    let mut other = [0u8; ROOM];
-    let first = line.octets(1, &mut space);
-    let second = line.octets(2, &mut other);
-    match line.letter() {
-        Some(b'm') => msg(rt, first),
-        Some(b'M') => none(rt, tib_msg::check(first), |k| tib_msg::field(first, k)),
-        Some(b'r') => rv(rt, first),
-        Some(b'R') => none(rt, tib_rv::check(first), |k| tib_rv::field(first, k)),
-        Some(b'q') => qform::message(rt, first, second),
-        Some(b'Q') => qform::absent(rt, first, second),
-        Some(b'l') => qform::loaded(rt, first, second),
-        _ => print!(rt; "not a line"),
+// The samples of this program.
+struct Formats;
+
+impl Program for Formats {
+    // Runs a line with two words of octets; only the calls for QForm look at the second.
+    fn run<R: Print>(&self, rt: &R, line: Line) -> io::Result<()> {
+        let mut space = [0u8; ROOM];
+        let mut other = [0u8; ROOM];
+        let first = line.octets(1, &mut space);
+        let second = line.octets(2, &mut other);
+        match line.letter() {
+            Some(b'm') => msg(rt, first),
+            Some(b'M') => none(rt, tib_msg::check(first), |k| tib_msg::field(first, k)),
+            Some(b'r') => rv(rt, first),
+            Some(b'R') => none(rt, tib_rv::check(first), |k| tib_rv::field(first, k)),
+            Some(b'q') => qform::message(rt, first, second),
+            Some(b'Q') => qform::absent(rt, first, second),
+            Some(b'l') => qform::loaded(rt, first, second),
+            _ => print!(rt; "not a line"),
+        }
     }
 }
 
 fn main(rt: HostRuntime) -> io::Result<()> {
     let mut input = [0u8; 65536];
     let n = program_lines::read_full(&mut rt.stdin(), &mut input)?;
-    program_lines::samples(&rt, &input[..n], |rt, line| run(rt, line))?;
+    program_lines::samples(&rt, &input[..n], &Formats)?;
     qform::values(&rt)
 }

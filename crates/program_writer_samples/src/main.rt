@@ -26,8 +26,9 @@ fn main(rt: HostRuntime) -> io::Result<()> {
     let n = program_lines::read_full(&mut rt.stdin(), &mut input)?;
     let mut buffer = [0xaau8; ROOM];
     let mut r = run::fresh();
-    for text in input[..n].split(|x| *x == b'\n') {
-        if !text.is_empty() {
+    // A line ends at its newline: an empty one is run, and octets after the last newline are left.
+    for whole in input[..n].split_inclusive(|x| *x == b'\n') {
+        if let Some(text) = whole.strip_suffix(b"\n") {
             r = run::line(&rt, Line { text }, r, &mut buffer)?;
         }
     }

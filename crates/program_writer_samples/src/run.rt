@@ -199,7 +199,7 @@ fn reads(rt: &impl Print, what: u8, line: Line, r: Run, buffer: &[u8]) -> io::Re
         _ => message_calls::lookup_loaded(r.table, r.revision, r.number, m, tag, k),
     };
     back::field(rt, found, m)?;
-    if what != b'z' {
+    if what == b'x' || what == b'y' {
         return Ok(r);
     }
     let (start, length) = found.map_or((0, 0), |f| (f.start, f.length));
