@@ -1,6 +1,7 @@
 // The traversal of a message and of the messages nested in it, and the check that rests on it.
 ghost use Rattle.std.specs.Prelude.{◌≡◌, true, false, List, ℕ, ◌+◌, ◌-◌, ◌≤◌, ◌<◌, max, ◌&&◌, length, get_or, MatchOption};
 ghost use Rattle.std.specs.Int.Bits.{bit_and};
+ghost use Rattle.reading.specs.Checks.{refusal};
 ghost use Rattle.reading.specs.Reading.{message_limit, depth_limit};
 ghost use Rattle.table_index.specs.internal.Cells.{meaning_of, indexed};
 ghost use Rattle.message.specs.Reading.{message_from};
@@ -234,6 +235,17 @@ pub(crate) fn check(index: &Index, number: u64, message: &[u8]) -> Result<Summar
     traverse(index, number, reading::DEPTH_LIMIT, 0, message)
 }
 
+// Returns the check in numbers of a message that is rejected, by the number of the refusal and its place.
+fn refused(reason: u64, place: u64) -> CheckedMessage
+    ensures checked_value { result.checked ≡ refusal reason place }
+    ensures shortest_value { result.shortest ≡ false }
+{
+    CheckedMessage {
+        checked: reading::refused(reason, place),
+        shortest: false,
+    }
+}
+
 // The check in numbers.
 impl From<Result<Summary, Fault>> for CheckedMessage {
     ghost from_gives = { λ r answer. answer ≡ checked_message r };
@@ -249,10 +261,7 @@ impl From<Result<Summary, Fault>> for CheckedMessage {
                 },
                 shortest: summary.shortest,
             },
-            Err(fault) => CheckedMessage {
-                checked: Checked::from(fault),
-                shortest: false,
-            },
+            Err(fault) => refused(fault.refusal.number(), fault.place),
         }
     }
 }

@@ -102,18 +102,25 @@ pub struct Checked {
     pub depth: u64,
 }
 
+// Returns the answer for a message that is rejected, by the number of the refusal and its place.
+#[tactic(auto, unfolding(crate::specs::Checks::refusal))]
+pub fn refused(reason: u64, place: u64) -> Checked
+    ensures { result ≡ refusal reason place }
+{
+    Checked {
+        refusal: reason,
+        place,
+        fields: 0,
+        depth: 0,
+    }
+}
+
 // The answer for a message that is rejected.
 impl From<Fault> for Checked {
     ghost from_gives = { λ fault answer. answer ≡ refusal (number fault.refusal) fault.place };
 
-    #[tactic(auto, unfolding(crate::specs::Checks::refusal))]
     fn from(fault: Fault) -> Checked {
-        Checked {
-            refusal: fault.refusal.number(),
-            place: fault.place,
-            fields: 0,
-            depth: 0,
-        }
+        refused(fault.refusal.number(), fault.place)
     }
 }
 

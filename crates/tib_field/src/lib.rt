@@ -64,7 +64,7 @@ pub fn no_real() -> Real
 }
 
 // Returns a refusal in place of a field: the message is refused, or has no such field.
-fn refused_field(refusal: u64, place: u64) -> FieldAnswer
+pub fn refused_field(refusal: u64, place: u64) -> FieldAnswer
     ensures { result ≡ refused_field refusal place }
 {
     FieldAnswer {

@@ -10,7 +10,7 @@ ghost use Rattle.tib_qform.specs.internal.Found.{Noted};
 
 use tib_dictionary::{Dictionary, Entry};
 
-pub trait Source {
+pub(crate) trait Source {
     // Its entries, or its refusal.
     ghost read: { Self → Reading (List Entry) };
 
@@ -26,8 +26,8 @@ pub trait Source {
 
 // The octets of a dictionary.
 #[derive(Clone, Copy)]
-pub struct Records<'a> {
-    pub octets: &'a [u8],
+pub(crate) struct Records<'a> {
+    pub(crate) octets: &'a [u8],
 }
 
 impl<'a> Source for Records<'a> {

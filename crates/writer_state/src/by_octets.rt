@@ -36,7 +36,12 @@ pub fn tag_kind_by_octets(
     if !crate::usable(s, len) {
         return Err(Refusal::State.at(0));
     }
-    let cells = index_of(table, s.revision)?;
+    // Kept: `index_of` returns the index by value, and the compiler copies it twice; a put under a small table then takes up to twice as long.
+    let mut cells = [0u32; 128];
+    let read = table_index::index(table, s.revision, &mut cells);
+    if read < table.len() {
+        return Err(Refusal::Table.at(read as u64));
+    }
     crate::tag_under(&cells, s, tag, wanted)
 }
 

@@ -64,13 +64,15 @@ impl Written {
     }
 }
 
-// What a call stores: a uint, an int, the octets of a string or of a text, or a message.
+// What a call stores: a uint, an int, the octets of a string or of a text, or a message. A kind can also be given by its number, 3 for a string or
+// a text. A number that no kind has fits no field.
 #[derive(Clone, Copy)]
 pub enum Wanted {
     Uint,
     Int,
     Octets,
     Message,
+    Number(u64),
 }
 
 // A tag looked up in the innermost open message: its kind, and the mask of the message with the tag noted.
@@ -169,6 +171,8 @@ fn fits(wanted: Wanted, kind: Meaning) -> bool
         Wanted::Int => matches!(kind, Meaning::Int),
         Wanted::Octets => of_octets(kind),
         Wanted::Message => matches!(kind, Meaning::Message(_)),
+        Wanted::Number(3) => of_octets(kind),
+        Wanted::Number(n) => table_index::kind_number(kind) == n,
     }
 }
 

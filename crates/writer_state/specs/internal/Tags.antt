@@ -10,7 +10,7 @@ use Rattle.writer_state.specs.Calls.{or_refuse, meant, mask_with, of_octets, put
 use Rattle.writer_state.specs.declared.State.{State}
 use Rattle.writer_state.specs.declared.Tagged.{Tagged}
 use Rattle.writer_state.specs.declared.Wanted.{Wanted}
-use Rattle.writer_state.specs.declared.Wanted.TheVariants.{Uint, Int, Octets, Message}
+use Rattle.writer_state.specs.declared.Wanted.TheVariants.{Uint, Int, Octets, Message, Number}
 
 -- The number of the kind that a call wants; 3 stands for a string or a text.
 abbrev pub wanted_number : Wanted → ℕ
@@ -18,6 +18,7 @@ wanted_number Uint = 1
 wanted_number Int = 2
 wanted_number Octets = 3
 wanted_number Message = 5
+wanted_number (Number n) = n
 
 -- Whether a kind is the one that a call wants, by the kinds' numbers.
 unfoldable pub fits : ℕ → ℕ → Bool
