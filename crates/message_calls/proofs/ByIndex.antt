@@ -11,11 +11,14 @@ use Rattle.table.specs.Load.{place_at, record_at, word_at, well_formed}
 use Rattle.table_index.specs.internal.Cells.{word_under, inserted_before, prefix_end, indexed}
 use Rattle.message_calls.specs.Check.{check_under}
 use Rattle.message_calls.specs.Short.{short_under}
-use Rattle.message_calls.specs.Calls.{check_octets, short_octets, shorten_octets}
-use Rattle.message_calls.specs.internal.ShortenUnder.{shorten_under}
+use Rattle.message_calls.specs.Calls.{check_octets, short_octets, shorten_octets, shorten_buffer, lookup_octets, lookup_last_octets}
+use Rattle.message_calls.specs.Lookup.{lookup, lookup_last}
+use Rattle.message_calls.specs.internal.ShortenUnder.{shorten_under, buffer_under}
+use Rattle.message_calls.specs.internal.LookupUnder.{look_under}
+use Rattle.message_calls.specs.declared.outermost.Occurrence.TheVariants.{Nth, Last}
 use Rattle.message_calls.proofs.OctetsIndex as indexes
 use Rattle.message_calls.proofs.Prologue.{octets_read}
-use Rattle.message_calls.proofs.Entries.{checking, shortness, shortening}
+use Rattle.message_calls.proofs.Entries.{checking, shortness, shortening, buffering, looking}
 
 module _ (octets : List ℕ) (revision : ℕ) where
   abbrev count : ℕ
@@ -39,4 +42,22 @@ module _ (octets : List ℕ) (revision : ℕ) where
     unfolding shorten_octets
     shorten_by_index out =
         octets_read (shortening revision n s out) h octets o (indexed cells)
+        (indexes.whole octets revision (replicate 128 0) refl end ended all known cells noted)
+
+    pub buffer_by_index : (out : List ℕ) → buffer_under (indexed cells) n s out ≡ shorten_buffer octets revision n s out
+    unfolding shorten_buffer
+    buffer_by_index out =
+        octets_read (buffering revision n s out) h octets o (indexed cells)
+        (indexes.whole octets revision (replicate 128 0) refl end ended all known cells noted)
+
+    pub lookup_by_index : (tag k : ℕ) → look_under (indexed cells) n s tag (Nth k) ≡ lookup_octets octets revision n s tag k
+    unfolding lookup_octets lookup
+    lookup_by_index tag k =
+        octets_read (looking revision n s tag (Nth k)) h octets o (indexed cells)
+        (indexes.whole octets revision (replicate 128 0) refl end ended all known cells noted)
+
+    pub last_by_index : (tag : ℕ) → look_under (indexed cells) n s tag Last ≡ lookup_last_octets octets revision n s tag
+    unfolding lookup_last_octets lookup_last
+    last_by_index tag =
+        octets_read (looking revision n s tag Last) h octets o (indexed cells)
         (indexes.whole octets revision (replicate 128 0) refl end ended all known cells noted)

@@ -86,6 +86,12 @@ module _ (sc : Schema) (n : ℕ) where
   short_refused h (accepted x) r k p v = let z : ◌≡◌ {A = ℕ} 0 1 = cc in absurd (omega arith)
   short_refused h (refused reason place) r k p v = refl
 
+-- A message that is refused is not short.
+pub refused_short : (sc : Schema) (n : ℕ) (q : Reading Cut) (k p : ℕ) → verdict q ≡ Refused k p → short_reading sc n q ≡ false
+unfolding short_reading verdict_of
+refused_short sc n (accepted x) k p v = cc
+refused_short sc n (refused reason place) k p v = refl
+
 -- ---- the loop
 
 module _ (cells : List ℕ) (levels : ℕ) (inner : Inner) (n at : ℕ) (s : List ℕ) where

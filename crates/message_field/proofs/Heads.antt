@@ -16,7 +16,7 @@ use Rattle.std.specs.Prelude.{Result, Ok, Err, Option, Some, None}
 use Rattle.std.specs.Result.{result_unwrap_or}
 use Rattle.reading.specs.declared.Refusal.{Refusal}
 use Rattle.message_field.specs.declared.Head as code
-use Rattle.message_field.specs.internal.Heads.{head_of, head_from, head_at, Fieldless}
+use Rattle.message_field.specs.internal.Heads.{Head, head_of, head_from, head_at, Fieldless}
 use Rattle.message_field.specs.internal.Heads.{End, Fault, Field}
 
 -- ---- the octets of a message from an offset on, as the code takes them
@@ -100,6 +100,15 @@ module _ (i : ℕ) (s : List ℕ) (tag start end : ℕ) where
       go Absent c f = let z : ◌≡◌ {A = ℕ} 0 1 = cc in absurd (omega arith)
       go Partial c f = let z : ◌≡◌ {A = ℕ} 0 1 = cc in absurd (omega arith)
       go (Whole t len size) c f = whole_head_span t len size c (leb len (length s - size)) refl f
+
+-- ---- no field
+
+-- A head that equals no field.
+pub fieldless : (h : Head) → ((tag start end : ℕ) → h ≡ Field tag start end → ⊥) → Fieldless h
+unfolding Fieldless
+fieldless End o = tt
+fieldless (Fault k) o = tt
+fieldless (Field tag start end) o = absurd (o tag start end refl)
 
 -- ---- what `head_at` returns where the caller does not ask why there is no field
 

@@ -10,7 +10,7 @@ use lib.Dec.{leb}
 use borrow.Author.Tests.{le-leb, lt-leb}
 use borrow.Rule.Slice.PartMut.{put_mid}
 use Rattle.octets_store.specs.Store.{stored}
-use Rattle.octets_store.proofs.Sets.{sets_append, sets_before_sets, take_before_sets}
+use Rattle.octets_store.proofs.Sets.{sets_append, sets_before_sets, sets_over, take_before_sets}
 
 pub stored_fits : (d : List ℕ) (at : ℕ) (xs : List ℕ) → at + length xs ≤ length d → stored d at xs ≡ sets d at xs
 unfolding stored
@@ -73,6 +73,11 @@ stored_before d at xs ys h =
     stored_fits (stored d (at + length ys) xs) at ys (omega arith)
     ∙ rw (stored_fits d (at + length ys) xs h, stored_fits d at (ys ++ xs) k)
     (sets_before_sets d (at + length ys) at ys xs (omega arith) ∙ sym (sets_append d at ys xs))
+
+-- A store over a shorter one at the same place.
+pub stored_over : (d : List ℕ) (at : ℕ) (xs ys : List ℕ) → length xs ≤ length ys → at + length ys ≤ length d
+    → stored (stored d at xs) at ys ≡ stored d at ys
+stored_over d at xs ys k h = let e = length_stored d at xs in grind (arith, stored_fits, sets_over)
 
 -- The octets before a store stay.
 pub take_before_stored : (d : List ℕ) (at n : ℕ) (xs : List ℕ) → n ≤ at → take n (stored d at xs) ≡ take n d

@@ -1,3 +1,4 @@
+pub mod Lists
 pub mod Repeat
 pub mod Load
 pub mod WordRecords

@@ -8,7 +8,7 @@ use mathlib.Core.List.{List}
 use lib.ListN.{get_or}
 use borrow.Author.Tests.{ne_eqb, lt-ltb, le-ltb}
 use Rattle.table.specs.declared.Meaning.TheVariants.{Raw, Uint, Int, String, Text, Message}
-use Rattle.table_index.specs.internal.Cells.{key_of, bucket_of, chase, search, cell_for, code_in, meaning_of, meaning_in, single_in}
+use Rattle.table_index.specs.internal.Cells.{key_of, bucket_of, chase, search, cell_for, code_in, meaning_of, meaning_in, single_in, order_in}
 use Rattle.table_index.proofs.Chains.{search_from}
 
 module _ (c : ℕ) where
@@ -49,10 +49,23 @@ pub none : meaning_in 0 ≡ Raw
 unfolding meaning_in code_in meaning_of
 none = refl
 
--- It is not single.
+-- It is not single, and its code is 0.
 pub single_none : single_in 0 ≡ false
 unfolding single_in
 single_none = refl
+
+pub code_none : code_in 0 ≡ 0
+unfolding code_in
+code_none = refl
+
+-- There are 64 orders.
+pub order_low : (c : ℕ) → order_in c < 64
+unfolding order_in
+order_low c = omega arith
+
+pub order_whole : (c : ℕ) → order_in c % 64 ≡ order_in c
+unfolding order_in
+order_whole c = omega arith
 
 -- The bucket of a key, by its number and tag.
 bucket_is : (m t : ℕ) → t < 65536 → (m * 45 + t) % 64 ≡ bucket_of (m * 65536 + t)

@@ -219,3 +219,15 @@ found_inside s n e =
 
 pub sized_inside : (s : List ℕ) (n k : ℕ) → (length s ≡ 0 → ⊥) → k ≡ name_fault s → k ≡ 0 → n ≡ get_or s 0 0 → 1 + n ≤ length s
 sized_inside s n k h e z m = found_inside s n (name_step_sized s n k h e z m)
+
+few_fault : (n : ℕ) (t u : Bool) → fault_of (cond t (Fault 3) (cond u (Sized n) (Fault 15))) ≤ 15
+unfolding fault_of
+few_fault n true u = omega arith
+few_fault n false true = omega arith
+few_fault n false false = omega arith
+
+-- The refusal of a name is small.
+pub name_fault_few : (s : List ℕ) → name_fault s ≤ 15
+unfolding name_fault name_step fault_of
+name_fault_few [] = omega arith
+name_fault_few (x ∷ s) = few_fault x (ltb (length s) x) (named (take x s))

@@ -1,11 +1,12 @@
 -- The answer of a put after its tag is looked up, and the buffer after it, case by case.
-use Prim.Native.Nat.{ℕ, ◌+◌, ◌-◌}
+use Prim.Native.Nat.{ℕ, ◌+◌, ◌-◌, ◌<◌}
 use native.Mathlib.Omega.{arith}
 use mathlib.Core.Path.{◌≡◌, refl, sym}
 use mathlib.Core.Bool.{Bool, true, false, cond}
 use mathlib.Core.List.{List}
 use lib.ListN.{length}
 use lib.Dec.{leb}
+use lib.Seq.{set_out}
 use Rattle.octets.specs.Control.{least_control}
 use Rattle.message.specs.Shortest.{field}
 use Rattle.octets_store.specs.Store.{stored}
@@ -16,6 +17,11 @@ use Rattle.writer_state.proofs.CallResults.{refused_result, accepted_result, ref
 use Rattle.message.proofs.Fields.{field_length}
 use Rattle.writer_put.specs.internal.Found.{later_refusal, put_known, buffer_known}
 use Rattle.writer_put.specs.internal.Stores.{Before}
+
+-- Where more fields are open than there are levels, there is no mask to change.
+pub masked_beyond : (s : State) (m : ℕ) → length s.masks ≡ 8 → 7 < s.opened → s ≡ masked s m
+unfolding masked
+masked_beyond s m e h = rw (set_out s.masks s.opened m (omega arith)) refl
 
 -- A state with another start.
 abbrev pub moved : State → ℕ → State
