@@ -9,7 +9,7 @@ use lib.ListN.{length, get_or, take, drop, length-drop}
 use lib.Seq.{length-take-le}
 use Rattle.std.proofs.lemmas.List.{get_or-drop, get_or-take}
 use Rattle.std.specs.List.{IsAnyAnswer}
-use borrow.Author.Tests.{eqb-true, eqb-false, ltb-true, ltb-false}
+use borrow.Author.Tests.{eqb-true, eqb-false, ltb-true, ltb-false, lt-ltb}
 use Rattle.tib_field.specs.internal.Zeros.{ZeroIn}
 use Rattle.octets.proofs.Slices.{tail_part}
 
@@ -50,6 +50,18 @@ none_yet s n = λ j f g l e. omega arith
 pub octet_told : (z t : Bool) (s : List ℕ) (i n : ℕ) → 1 ≤ i → ZeroIn z s 1 i n → t ≡ (ltb i n && eqb (get_or s i 0) 0) → ZeroIn (z || t) s 1 (i + 1) n
 octet_told z t s i n h p e = one_more z t s 1 i n h p (told t (get_or s i 0) i n e)
 
+-- The octets from a on, one after the other. All stand below n.
+pub none_from : (s : List ℕ) (a n : ℕ) → ZeroIn false s a (a + 0) n
+unfolding ZeroIn
+none_from s a n = λ j f g l e. omega arith
+
+pub place_told : (z : Bool) (s : List ℕ) (a i n : ℕ) → a + i < n → ZeroIn z s a (a + i) n
+    → ZeroIn (z || eqb (get_or s (a + i) 0) 0) s a (a + (i + 1)) n
+place_told z s a i n h p =
+    let e : a + i + 1 ≡ a + (i + 1) = omega arith in
+    let t = told (eqb (get_or s (a + i) 0) 0) (get_or s (a + i) 0) (a + i) n (rw (lt-ltb (a + i) n h)) in
+    subst (λ (b : ℕ). ZeroIn (z || eqb (get_or s (a + i) 0) 0) s a b n) e (one_more z _ s a (a + i) n (omega arith) p t)
+
 -- The octets from a place on, as the library looks for a zero among them.
 pub no_places : (s : List ℕ) (a n : ℕ) → n ≤ a → ZeroIn false s a n n
 unfolding ZeroIn
@@ -80,20 +92,37 @@ part_told s a n h g false p = λ j f l k e.
 pub same_size : (t : Bool) (s : List ℕ) (e n : ℕ) → e ≡ n → ZeroIn t s 1 e e → ZeroIn t s 1 n n
 same_size t s e n g p = subst (λ (m : ℕ). ZeroIn t s 1 m m) g p
 
-pub near_zero : (t : Bool) (s : List ℕ) (n : ℕ) → t ≡ true → ZeroIn t s 1 17 n → ZeroIn t s 1 n n
+pub near_zero : (t : Bool) (s : List ℕ) (b n : ℕ) → t ≡ true → ZeroIn t s 1 b n → ZeroIn t s 1 n n
 unfolding ZeroIn
-near_zero true s n e p = (p.0, p.1, p.3, p.3, p.4)
-near_zero false s n e p = let z : ◌≡◌ {A = ℕ} 0 1 = cc in absurd (omega arith)
+near_zero true s b n e p = (p.0, p.1, p.3, p.3, p.4)
+near_zero false s b n e p = let z : ◌≡◌ {A = ℕ} 0 1 = cc in absurd (omega arith)
+
+pub near_none : (t : Bool) (s : List ℕ) (e n : ℕ) → t ≡ false → ZeroIn t s 1 17 n → e ≡ n → ZeroIn false s 1 17 e
+near_none t s e n f p g = subst (λ (m : ℕ). ZeroIn false s 1 17 m) (sym g) (subst (λ (u : Bool). ZeroIn u s 1 17 n) f p)
+
+-- No zero stands below b, and the places from c to d are told.
+joined : (t : Bool) (s : List ℕ) (b c d n : ℕ) → 1 ≤ c → c ≤ b → d ≤ n → ZeroIn false s 1 b n → ZeroIn t s c d d → ZeroIn t s 1 d n
+unfolding ZeroIn
+joined true s b c d n f g h p q = let l = q.1 in let m = q.2 in (q.0, omega arith, q.2, omega arith, q.4)
+joined false s b c d n f g h p q = λ j k l m x. go j k l m x (ltb j b) refl
+  where
+    go : (j : ℕ) → 1 ≤ j → j < d → j < n → get_or s j 0 ≡ 0 → (t : Bool) → ltb j b ≡ t → ⊥
+    go j k l m x true e = p j k (ltb-true j b e) m x
+    go j k l m x false e = let r = ltb-false j b e in q j (omega arith) l l x
 
 pub near_and_far : (t u : Bool) (s : List ℕ) (e n : ℕ) → t ≡ false → ZeroIn t s 1 17 n → e ≡ n → ZeroIn u s 17 e e → ZeroIn u s 1 n n
-unfolding ZeroIn
-near_and_far true u s e n f p g q = let z : ◌≡◌ {A = ℕ} 0 1 = cc in absurd (omega arith)
-near_and_far false true s e n f p g q = let h = q.1 in let k = q.2 in (q.0, omega arith, omega arith, omega arith, q.4)
-near_and_far false false s e n f p g q = λ j h k l x. go j h k l x (ltb j 17) refl
-  where
-    go : (j : ℕ) → 1 ≤ j → j < n → j < n → get_or s j 0 ≡ 0 → (t : Bool) → ltb j 17 ≡ t → ⊥
-    go j h k l x true m = p j h (ltb-true j 17 m) l x
-    go j h k l x false m = let r = ltb-false j 17 m in q j (omega arith) (omega arith) (omega arith) x
+near_and_far t u s e n f p g q = same_size u s e n g (joined u s 17 17 e e (omega arith) (omega arith) (omega arith) (near_none t s e n f p g) q)
+
+-- No zero stands below i, and the sixteen octets from c on are told. They begin at i or before it.
+module _ (s : List ℕ) (i n : ℕ) (p : ZeroIn false s 1 i n) (t : Bool) (c : ℕ) (q : ZeroIn t s c (c + 16) (c + 16)) (h : 1 ≤ c) (g : c ≤ i) (k : c + 16 ≤ n) where
+  pub sixteen_told : (d : ℕ) → c + 16 ≡ d → ZeroIn t s 1 d n
+  sixteen_told d f = subst (λ (m : ℕ). ZeroIn t s 1 m n) f (joined t s i c (c + 16) n h g k p q)
+
+  pub sixteen_zero : t ≡ true → ZeroIn true s 1 n n
+  sixteen_zero e = subst (λ (u : Bool). ZeroIn u s 1 n n) e (near_zero t s (c + 16) n e (sixteen_told (c + 16) refl))
+
+  pub sixteen_none : t ≡ false → (d : ℕ) → c + 16 ≡ d → ZeroIn false s 1 d n
+  sixteen_none e d f = subst (λ (u : Bool). ZeroIn u s 1 d n) e (sixteen_told d f)
 
 -- The octets from the first on are all of them.
 pub of_all : (t : Bool) (s : List ℕ) (n : ℕ) → ZeroIn t (take (length s - 0) (drop 0 s)) 1 n n → ZeroIn t s 1 n n

@@ -2,7 +2,7 @@
 // and TibrvMsg return. This crate also has the definitions and laws of consecutive fields, of the k-th of them, and of the verdict on them.
 #![tactic(auto)]
 
-ghost use Rattle.std.specs.Prelude.{◌≡◌, ◌&&◌, ◌≤◌, ◌<◌, eqb, ltb, length};
+ghost use Rattle.std.specs.Prelude.{◌≡◌, ◌&&◌, ◌≤◌, ◌<◌, ◌+◌, false, eqb, ltb, length};
 ghost use Rattle.octets.specs.internal.Bounded.{unsigned};
 ghost use Rattle.reading.specs.Refusals.{fault_number};
 ghost use Rattle.tib_field.specs.internal.Zeros.{ZeroIn, name_fault};
@@ -173,7 +173,35 @@ fn zero_between(s: &[u8], from: usize, n: usize) -> bool
     s[from..n].contains(&0)
 }
 
+// Returns whether a zero stands among the sixteen octets from a place on. It reads all sixteen and branches on none of them.
+fn zero_of_sixteen(s: &[u8], at: usize) -> bool
+    requires { at + 16 ≤ length s.now }
+    ensures { ZeroIn result s.now at (at + 16) (at + 16) }
+{
+    let mut z = false;
+    for i in 0..16 {
+        z = z | (s[at + i] == 0);
+    }
+    z
+}
+
+// Returns whether a zero stands at a place from 1 to n, where none stands below 17. It reads sixteen octets at once; the last sixteen end at n,
+// so that some may be read twice.
+// Kept: with `contains` in place of the blocks names of 18 to 33 octets take 1.15 to 1.4 times as long, since their sizes differ.
+fn zero_beyond(s: &[u8], n: usize) -> bool
+    requires { (17 < n) × (n ≤ length s.now) × (ZeroIn false s.now 1 17 n) }
+    ensures { ZeroIn result s.now 1 n n }
+{
+    for k in 0..(n - 18) / 16 {
+        if zero_of_sixteen(s, 17 + 16 * k) {
+            return true;
+        }
+    }
+    zero_of_sixteen(s, n - 16)
+}
+
 // Returns whether a zero stands at a place from 1 to n.
+#[inline(always)]
 fn zero_inside(s: &[u8], n: u8) -> bool
     requires { n ≤ length s.now }
     ensures { ZeroIn result s.now 1 n n }
@@ -182,12 +210,14 @@ fn zero_inside(s: &[u8], n: u8) -> bool
     if s.len() < 17 {
         return 1 < end && zero_between(s, 1, end);
     }
-    zero_near(s, n) || 17 < end && zero_between(s, 17, end)
+    zero_near(s, n) || 17 < end && zero_beyond(s, end)
 }
 
 // Checks the name at the front of octets; no octets are good too. A name that is cut is refused before its octets are tested. The last octet of
 // a name of n octets stands at the place n, after the octet of its size; where n is 0, that is the size octet itself, and zero. The octets are
 // passed on as a slice of their own: the compiler then keeps their address in registers.
+// Inlined, and `zero_inside` too: with calls, a field of TibrvMsg with a short name takes half as many instructions again.
+#[inline(always)]
 pub fn check_name(s: &[u8]) -> Result<(), Refusal>
     ensures { fault_number result ≡ name_fault s.now }
 {
